@@ -1,0 +1,4 @@
+pub mod Entry
+pub mod Names
+pub mod Outside
+pub mod Pairs

@@ -1,0 +1,70 @@
+-- Which bytes are texts, paths and names, and the first fault of those that aren't.
+use Rattle.std.specs.Prelude.{◌≡◌, ◌==◌, ◌&&◌, ◌||◌, ◌+◌, ℕ, Bool, not, nat_lt, nat_le, if◌then◌else◌, List, length, drop, slice_index, position, Option, Some, None, option_map, Result, Ok, Err}
+use Rattle.std.specs.Str.{is_utf8}
+use Rattle.lake_base.specs.declared.names.TheConstants.{PATH_LIMIT}
+use Rattle.lake_base.specs.declared.names.NameFault.{NameFault}
+use Rattle.lake_base.specs.declared.names.NameFault.TheVariants.{Empty, TooShort, TooLong, NotUtf8, BadByte, NoMemory}
+
+-- What a reader answers: the first fault where there is one, and else a value with P, unless memory ran out.
+abbrev pub Answers : {X : Type 0} → Result X NameFault → Option NameFault → (X → Type 0) → Type 0
+Answers (Ok value) found P = (found ≡ None) × P value
+Answers (Err NoMemory) found P = found ≡ None
+Answers (Err Empty) found P = found ≡ Some Empty
+Answers (Err TooShort) found P = found ≡ Some TooShort
+Answers (Err TooLong) found P = found ≡ Some TooLong
+Answers (Err NotUtf8) found P = found ≡ Some NotUtf8
+Answers (Err (BadByte at)) found P = found ≡ Some (BadByte at)
+
+-- a text is UTF-8 of at most so many bytes
+abbrev pub text_fault : ℕ → List ℕ → Option NameFault
+text_fault most bytes = if nat_lt most (length bytes) then Some TooLong else if is_utf8 bytes then None else Some NotUtf8
+
+-- a path is UTF-8 of 1 to 1,024 bytes
+abbrev pub path_fault : List ℕ → Option NameFault
+path_fault bytes = if length bytes == 0 then Some Empty else text_fault PATH_LIMIT bytes
+
+abbrev pub is_digit : ℕ → Bool
+is_digit byte = nat_le 48 byte && nat_le byte 57
+
+abbrev pub is_lower : ℕ → Bool
+is_lower byte = nat_le 97 byte && nat_le byte 122
+
+abbrev pub is_upper : ℕ → Bool
+is_upper byte = nat_le 65 byte && nat_le byte 90
+
+-- the least place at which the first byte, or one of the others, fails its test
+abbrev pub bad_byte : (ℕ → Bool) → (ℕ → Bool) → List ℕ → Option NameFault
+bad_byte first others bytes =
+    if first (slice_index bytes 0) then option_map (λ at. BadByte (at + 1)) (position (λ byte. not (others byte)) (drop 1 bytes))
+    else Some (BadByte 0)
+
+-- a lower-case letter or a digit
+abbrev pub begins_repo : ℕ → Bool
+begins_repo byte = is_lower byte || is_digit byte
+
+-- or a hyphen
+abbrev pub continues_repo : ℕ → Bool
+continues_repo byte = begins_repo byte || (byte == 45)
+
+-- the name of a repository: 3 to 63 lower-case letters, digits and hyphens, no hyphen at the front
+abbrev pub repo_fault : List ℕ → Option NameFault
+repo_fault bytes =
+    if length bytes == 0 then Some Empty
+    else if nat_lt (length bytes) 3 then Some TooShort
+    else if nat_lt 63 (length bytes) then Some TooLong
+    else bad_byte begins_repo continues_repo bytes
+
+-- a letter, a digit or an underscore
+abbrev pub begins_ref : ℕ → Bool
+begins_ref byte = is_lower byte || is_upper byte || is_digit byte || (byte == 95)
+
+-- or a hyphen
+abbrev pub continues_ref : ℕ → Bool
+continues_ref byte = begins_ref byte || (byte == 45)
+
+-- the name of a branch or a tag: 1 to 255 letters, digits, underscores and hyphens, no hyphen at the front
+abbrev pub ref_fault : List ℕ → Option NameFault
+ref_fault bytes =
+    if length bytes == 0 then Some Empty
+    else if nat_lt 255 (length bytes) then Some TooLong
+    else bad_byte begins_ref continues_ref bytes

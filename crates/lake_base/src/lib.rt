@@ -1,0 +1,28 @@
+//! The words of the lake: names and texts, digests, entries and changes, and the traits of the outside.
+//!
+//! - `text`, `names`: texts, paths and the names of repositories, branches and tags, each read from bytes.
+//! - `digest`: SHA-256.
+//! - `sequence`: a vector that contracts see as a list.
+//! - `pairs`, `entry`: metadata, and what stands at a path.
+//! - `outside`: sources, sinks and clocks, whose failures are counted.
+//! - `memory`, `clocks`: those of tests and of runs in memory.
+//!
+//! The promise to the layer above: what a reader accepts is what it was given, and it refuses
+//! exactly what breaks the stated limits; an object of the outside fails only with a count that rose.
+#![tactic(auto)]
+
+pub mod digest;
+pub mod entry;
+pub mod names;
+pub mod outside;
+pub mod pairs;
+pub mod sequence;
+pub mod text;
+
+pub use digest::Digest;
+pub use entry::{Change, Entry, Place};
+pub use names::{NameFault, Path, RefName, RepoName};
+pub use outside::{Clock, Failed, NoMemory, Sink, Source, Trouble};
+pub use pairs::Pairs;
+pub use sequence::Sequence;
+pub use text::Text;

@@ -1,0 +1,73 @@
+//! Texts: UTF-8 bytes.
+ghost use Rattle.std.specs.Prelude.{◌≡◌, IfOk, MatchOption, true, false, string_bytes};
+ghost use Rattle.std.specs.Str.{is_utf8};
+ghost use Rattle.lake_base.specs.Names.{Answers, text_fault};
+
+use crate::names::NameFault;
+use crate::outside::NoMemory;
+use std::alloc::Global;
+use std::marker::Model;
+
+/// A text in UTF-8. Contracts see its bytes.
+#[derive(Debug, Drop)]
+pub struct Text {
+    text: String,
+}
+
+impl Model for Text {
+    ghost use Rattle.std.specs.Prelude.{List, ℕ, string_bytes};
+
+    ghost Value = { List ℕ };
+
+    ghost view = { λ t. string_bytes t.text };
+}
+
+// The bytes as text, where they are UTF-8.
+pub(crate) fn utf8(bytes: &[u8]) -> Option<&str>
+    ensures { MatchOption result (is_utf8 bytes.now ≡ false) (λ text. (text.now ≡ bytes.now) × (is_utf8 bytes.now ≡ true)) }
+{
+    match str::from_utf8(bytes) {
+        Ok(text) => Some(text),
+        Err(_) => None,
+    }
+}
+
+impl Text {
+    /// The text of these bytes: UTF-8, at most `most` of them. Refused as TooLong, else as NotUtf8.
+    pub fn read(alloc: Global, bytes: &[u8], most: usize) -> Result<Text, NameFault>
+        ensures { Answers result (text_fault most bytes.now) (λ text. text ≡ bytes.now) }
+    {
+        if bytes.len() > most {
+            return Err(NameFault::TooLong);
+        }
+        let Some(text) = utf8(bytes) else {
+            return Err(NameFault::NotUtf8);
+        };
+        match String::from_str(alloc, text) {
+            Ok(text) => Ok(Text { text }),
+            Err(_) => Err(NameFault::NoMemory),
+        }
+    }
+
+    /// A text as it stands.
+    pub(crate) fn of(text: String) -> Text
+        ensures { result ≡ string_bytes text }
+    {
+        Text { text }
+    }
+
+    /// Its bytes. It takes no memory.
+    pub fn as_slice(&self) -> &[u8]
+        ensures { result.now ≡ self.now }
+    {
+        self.text.as_bytes()
+    }
+
+    /// An equal text.
+    pub fn copy(&self, alloc: Global) -> Result<Text, NoMemory>
+        ensures { IfOk result (λ copy. copy ≡ self.now) }
+    {
+        let text = String::from_str(alloc, self.text.as_str())?;
+        Ok(Text { text })
+    }
+}
