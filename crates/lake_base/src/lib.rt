@@ -25,4 +25,4 @@ pub use names::{NameFault, Path, RefName, RepoName};
 pub use outside::{Clock, Failed, NoMemory, Sink, Source, Trouble};
 pub use pairs::Pairs;
 pub use sequence::Sequence;
-pub use text::Text;
+pub use text::{Text, is_utf8};

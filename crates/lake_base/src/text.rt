@@ -32,6 +32,13 @@ pub(crate) fn utf8(bytes: &[u8]) -> Option<&str>
     }
 }
 
+/// Whether the bytes are UTF-8. It takes no memory.
+pub fn is_utf8(bytes: &[u8]) -> bool
+    ensures { result ≡ is_utf8 bytes.now }
+{
+    utf8(bytes).is_some()
+}
+
 impl Text {
     /// The text of these bytes: UTF-8, at most `most` of them. Refused as TooLong, else as NotUtf8.
     pub fn read(alloc: Global, bytes: &[u8], most: usize) -> Result<Text, NameFault>
@@ -61,6 +68,13 @@ impl Text {
         ensures { result.now ≡ self.now }
     {
         self.text.as_bytes()
+    }
+
+    /// Its characters. It takes no memory.
+    pub fn as_str(&self) -> &str
+        ensures { result.now ≡ self.now }
+    {
+        self.text.as_str()
     }
 
     /// An equal text.

@@ -1,0 +1,69 @@
+-- What a line of a batch asks for.
+use Rattle.std.specs.Prelude.{ℕ, ◌==◌, ◌&&◌, not, nat_lt, nat_le, Bool, true, false, if◌then◌else◌, List, [], ◌∷◌, length, drop, filter, Option, Some, None, option_map, codes}
+use Rattle.std.specs.List.{slice_split, list_any, starts_with}
+use Rattle.std.specs.Str.{bytes_eq, is_utf8}
+use Rattle.std.specs.Prelude.{nat_eq}
+use Rattle.lake_base.specs.Names.{path_fault}
+use Rattle.lake_base.specs.declared.names.NameFault.{NameFault}
+use Rattle.lake_program.specs.declared.word.TheConstants.{LINE_LIMIT}
+
+pub data Request : Type 0 where
+  -- the text becomes an object at the path
+  Upload : (path text : List ℕ) → Request
+  -- the object at the path is shown
+  Cat : (path : List ℕ) → Request
+
+-- a line that is passed over: an empty one, and one that begins with `#`
+abbrev pub is_skipped : List ℕ → Bool
+is_skipped [] = true
+is_skipped (byte ∷ bytes) = byte == 35
+
+-- the words of a line: what stands between spaces
+abbrev pub words_of : List ℕ → List (List ℕ)
+words_of line = filter (λ word. nat_lt 0 (length word)) (slice_split (λ byte. byte == 32) line)
+
+-- what stands before the path of an object
+abbrev pub branch_uri : List ℕ
+branch_uri = codes "lakefs://quickstart/main/"
+
+-- what is a path
+abbrev pub valid_path : List ℕ → Option NameFault → Option (List ℕ)
+valid_path path None = Some path
+valid_path path (Some fault) = None
+
+-- the path of an object's URI
+abbrev pub path_of : List ℕ → Option (List ℕ)
+path_of uri = if starts_with nat_eq uri branch_uri then valid_path (drop (length branch_uri) uri) (path_fault (drop (length branch_uri) uri)) else None
+
+-- a word without a quotation mark
+abbrev pub is_plain : List ℕ → Bool
+is_plain word = not (list_any (λ byte. byte == 34) word)
+
+-- what is asked by `fs cat` with a URI and these words behind it
+abbrev pub cat_request : List ℕ → List (List ℕ) → Option Request
+cat_request uri [] = option_map Cat (path_of uri)
+cat_request uri (word ∷ words) = None
+
+-- what is asked by `fs upload` with a URI and these words behind it: `--text TEXT`
+abbrev pub upload_request : List ℕ → List (List ℕ) → Option Request
+upload_request uri [] = None
+upload_request uri (option ∷ []) = None
+upload_request uri (option ∷ text ∷ []) =
+    if bytes_eq option (codes "--text") && is_plain text then option_map (λ path. Upload path text) (path_of uri) else None
+upload_request uri (option ∷ text ∷ word ∷ words) = None
+
+-- what is asked by the words `fs cat URI` or `fs upload URI --text TEXT`
+abbrev pub request_of_words : List (List ℕ) → Option Request
+request_of_words [] = None
+request_of_words (noun ∷ []) = None
+request_of_words (noun ∷ verb ∷ []) = None
+request_of_words (noun ∷ verb ∷ uri ∷ words) =
+    if bytes_eq noun (codes "fs")
+    then (if bytes_eq verb (codes "cat") then cat_request uri words
+    else if bytes_eq verb (codes "upload") then upload_request uri words
+    else None)
+    else None
+
+-- The request of a line, which isn't too long and is UTF-8.
+abbrev pub request_of : List ℕ → Option Request
+request_of line = if nat_le (length line) LINE_LIMIT && is_utf8 line then request_of_words (words_of line) else None

@@ -1,0 +1,4 @@
+pub mod Command
+pub mod Front
+pub mod Seen
+pub mod Words
