@@ -1,10 +1,10 @@
 //! A store in memory.
-ghost use Rattle.std.specs.Prelude.{◌≡◌, ◌≤◌, is_some, option_map, IfOk, IfNone, OnErr, OnSome, if◌then◌else◌};
+ghost use Rattle.std.specs.Prelude.{◌≡◌, ◌≤◌, is_some, option_map, IfOk, IfNone, IsOk, OnErr, OnSome, if◌then◌else◌};
 ghost use Rattle.std.specs.Ordering.{nat_cmp};
 ghost use Rattle.std.specs.BTreeMap.{keys, IsOrdered};
 ghost use Rattle.std.specs.FinMap as map;
 ghost use Rattle.lake_base.specs.Memory.{next_count};
-ghost use Rattle.block_store.specs.Blocks.{FailsByFault, Misses, NoMiss};
+ghost use Rattle.block_store.specs.Blocks.{FailsByFault, Misses, NoMiss, MayHaveRemoved};
 
 use crate::blocks::Blocks;
 use lake_base::{Sequence, Trouble};
@@ -13,7 +13,7 @@ use std::collections::BTreeMap;
 use std::marker::Model;
 
 /// A store in memory. It never fails but for memory, and counts its misses.
-#[derive(Drop)]
+#[derive(Debug, Drop)]
 pub struct SureBlocks {
     objects: BTreeMap<u64, Sequence<u8>>,
     misses: u64,
@@ -93,7 +93,16 @@ impl Blocks for SureBlocks {
         Ok(Some(copy))
     }
 
-    fn remove(&mut self, number: u64) -> Result<bool, Trouble> {
+    fn remove(&mut self, number: u64) -> Result<bool, Trouble>
+        ensures was { IfOk result (λ was. was ≡ map.contains_key self.old.held number) }
+        ensures removed { self.new.held ≡ map.remove self.old.held number }
+        ensures failed { OnErr result (MayHaveRemoved number self.old.held self.new.held) }
+        ensures no_miss { NoMiss self.old.misses self.new.misses self.old.missed self.new.missed }
+        ensures cause { FailsByFault 0 0 result }
+
+        // It takes no memory.
+        ensures sure { IsOk result }
+    {
         let was = self.objects.remove(&number).is_some();
         Ok(was)
     }
@@ -101,5 +110,43 @@ impl Blocks for SureBlocks {
     fn list(&mut self) -> Result<Vec<u64>, Trouble> {
         let numbers = numbers_of(self.alloc, &self.objects)?;
         Ok(numbers)
+    }
+}
+
+#[cfg(test)]
+mod tests {
+    use super::*;
+    use std::test::Fail;
+
+    fn sent<T: Send>(value: T) -> T {
+        value
+    }
+
+    #[test]
+    fn a_store_gives_what_was_put(rt: HostRuntime) -> Result<(), Fail> {
+        let mut blocks = sent(SureBlocks::new(rt.alloc()));
+        assert_eq!(rt; blocks.put(7, &[1, 2]), Ok(()));
+        assert_eq!(rt; blocks.put(3, &[4]), Ok(()));
+        assert_eq!(rt; blocks.put(7, &[5]), Ok(()));
+        let body = blocks
+            .get(7)
+            .ok()
+            .ok_or("no memory")?
+            .ok_or("it isn't held")?;
+        assert_eq!(rt; body.as_slice(), [5].as_slice());
+        let numbers = blocks.list().ok().ok_or("no memory")?;
+        assert_eq!(rt; numbers.as_slice(), [3, 7].as_slice());
+        Ok(())
+    }
+
+    #[test]
+    fn a_removed_object_is_missed(rt: HostRuntime) -> Result<(), Fail> {
+        let mut blocks = SureBlocks::new(rt.alloc());
+        assert_eq!(rt; blocks.put(7, &[1, 2]), Ok(()));
+        assert_eq!(rt; blocks.remove(7), Ok(true));
+        assert_eq!(rt; blocks.remove(7), Ok(false));
+        let body = blocks.get(7).ok().ok_or("no memory")?;
+        assert!(rt; body.is_none());
+        Ok(())
     }
 }

@@ -1,3 +1,4 @@
+pub mod Body
 pub mod Clocks
 pub mod Entry
 pub mod Memory

@@ -1,4 +1,4 @@
-use Rattle.std.proofs.Common.{◌∙◌, ap, sym, Some}
+use Rattle.std.proofs.Common.{◌∙◌, ap, sym}
 use Rattle.std.specs.Prelude.{is_some}
 use Rattle.block_store.proofs.Shelf.{get-from, remove-from}
 use Rattle.block_store.proofs.sure.SureBlocksBlocks.remove.Goals as goal
@@ -11,4 +11,4 @@ returns-clause-was c =
 pub returns-clause-removed : goal.returns-clause-removed
 returns-clause-removed c =
     rw (← c.self.view_is)
-    (ap (λ m. Some m) (remove-from c.self.inside.objects.entries c.remove.new.self.entries c.args.number c.remove.ensures.updates.0))
+    (remove-from c.self.inside.objects.entries c.remove.new.self.entries c.args.number c.remove.ensures.updates.0)
