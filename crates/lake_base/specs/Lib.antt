@@ -1,4 +1,7 @@
+pub mod Body
+pub mod Clocks
 pub mod Entry
+pub mod Memory
 pub mod Names
 pub mod Outside
 pub mod Pairs

@@ -1,5 +1,6 @@
 //! What stands at a path: an entry, and a change of one.
-ghost use Rattle.std.specs.Prelude.{◌≡◌, IfOk};
+ghost use Rattle.std.specs.Prelude.{◌≡◌, ◌↔◌, IfOk, IsTrue};
+ghost use Rattle.lake_base.specs.Body.{Fits};
 
 use crate::digest::Digest;
 use crate::outside::NoMemory;
@@ -69,6 +70,17 @@ impl Place {
 }
 
 impl Entry {
+    /// Whether the bytes are an own object's body: of its size and its digest. It takes no memory.
+    pub fn fits(&self, body: &[u8]) -> bool
+        ensures { IsTrue result ↔ Fits self.now body.now }
+    {
+        match &self.place {
+            Place::Own { digest, .. } => body.len() as u64 == self.size
+                && Digest::of(body) == *digest,
+            Place::External { .. } => false,
+        }
+    }
+
     /// An equal entry.
     pub fn copy(&self, alloc: Global) -> Result<Entry, NoMemory>
         ensures { IfOk result (λ copy. copy ≡ self.now) }

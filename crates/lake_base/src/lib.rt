@@ -11,16 +11,20 @@
 //! exactly what breaks the stated limits; an object of the outside fails only with a count that rose.
 #![tactic(auto)]
 
+pub mod clocks;
 pub mod digest;
 pub mod entry;
+pub mod memory;
 pub mod names;
 pub mod outside;
 pub mod pairs;
 pub mod sequence;
 pub mod text;
 
+pub use clocks::{FixedClock, ScriptClock};
 pub use digest::Digest;
 pub use entry::{Change, Entry, Place};
+pub use memory::{MemorySink, MemorySource};
 pub use names::{NameFault, Path, RefName, RepoName};
 pub use outside::{Clock, Failed, NoMemory, Sink, Source, Trouble};
 pub use pairs::Pairs;

@@ -1,0 +1,14 @@
+//! Where objects' bytes are kept, each under a number.
+//!
+//! - `blocks`: the trait `Blocks`, a store whose failures and misses are counted.
+//! - `sure`: `SureBlocks`, in memory, which never fails but for memory.
+//!
+//! The promise to the layer above: what was put is got, unchanged, until it is removed or put anew;
+//! no call touches another number; and each answer that isn't the one hoped for has a count that rose.
+#![tactic(auto)]
+
+pub mod blocks;
+pub mod sure;
+
+pub use blocks::Blocks;
+pub use sure::SureBlocks;

@@ -1,0 +1,34 @@
+-- Clocks that give fixed moments.
+use Rattle.std.specs.Prelude.{◌-◌, ◌++◌, ℕ, List, Option, Some, None, length, take, slice_index, replicate, min, nat_lt, if◌then◌else◌}
+use Rattle.lake_base.specs.Outside.{last_count}
+
+-- a clock that always gives one moment, and how many readings it gave
+pub record Still : Type 0 where
+  pub at : ℕ
+  pub given : ℕ
+
+-- a clock that gives moments in turn, and how many readings it gave
+pub record Script : Type 0 where
+  pub moments : List ℕ
+  pub given : ℕ
+
+-- the reading after so many: the moments in turn, then the last again, 0 where there is none
+abbrev pub moment_after : List ℕ → ℕ → ℕ
+moment_after moments given = slice_index moments (min given (length moments - 1))
+
+-- the first readings of such a clock
+abbrev pub first_moments : List ℕ → ℕ → List ℕ
+first_moments moments given =
+    take given moments ++ replicate (given - length moments) (slice_index moments (length moments - 1))
+
+-- readings are told as long as their count isn't at its end
+abbrev pub told_before_end : ℕ → List ℕ → Option (List ℕ)
+told_before_end given readings = if nat_lt given last_count then Some readings else None
+
+-- the readings that a still clock tells
+abbrev pub told_still : Still → Option (List ℕ)
+told_still clock = told_before_end clock.given (replicate clock.given clock.at)
+
+-- the readings that a clock of moments tells
+abbrev pub told_script : Script → Option (List ℕ)
+told_script clock = told_before_end clock.given (first_moments clock.moments clock.given)
