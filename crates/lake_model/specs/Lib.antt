@@ -1,0 +1,4 @@
+pub mod State
+pub mod After
+pub mod Legal
+pub mod Reply
