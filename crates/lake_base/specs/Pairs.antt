@@ -1,5 +1,5 @@
 -- The metadata of an object or a commit.
-use Rattle.std.specs.Prelude.{◌≡◌, ◌≤◌, ◌<◌, ℕ, List, length, map, All}
+use Rattle.std.specs.Prelude.{◌≤◌, ◌<◌, ℕ, List, length, map, All}
 use Rattle.std.specs.List.Sorted.{IsStrictlySortedBy}
 use Rattle.std.specs.Ordering.{nat_cmp}
 use Rattle.std.specs.Cmp.Lexicographic.{slice_cmp}

@@ -11,14 +11,17 @@
 //! exactly what breaks the stated limits; an object of the outside fails only with a count that rose.
 #![tactic(auto)]
 
+pub mod changes;
 pub mod digest;
 pub mod entry;
 pub mod names;
 pub mod outside;
 pub mod pairs;
+mod places;
 pub mod sequence;
 pub mod text;
 
+pub use changes::Changes;
 pub use digest::Digest;
 pub use entry::{Change, Entry, Place};
 pub use names::{NameFault, Path, RefName, RepoName};
