@@ -12,16 +12,19 @@
 #![tactic(auto)]
 
 pub mod clocks;
+pub mod changes;
 pub mod digest;
 pub mod entry;
 pub mod memory;
 pub mod names;
 pub mod outside;
 pub mod pairs;
+mod places;
 pub mod sequence;
 pub mod text;
 
 pub use clocks::{FixedClock, ScriptClock};
+pub use changes::Changes;
 pub use digest::Digest;
 pub use entry::{Change, Entry, Place};
 pub use memory::{MemorySink, MemorySource};

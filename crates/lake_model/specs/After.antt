@@ -3,7 +3,6 @@ use Rattle.std.specs.Prelude.{ℕ, ◌+◌, List, [], ◌∷◌, Option, Some, N
 use Rattle.std.specs.Option.{option_map_or}
 use Rattle.std.specs.FinMap.{FinMap, get, insert, remove}
 use Rattle.std.specs.Ordering.{nat_cmp}
-use Rattle.lake_base.specs.Entry.{Object}
 use Rattle.lake_base.specs.declared.entry.Place.{Place}
 use Rattle.lake_base.specs.declared.entry.Place.TheVariants.{Own, External}
 use Rattle.lake_base.specs.declared.entry.Change.{Change}
@@ -11,7 +10,7 @@ use Rattle.lake_base.specs.declared.entry.Change.TheVariants.{Put, Delete}
 use Rattle.lake_model.specs.declared.history.HistoryEntry.{HistoryEntry}
 use Rattle.lake_model.specs.declared.history.EntryKind.{EntryKind}
 use Rattle.lake_model.specs.declared.history.EntryKind.TheVariants.{TicketTake, TicketDrop, Stage}
-use Rattle.lake_model.specs.State.{Named, Branch, Repository, State}
+use Rattle.lake_model.specs.State.{Named, Repository, State}
 
 -- the number of an object of the lake's own
 abbrev pub own_number : Place → Option ℕ

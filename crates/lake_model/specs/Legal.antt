@@ -1,5 +1,5 @@
 -- Where an entry may stand, and what holds of every state that a legal history leads to.
-use Rattle.std.specs.Prelude.{◌≡◌, ◌<◌, ℕ, List, [], ◌∷◌, ◌++◌, Option, Some, None, IsSome, IfSome}
+use Rattle.std.specs.Prelude.{◌≡◌, ◌<◌, ℕ, List, [], ◌∷◌, ◌++◌, Some, IsSome, IfSome}
 use Rattle.std.specs.FinMap.{get}
 use Rattle.lake_base.specs.declared.entry.Change.{Change}
 use Rattle.lake_model.specs.declared.history.HistoryEntry.{HistoryEntry}

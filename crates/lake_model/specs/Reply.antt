@@ -1,5 +1,5 @@
 -- What the one-thread lake answers at a state.
-use Rattle.std.specs.Prelude.{◌≡◌, ◌+◌, ℕ, Bool, true, false, nat_lt, ◌==◌, if◌then◌else◌, List, Option, Some, None, option_and_then, is_some, Result, Ok, Err}
+use Rattle.std.specs.Prelude.{◌≡◌, ◌+◌, ℕ, false, nat_lt, ◌==◌, if◌then◌else◌, List, Option, Some, None, option_and_then, is_some, Result, Ok, Err}
 use Rattle.std.specs.FinMap.{get, contains_key}
 use Rattle.lake_base.specs.Entry.{Object}
 use Rattle.lake_base.specs.declared.entry.Change.{Change}
@@ -9,7 +9,7 @@ use Rattle.lake_model.specs.declared.reply.Seen.{Seen}
 use Rattle.lake_model.specs.declared.reply.Versions.{Versions}
 use Rattle.lake_model.specs.declared.reply.StepFault.{StepFault}
 use Rattle.lake_model.specs.declared.reply.StepFault.TheVariants.{HistoryFull, NoRepo, NoRef, Changed, NoMemory}
-use Rattle.lake_model.specs.State.{Branch, State, branch_of}
+use Rattle.lake_model.specs.State.{State, branch_of}
 
 -- a step answers what the one-thread lake does, unless memory ran out
 abbrev pub Gives : {X : Type 0} → Result X StepFault → Result X StepFault → Type 0

@@ -1,9 +1,10 @@
 -- What a lake is at a moment.
-use Rattle.std.specs.Prelude.{ℕ, List, Option, option_and_then, codes}
+use Rattle.std.specs.Prelude.{ℕ, List, Option, option_and_then}
 use Rattle.std.specs.FinMap.{FinMap, empty, get, insert}
 use Rattle.std.specs.Ordering.{nat_cmp}
 use Rattle.std.specs.Cmp.Lexicographic.{slice_cmp}
 use Rattle.lake_base.specs.declared.entry.Change.{Change}
+use Rattle.lake_model.specs.declared.first.TheConstants.{FIRST_REPO, FIRST_BRANCH}
 
 -- a finite map under names or paths, in byte order
 abbrev pub Named : Type 0 → Type 0
@@ -31,7 +32,7 @@ branch_of state repo branch = option_and_then (λ r. get r.branches branch) (get
 
 -- one repository with one branch, on which these changes are staged
 abbrev pub only : Named Change → Named Repository
-only staged = insert empty (codes "quickstart") (record { branches = insert empty (codes "main") (record { staged = staged }) })
+only staged = insert empty FIRST_REPO.now (record { branches = insert empty FIRST_BRANCH.now (record { staged = staged }) })
 
 -- a fresh lake: the repository `quickstart` with the branch `main`, and nothing on it
 abbrev pub fresh : State

@@ -1,5 +1,6 @@
 //! What the one-thread lake is: its state, its history, and what it replies.
 //!
+//! - `first`: the names that a fresh lake has.
 //! - `history`: the entries of a history, one for each accepted change.
 //! - `reply`: what a step answers.
 //! - `laws`: what holds of every history and every state, as functions that do nothing.
@@ -9,8 +10,11 @@
 //! keeps a state sound, and no number is given out twice.
 #![tactic(auto)]
 
+pub mod first;
 pub mod history;
+pub mod laws;
 pub mod reply;
 
+pub use first::{FIRST_BRANCH, FIRST_REPO};
 pub use history::{By, EntryKind, HistoryEntry};
 pub use reply::{Seen, StepFault, Versions};

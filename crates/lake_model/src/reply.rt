@@ -1,6 +1,10 @@
 //! What a step of the lake answers.
 
-use lake_base::Entry;
+ghost use Rattle.std.specs.Prelude.{◌≡◌};
+ghost use Rattle.lake_model.specs.declared.reply.StepFault.TheVariants.{NoMemory as step_no_memory};
+
+use lake_base::{Entry, NoMemory};
+use std::alloc::{AllocError, AllocFailed};
 
 /// Why a step of the lake was refused. Where several causes stand together, the one that stands
 /// first here is answered.
@@ -16,6 +20,30 @@ pub enum StepFault {
     Changed { version: u64, settings: u64 },
     /// No memory was left. It may come in place of any other answer.
     NoMemory,
+}
+
+impl From<NoMemory> for StepFault {
+    ghost from_gives = { λ _ e. e ≡ step_no_memory };
+
+    fn from(_: NoMemory) -> Self {
+        StepFault::NoMemory
+    }
+}
+
+impl From<AllocError> for StepFault {
+    ghost from_gives = { λ _ e. e ≡ step_no_memory };
+
+    fn from(_: AllocError) -> Self {
+        StepFault::NoMemory
+    }
+}
+
+impl<T: Drop> From<AllocFailed<T>> for StepFault {
+    ghost from_gives = { λ _ e. e ≡ step_no_memory };
+
+    fn from(_: AllocFailed<T>) -> Self {
+        StepFault::NoMemory
+    }
 }
 
 /// What was found at a path.

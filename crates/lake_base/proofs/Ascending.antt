@@ -1,0 +1,165 @@
+-- What a search finds in a list whose keys ascend, and what an edit at that place does.
+use Rattle.std.proofs.Common.{◌≡◌, ℕ, zero, suc, ◌-◌, ◌<◌, ◌≤◌, ◌&&◌, Bool, true, false, cond, T, List, [], ◌∷◌, length, get_or, set, Some, None, Ok, Err, Result, MatchResult, sym, ap, subst, refl, ◌∙◌, arith}
+use Rattle.std.specs.Bool.{OnTrue, ◌==◌}
+use Rattle.std.specs.List.{insert, slice_get}
+use Rattle.std.specs.List.Sorted.{IsSearchInRange, IsBinarySearchResult, IsNonDecreasingBy}
+use Rattle.std.specs.Ordering.{ordering_index, ordering_reverse, is_lt, is_eq}
+use Rattle.std.specs.declared.cmp.Ordering.{Ordering}
+use Rattle.std.specs.declared.cmp.Ordering.TheVariants.{Less, Equal, Greater}
+use Rattle.std.proofs.lemmas.Cmp.{nat_list_cmp_total}
+use Rattle.std.specs.FinMap.{find, put, entries-from_sorted, from_sorted, entries-insert, same_entries_map, slice_cmp-IsAntisymmetric, nat_cmp-IsAntisymmetric, insert as map_insert, empty, len, len-entries, len-empty}
+use Rattle.std.specs.FinMap.Entries.{below_all, by_order, is_sorted-put}
+use Rattle.std.proofs.lemmas.Option.{get_or_from_slice_get, slice_get_within}
+use Rattle.lake_base.specs.Maps.{byte_order, Ascend, IsAt, IsGap}
+
+first : (a b : Bool) → T (a && b) → T a
+first true b h = tt
+first false b h = h
+
+second : (a b : Bool) → T (a && b) → T b
+second true b h = h
+second false b h = absurd h
+
+less : (o : Ordering) → T (is_lt o) → o ≡ Less
+less Less h = refl
+less Equal h = absurd h
+less Greater h = absurd h
+
+-- keys that tie are one
+pub same_key : (a b : List ℕ) → byte_order a b ≡ Equal → a ≡ b
+same_key = slice_cmp-IsAntisymmetric nat_cmp-IsAntisymmetric
+
+pub turned : (a b : List ℕ) (r : Ordering) → byte_order a b ≡ r → byte_order b a ≡ ordering_reverse r
+turned a b r e = nat_list_cmp_total.antisymm b a ∙ ap ordering_reverse e
+
+-- of two keys the greater compares with a third no lower
+step : (a b k : List ℕ) → byte_order a b ≡ Less → (r s : Ordering) → byte_order a k ≡ r → byte_order b k ≡ s → ordering_index r ≤ ordering_index s
+step a b k lt Less s p q = omega arith
+step a b k lt Equal s p q =
+    let last : byte_order b k ≡ Greater = subst (λ c. byte_order b c ≡ Greater) (same_key a k p) (turned a b Less lt) in
+    let e : ordering_index s ≡ 2 = ap ordering_index (sym q ∙ last) in
+    omega (arith, e)
+step a b k lt Greater s p q =
+    let e : ordering_index s ≡ 2 = ap ordering_index (sym q ∙ turned k b Less (nat_list_cmp_total.trans k a b (turned a k Greater p) lt)) in
+    omega (arith, e)
+
+zero_is_less : (o : Ordering) → ordering_index o ≤ 0 → o ≡ Less
+zero_is_less Less h = refl
+zero_is_less Equal h = absurd (omega (arith, h))
+zero_is_less Greater h = absurd (omega (arith, h))
+
+module _ {X : Type 0} where
+  pub head_below : (e : List ℕ × X) (es : List (List ℕ × X)) → Ascend (e ∷ es) → T (below_all byte_order e.0 es)
+  head_below e es h = first _ _ h
+
+  pub tail_ascends : (e : List ℕ × X) (es : List (List ℕ × X)) → Ascend (e ∷ es) → Ascend es
+  tail_ascends e es h = second _ _ h
+
+  -- a key below all keys is below the one at a place
+  below_at : (k : List ℕ) (es : List (List ℕ × X)) (i : ℕ) (d : List ℕ × X) → T (below_all byte_order k es) → i < length es → byte_order k (get_or es i d).0 ≡ Less
+  below_at k [] i d h lt = absurd (omega arith)
+  below_at k (e ∷ es) zero d h lt = less _ (first _ _ h)
+  below_at k (e ∷ es) (suc i) d h lt = below_at k es i d (second _ _ h) (omega arith)
+
+  rising : (es : List (List ℕ × X)) (k : List ℕ) → Ascend es → IsNonDecreasingBy (λ item. ordering_index (byte_order item.0 k)) es
+  rising [] k h i j d le lt = absurd (omega arith)
+  rising (e ∷ es) k h zero zero d le lt = omega arith
+  rising (e ∷ es) k h zero (suc j) d le lt = step e.0 _ k (below_at e.0 es j d (head_below e es h) (omega arith)) _ _ refl refl
+  rising (e ∷ es) k h (suc i) zero d le lt = absurd (omega arith)
+  rising (e ∷ es) k h (suc i) (suc j) d le lt = rising es k (tail_ascends e es h) i j d (omega arith) (omega arith)
+
+  -- a search ends at the key, or at the gap for it
+  pub searched : (es : List (List ℕ × X)) (k : List ℕ) → Ascend es → (r : Result ℕ ℕ) → IsSearchInRange r (length es) → IsBinarySearchResult (λ item. byte_order item.0 k) es r → MatchResult r (IsAt es k) (IsGap es k)
+  searched es k h (Ok at) within found = record { within = within; same = found }
+  searched es k h (Err at) within parted = record { within = within; before = (parted (rising es k h)).0; from = (parted (rising es k h)).1 }
+
+  -- a key above the last has its gap at the end
+  pub last_gap : (es : List (List ℕ × X)) (k : List ℕ) (x : List ℕ × X) → Ascend es → slice_get es (length es - 1) ≡ Some x → byte_order x.0 k ≡ Less → IsGap es k (length es)
+  last_gap es k x h last lt = record {
+    within = omega arith;
+    before = λ j d low high.
+        let i = length es - 1 in
+        let within : i < length es = slice_get_within es i x last in
+        let same : get_or es i d ≡ x = get_or_from_slice_get es i x d last in
+        let end : ordering_index (byte_order (get_or es i d).0 k) ≡ 0 = ap (λ y. ordering_index (byte_order y.0 k)) same ∙ ap ordering_index lt in
+        zero_is_less _ (omega (arith, rising es k h j i d (omega arith) within, end));
+    from = λ j d low high. absurd (omega arith);
+  }
+
+  pub tested_gap : (es : List (List ℕ × X)) (k : List ℕ) (x : List ℕ × X) → Ascend es → slice_get es (length es - 1) ≡ Some x → (o : Ordering) → o ≡ byte_order x.0 k → (b : Bool) → b ≡ (ordering_index o == 0) → OnTrue b (IsGap es k (length es))
+  tested_gap es k x h last Less e true is = last_gap es k x h last (sym e)
+  tested_gap es k x h last Equal e true is = cc
+  tested_gap es k x h last Greater e true is = cc
+  tested_gap es k x h last o e false is = tt
+
+  pub no_gap : (es : List (List ℕ × X)) (k : List ℕ) → length es ≡ 0 → IsGap es k (length es)
+  no_gap es k e = record { within = omega arith; before = λ j d low high. absurd (omega arith); from = λ j d low high. absurd (omega arith) }
+
+  -- a put at a place where the key stands
+  pub put_at : (es : List (List ℕ × X)) (k : List ℕ) (v : X) (at : ℕ) → Ascend es → IsAt es k at → put byte_order k v es ≡ set es at (k, v)
+  put_at [] k v at h is = absurd (omega (arith, is.within))
+  put_at (e ∷ es) k v zero h is =
+      let back : byte_order k e.0 ≡ Equal = turned e.0 k Equal (is.same e) in
+      ap (λ r. by_order r ((k, v) ∷ e ∷ es) ((e.0, v) ∷ es) (e ∷ put byte_order k v es)) back ∙ ap (λ q. (q, v) ∷ es) (same_key e.0 k (is.same e))
+  put_at (e ∷ es) k v (suc at) h is =
+      let same = same_key _ k (is.same e) in
+      let lt : byte_order e.0 k ≡ Less = subst (λ q. byte_order e.0 q ≡ Less) same (below_at e.0 es at e (head_below e es h) (omega (arith, is.within))) in
+      ap (λ r. by_order r ((k, v) ∷ e ∷ es) ((e.0, v) ∷ es) (e ∷ put byte_order k v es)) (turned e.0 k Less lt)
+      ∙ ap (λ q. e ∷ q) (put_at es k v at (tail_ascends e es h) (record { within = omega (arith, is.within); same = λ d. is.same d }))
+
+  gap_tail : (e : List ℕ × X) (es : List (List ℕ × X)) (k : List ℕ) (at : ℕ) → IsGap (e ∷ es) k (suc at) → IsGap es k at
+  gap_tail e es k at gap = record {
+    within = omega (arith, gap.within);
+    before = λ i d low high. gap.before (suc i) d (omega arith) (omega arith);
+    from = λ i d low high. gap.from (suc i) d (omega arith) (omega arith);
+  }
+
+  -- a put in a gap
+  pub put_gap : (es : List (List ℕ × X)) (k : List ℕ) (v : X) (at : ℕ) → IsGap es k at → put byte_order k v es ≡ insert es at (k, v)
+  put_gap [] k v zero gap = refl
+  put_gap [] k v (suc at) gap = absurd (omega (arith, gap.within))
+  put_gap (e ∷ es) k v zero gap =
+      ap (λ r. by_order r ((k, v) ∷ e ∷ es) ((e.0, v) ∷ es) (e ∷ put byte_order k v es)) (turned e.0 k Greater (gap.from 0 e (omega arith) (omega arith)))
+  put_gap (e ∷ es) k v (suc at) gap =
+      ap (λ r. by_order r ((k, v) ∷ e ∷ es) ((e.0, v) ∷ es) (e ∷ put byte_order k v es)) (turned e.0 k Less (gap.before 0 e (omega arith) (omega arith)))
+      ∙ ap (λ q. e ∷ q) (put_gap es k v at (gap_tail e es k at gap))
+
+  -- what is found at a place
+  pub find_at : (es : List (List ℕ × X)) (k : List ℕ) (at : ℕ) (d : List ℕ × X) → Ascend es → IsAt es k at → find byte_order k es ≡ Some (get_or es at d).1
+  find_at [] k at d h is = absurd (omega (arith, is.within))
+  find_at (e ∷ es) k zero d h is = ap (λ r. cond (is_eq r) (Some e.1) (find byte_order k es)) (turned e.0 k Equal (is.same e))
+  find_at (e ∷ es) k (suc at) d h is =
+      let same = same_key _ k (is.same e) in
+      let lt : byte_order e.0 k ≡ Less = subst (λ q. byte_order e.0 q ≡ Less) same (below_at e.0 es at e (head_below e es h) (omega (arith, is.within))) in
+      ap (λ r. cond (is_eq r) (Some e.1) (find byte_order k es)) (turned e.0 k Less lt)
+      ∙ find_at es k at d (tail_ascends e es h) (record { within = omega (arith, is.within); same = λ d. is.same d })
+
+  -- nothing is found where there is a gap
+  pub find_gap : (es : List (List ℕ × X)) (k : List ℕ) (at : ℕ) → IsGap es k at → find byte_order k es ≡ None
+  find_gap [] k at gap = refl
+  find_gap (e ∷ es) k zero gap =
+      ap (λ r. cond (is_eq r) (Some e.1) (find byte_order k es)) (turned e.0 k Greater (gap.from 0 e (omega arith) (omega arith)))
+      ∙ find_gap es k zero (record { within = omega arith; before = λ i d low high. absurd (omega arith); from = λ i d low high. gap.from (suc i) d (omega arith) (omega arith) })
+  find_gap (e ∷ es) k (suc at) gap =
+      ap (λ r. cond (is_eq r) (Some e.1) (find byte_order k es)) (turned e.0 k Less (gap.before 0 e (omega arith) (omega arith)))
+      ∙ find_gap es k at (gap_tail e es k at gap)
+
+  pub ascends_put : (es : List (List ℕ × X)) (k : List ℕ) (v : X) → Ascend es → Ascend (put byte_order k v es)
+  ascends_put es k v h = is_sorted-put byte_order nat_list_cmp_total k v es h
+
+  -- a put in the list is an insert in the map
+  pub map_put : (es : List (List ℕ × X)) (k : List ℕ) (v : X) → Ascend es → from_sorted {R = byte_order} (put byte_order k v es) ≡ map_insert (from_sorted es) k v
+  map_put es k v h =
+      same_entries_map _ _ (
+      entries-from_sorted byte_order _ (ascends_put es k v h)
+      ∙ sym (entries-insert nat_list_cmp_total (from_sorted es) k v ∙ ap (put byte_order k v) (entries-from_sorted byte_order es h)))
+
+  pub map_len : (es : List (List ℕ × X)) → Ascend es → length es ≡ len (from_sorted {R = byte_order} es)
+  map_len es h = sym (len-entries (from_sorted es) ∙ ap length (entries-from_sorted byte_order es h))
+
+  nothing : (es : List (List ℕ × X)) → length es ≡ 0 → es ≡ []
+  nothing [] e = refl
+  nothing (x ∷ es) e = absurd (omega arith)
+
+  pub map_none : from_sorted {K = List ℕ} {X = X} {R = byte_order} [] ≡ empty
+  map_none = same_entries_map _ _ (entries-from_sorted byte_order [] tt ∙ sym (nothing _ (sym (len-entries empty) ∙ len-empty byte_order X)))
