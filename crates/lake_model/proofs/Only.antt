@@ -8,7 +8,7 @@ use Rattle.std.specs.Ordering.{nat_cmp, eq_by_cmp}
 use Rattle.std.specs.Cmp.Lexicographic.{slice_cmp, nat_list_cmp_total}
 use Rattle.lake_base.specs.declared.entry.Change.{Change}
 use Rattle.lake_model.specs.declared.first.TheConstants.{FIRST_REPO, FIRST_BRANCH}
-use Rattle.lake_model.specs.State.{Named, Branch, Repository, State, only}
+use Rattle.lake_model.specs.State.{Named, Branch, Repository, State, branch_of, only}
 use Rattle.lake_model.specs.After.{changed_at, staged_in}
 use Rattle.lake_model.specs.Reply.{branch_refusal}
 use Rattle.lake_model.specs.declared.reply.StepFault.TheVariants.{NoRepo, NoRef}
@@ -98,3 +98,31 @@ refusal-only state staged repo branch is =
     ∙ ap (λ o. refused (is_some o) (is_some (branch_in (only staged) repo branch))) (get-one FIRST_REPO.now main repo)
     ∙ ap (λ o. refused (is_some (cond (ties repo FIRST_REPO.now) (Some main) None)) (is_some o)) (branch-only staged repo branch)
     ∙ refused-by_names (ties repo FIRST_REPO.now) (ties branch FIRST_BRANCH.now) main (record { staged = staged })
+
+there_by_names : (a b : Bool) (x : Branch) → refused a b ≡ None → cond a (cond b (Some x) None) None ≡ Some x
+there_by_names true true x is = refl
+there_by_names true false x is = absurd cc
+there_by_names false b x is = absurd cc
+
+repo_by_names : (a b : Bool) → refused a b ≡ None → a ≡ true
+repo_by_names true b is = refl
+repo_by_names false b is = absurd cc
+
+branch_by_names : (a b : Bool) → refused a b ≡ None → b ≡ true
+branch_by_names true true is = refl
+branch_by_names true false is = absurd cc
+branch_by_names false b is = absurd cc
+
+-- where what names a branch isn't refused, the names are those of the one branch
+pub named-only : (state : State) (staged : Named Change) (repo branch : List ℕ) → state.repositories ≡ only staged → branch_refusal state repo branch ≡ None
+    → (ties repo FIRST_REPO.now ≡ true) × (ties branch FIRST_BRANCH.now ≡ true)
+named-only state staged repo branch is none =
+    let refusal : refused (ties repo FIRST_REPO.now) (ties branch FIRST_BRANCH.now) ≡ None = sym (refusal-only state staged repo branch is) ∙ none in
+    (repo_by_names _ _ refusal, branch_by_names _ _ refusal)
+
+-- and it is that branch
+pub there-only : (state : State) (staged : Named Change) (repo branch : List ℕ) → state.repositories ≡ only staged → branch_refusal state repo branch ≡ None
+    → branch_of state repo branch ≡ Some (record { staged = staged })
+there-only state staged repo branch is none =
+    let refusal : refused (ties repo FIRST_REPO.now) (ties branch FIRST_BRANCH.now) ≡ None = sym (refusal-only state staged repo branch is) ∙ none in
+    ap (λ repositories. branch_in repositories repo branch) is ∙ branch-only staged repo branch ∙ there_by_names _ _ (record { staged = staged }) refusal
