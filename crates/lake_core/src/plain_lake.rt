@@ -152,6 +152,7 @@ impl PlainLake {
         ensures reply { Gives result (ticket_reply (replay fresh self.old) repo.now branch.now) }
         ensures ok { IfOk result (λ taken. self.new ≡ self.old ++ record { by = by; kind = TicketTake repo.now branch.now taken.1 } ∷ []) }
         ensures new { IfOk result (λ taken. Contains (given self.old) taken.1 → ⊥) }
+        ensures ticket { IfOk result (λ taken. HasTicket (replay fresh self.new) by.seat taken.1) }
         ensures legal { IsLegal fresh self.new }
         ensures err { OnErr result (self.new ≡ self.old) }
     {
