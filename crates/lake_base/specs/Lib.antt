@@ -1,5 +1,6 @@
 pub mod Body
 pub mod Clocks
+pub mod Digest
 pub mod Entry
 pub mod Memory
 pub mod Maps

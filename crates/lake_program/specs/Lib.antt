@@ -1,4 +1,11 @@
+pub mod Batch
+pub mod BatchSeen
 pub mod Command
+pub mod Feeding
 pub mod Front
+pub mod Reply
 pub mod Seen
+pub mod Session
+pub mod Tally
+pub mod Text
 pub mod Words

@@ -1,7 +1,12 @@
 //! The program as a library.
 #![tactic(auto)]
 
+pub mod batch;
 pub mod command;
+pub mod host;
+pub mod line_buffer;
+pub mod session;
+pub mod text;
 pub mod word;
 pub mod words;
 pub mod write;

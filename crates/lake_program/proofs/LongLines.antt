@@ -1,0 +1,67 @@
+-- A line that is too long is told by its front.
+use Rattle.std.proofs.Common.{◌≡◌, ◌<◌, ◌≤◌, ◌==◌, ◌&&◌, ◌+◌, ◌-◌, ◌⊎◌, inl, inr, ℕ, zero, suc, Bool, true, false, nat_le, cond, List, [], ◌∷◌, ◌++◌, length, get_or, take, Option, None, refl, sym, ◌∙◌, ap, subst, arith, length-take}
+use Rattle.std.proofs.lemmas.Bool.{cases_lt}
+use Rattle.std.proofs.lemmas.Bool.Decides.{nat_tests}
+use Rattle.std.proofs.lemmas.List.{take_all, get_or-take}
+use Rattle.std.specs.Str.{is_utf8}
+use Rattle.std.specs.Str.Lines.{strip_carriage_return}
+use Rattle.lake_program.specs.declared.word.TheConstants.{LINE_LIMIT}
+use Rattle.lake_program.specs.Command.{Request, is_skipped, request_of, request_of_words, words_of}
+use Rattle.lake_program.specs.Batch.{Lake, Shown, does, asked, turn}
+use Rattle.lake_program.specs.Feeding.{line_room}
+
+-- what is told by the length and the first byte
+pub record Long (x : List ℕ) (first : ℕ) : Type 0 where
+  long : LINE_LIMIT < length x
+  begins : get_or x 0 0 ≡ first
+
+no_request : (x : List ℕ) → LINE_LIMIT < length x → request_of x ≡ None
+no_request x long =
+    let over : nat_le (length x) LINE_LIMIT ≡ false = grind (arith, nat_tests) in
+    ap (λ b. cond (b && is_utf8 x) (request_of_words (words_of x)) None) over
+
+-- what a line that is too long comes to
+abbrev told : ℕ → List ℕ → Lake → Shown × List ℕ
+told first moments lake = cond (first == 35) (does lake [], moments) (asked None moments lake)
+
+turn_long : (x : List ℕ) (first : ℕ) (moments : List ℕ) (lake : Lake) → Long x first → turn x moments lake ≡ told first moments lake
+turn_long [] first moments lake is = absurd (omega (arith, is.long))
+turn_long (byte ∷ bytes) first moments lake is =
+    ap (λ r. cond (byte == 35) (does lake [], moments) (asked r moments lake)) (no_request (byte ∷ bytes) is.long) ∙ ap (λ b. told b moments lake) is.begins
+
+choose : (P : List ℕ → Type 0) (b : Bool) (x y : List ℕ) → P x → P y → P (cond b x y)
+choose P true x y p q = p
+choose P false x y p q = q
+
+pub stripped : (x : List ℕ) (first : ℕ) → LINE_LIMIT + 1 < length x → get_or x 0 0 ≡ first → Long (strip_carriage_return x) first
+stripped x first long begins =
+    choose (λ y. Long y first) (get_or x (length x - 1) 0 == 13) (take (length x - 1) x) x
+    (record { long = omega (arith, length-take (length x - 1) x); begins = get_or-take (length x - 1) x 0 0 (omega arith) ∙ begins })
+    (record { long = omega arith; begins = begins })
+
+short_or_long : (line : List ℕ) → (length line ≤ line_room) ⊎ (line_room < length line)
+short_or_long line = elim (cases_lt line_room (length line)) [ inl long ↦ inr long | inr short ↦ inl short ]
+
+kept_long : (line : List ℕ) → line_room < length line → Long (take line_room line) (get_or line 0 0)
+kept_long line long = record { long = omega (arith, length-take line_room line); begins = get_or-take line_room line 0 0 (omega arith) }
+
+-- a line and what is kept of it come to the same, without the carriage return at their ends
+pub turn_ended : (line moments : List ℕ) (lake : Lake) → turn (strip_carriage_return (take line_room line)) moments lake ≡ turn (strip_carriage_return line) moments lake
+turn_ended line moments lake =
+    elim (short_or_long line) [
+      | inl short ↦ ap (λ l. turn (strip_carriage_return l) moments lake) (take_all line_room line short)
+      | inr long ↦
+          let first = get_or line 0 0 in
+          turn_long _ first moments lake (stripped (take line_room line) first (omega (arith, length-take line_room line)) (kept_long line long).begins)
+          ∙ sym (turn_long _ first moments lake (stripped line first (omega arith) refl))
+    ]
+
+-- and so do they as the last line
+pub turn_last : (line moments : List ℕ) (lake : Lake) → turn (take line_room line) moments lake ≡ turn line moments lake
+turn_last line moments lake =
+    elim (short_or_long line) [
+      | inl short ↦ ap (λ l. turn l moments lake) (take_all line_room line short)
+      | inr long ↦
+          let first = get_or line 0 0 in
+          turn_long _ first moments lake (kept_long line long) ∙ sym (turn_long line first moments lake (record { long = omega arith; begins = refl }))
+    ]

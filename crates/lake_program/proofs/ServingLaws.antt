@@ -1,0 +1,62 @@
+-- What a line shows, and what is written of it.
+use Rattle.std.proofs.Common.{◌≡◌, inl, inr, ◌&&◌, ℕ, Bool, true, false, MatchBool, List, [], ◌++◌, Option, Some, None, IfSome, Result, Ok, Err, OnOk, OnErr, refl, sym, ◌∙◌, subst}
+use Rattle.lake_base.specs.declared.outside.Failed.{Failed}
+use Rattle.lake_program.specs.declared.words.Timing.{Timing}
+use Rattle.lake_program.specs.Batch.{Lake, Shown, turn}
+use Rattle.lake_program.specs.Front.{IsFront}
+use Rattle.lake_program.specs.Text.{out_of_memory}
+use Rattle.lake_program.specs.Feeding.{Progress, Moments, Turns, Answers, Serves}
+
+-- what a failed write leaves
+abbrev pub WroteFront : List ℕ → Option (List ℕ) → Option (List ℕ) → Type 0
+WroteFront text before after = IfSome before (λ written. (out : List ℕ) × IsFront out text × (after ≡ Some (written ++ out)))
+
+-- some front was written, also where the sink doesn't tell
+front_written : (text : List ℕ) (before after : Option (List ℕ)) → WroteFront text before after → (out : List ℕ) × IsFront out text × IfSome before (λ written. after ≡ Some (written ++ out))
+front_written text None after wrote = ([], (text, refl), tt)
+front_written text (Some written) after wrote = wrote
+
+module _ (timing : Timing) (r0 r1 w0 w1 : Option (List ℕ)) (old new : Progress) (line moments text : List ℕ) (took : Moments timing r0 r1 moments) where
+  -- a line was answered
+  pub serves_reply : (done : Bool) (result : Result (Unit {0}) Failed) → Turns line moments text done old.lake new.lake → new.done ≡ (old.done && done) → new.starved ≡ old.starved
+      → OnOk result (IfSome w0 (λ written. w1 ≡ Some (written ++ text))) → OnErr result (WroteFront text w0 w1) → Serves timing r0 r1 w0 w1 old new line result
+  serves_reply done (Ok u) turns all starved wrote front = record {
+    moments = moments;
+    out = text;
+    took = took;
+    wrote = wrote;
+    went = λ fed. subst (λ b. MatchBool b (text ≡ out_of_memory) ((d : Bool) × (new.done ≡ (old.done && d)) × Turns line moments text d old.lake new.lake)) (sym (starved ∙ fed)) (done, all, turns);
+    stays = λ was. starved ∙ was;
+  }
+  serves_reply done (Err failed) turns all starved wrote front =
+      let part = front_written text w0 w1 front in
+      record {
+        moments = moments;
+        out = part.0;
+        took = took;
+        wrote = part.2;
+        went = λ fed. inl (λ later. subst (λ (t : Shown × List ℕ). IsFront part.0 t.0.text) (sym (turns later)) part.1);
+        stays = λ was. tt;
+      }
+
+  -- memory was wanting at a line
+  pub serves_want : (result : Result (Unit {0}) Failed) → text ≡ out_of_memory → new.starved ≡ true
+      → OnOk result (IfSome w0 (λ written. w1 ≡ Some (written ++ text))) → OnErr result (WroteFront text w0 w1) → Serves timing r0 r1 w0 w1 old new line result
+  serves_want (Ok u) is starved wrote front = record {
+    moments = moments;
+    out = text;
+    took = took;
+    wrote = wrote;
+    went = λ fed. subst (λ b. MatchBool b (text ≡ out_of_memory) ((d : Bool) × (new.done ≡ (old.done && d)) × Turns line moments text d old.lake new.lake)) (sym starved) is;
+    stays = λ was. starved;
+  }
+  serves_want (Err failed) is starved wrote front =
+      let part = front_written text w0 w1 front in
+      record {
+        moments = moments;
+        out = part.0;
+        took = took;
+        wrote = part.2;
+        went = λ fed. inr (subst (λ t. IsFront part.0 t) is part.1);
+        stays = λ was. tt;
+      }

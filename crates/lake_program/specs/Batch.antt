@@ -1,0 +1,165 @@
+-- What a batch of lines comes to on the one-thread lake.
+use Rattle.std.specs.Prelude.{ℕ, ◌+◌, ◌-◌, ◌==◌, ◌&&◌, Bool, true, false, nat_le, if◌then◌else◌, List, [], ◌∷◌, ◌++◌, length, map, take, drop, slice_index, Option, Some, None, option_and_then, Result, Ok, Err, codes}
+use Rattle.std.specs.List.{slice_split}
+use Rattle.std.specs.Str.Lines.{lines, strip_carriage_return}
+use Rattle.std.specs.FinMap.{empty, get, insert}
+use Rattle.lake_base.specs.Digest.{sha256}
+use Rattle.lake_base.specs.Entry.{Object}
+use Rattle.lake_base.specs.declared.digest.Digest.{Digest}
+use Rattle.lake_base.specs.declared.entry.Place.TheVariants.{Own}
+use Rattle.lake_base.specs.declared.entry.Change.TheVariants.{Put}
+use Rattle.block_store.specs.Blocks.{Objects}
+use Rattle.lake_model.specs.declared.first.TheConstants.{FIRST_REPO, FIRST_BRANCH}
+use Rattle.lake_model.specs.declared.history.By.{By}
+use Rattle.lake_program.specs.declared.session.TheConstants.{CONTENT_TYPE}
+use Rattle.lake_model.specs.declared.history.HistoryEntry.{HistoryEntry}
+use Rattle.lake_model.specs.declared.history.EntryKind.{EntryKind}
+use Rattle.lake_model.specs.declared.history.EntryKind.TheVariants.{TicketTake, TicketDrop, Stage}
+use Rattle.lake_model.specs.declared.reply.Seen.{Seen}
+use Rattle.lake_model.specs.declared.reply.Versions.{Versions}
+use Rattle.lake_model.specs.declared.reply.StepFault.{StepFault}
+use Rattle.lake_model.specs.State.{State, fresh}
+use Rattle.lake_model.specs.After.{own_number, replay}
+use Rattle.lake_model.specs.Reply.{look_reply, versions_reply, ticket_reply, drop_reply, stage_reply}
+use Rattle.lake_program.specs.Command.{Request, Upload, Cat, is_skipped, request_of}
+use Rattle.lake_program.specs.Text.{not_built, too_long, uploaded, no_path, lost, refused}
+
+-- a lake with the objects that it holds, as one client sees it
+pub record Lake : Type 0 where
+  -- the accepted changes, from the fresh lake on
+  pub history : List HistoryEntry
+  pub objects : Objects
+  -- how many requests were made
+  pub calls : ℕ
+
+-- the lake's state
+abbrev pub now : Lake → State
+now lake = replay fresh lake.history
+
+-- a fresh lake, which holds no object
+abbrev pub fresh_lake : Lake
+fresh_lake = record { history = []; objects = empty; calls = 0 }
+
+-- what was shown of some lines, whether each was done, and the lake after them
+pub record Shown : Type 0 where
+  pub text : List ℕ
+  pub done : Bool
+  pub lake : Lake
+
+-- a request that was refused
+abbrev pub refuses : Lake → List ℕ → Shown
+refuses lake text = record { text = text; done = false; lake = lake }
+
+-- a request that was done
+abbrev pub does : Lake → List ℕ → Shown
+does lake text = record { text = text; done = true; lake = lake }
+
+-- one more request
+abbrev pub begun : Lake → Lake
+begun lake = record { history = lake.history; objects = lake.objects; calls = lake.calls + 1 }
+
+-- one more entry, made in the present request by the one seat
+abbrev pub adds : EntryKind → Lake → Lake
+adds kind lake = record {
+  history = lake.history ++ record { by = record { seat = 0; call = lake.calls }; kind = kind } ∷ [];
+  objects = lake.objects;
+  calls = lake.calls;
+}
+
+-- the text is held under the number
+abbrev pub holding : ℕ → List ℕ → Lake → Lake
+holding number text lake = record { history = lake.history; objects = insert lake.objects number text; calls = lake.calls }
+
+-- the entry of a text that is uploaded at a moment under a number
+abbrev pub entry_of : ℕ → List ℕ → ℕ → Object
+entry_of number text moment = record {
+  place = Own number (record { 0 = sha256 text });
+  size = length text;
+  mtime = moment;
+  content_type = CONTENT_TYPE.now;
+  metadata = [];
+}
+
+-- the ticket of a number is given up, where the history has room for that
+abbrev pub gives_up : ℕ → Result ℕ StepFault → Lake → Lake
+gives_up number (Ok at) lake = adds (TicketDrop number) lake
+gives_up number (Err fault) lake = lake
+
+-- an upload whose entry was staged, or refused
+abbrev pub stages : ℕ → List ℕ → List ℕ → ℕ → Result ℕ StepFault → Lake → Shown
+stages number path text moment (Ok at) lake =
+    does (adds (Stage FIRST_REPO.now FIRST_BRANCH.now path (Put (entry_of number text moment))) lake) (uploaded path text)
+stages number path text moment (Err fault) lake = refuses (gives_up number (drop_reply (now lake)) lake) (refused fault)
+
+-- an upload that read the branch's version, by which its entry is staged
+abbrev pub guards : ℕ → List ℕ → List ℕ → ℕ → Result Versions StepFault → Lake → Shown
+guards number path text moment (Ok versions) lake =
+    stages number path text moment (stage_reply (now lake) FIRST_REPO.now FIRST_BRANCH.now versions.version) lake
+guards number path text moment (Err fault) lake = refuses (gives_up number (drop_reply (now lake)) lake) (refused fault)
+
+-- an upload whose text is held
+abbrev pub guarded : ℕ → List ℕ → List ℕ → ℕ → Lake → Shown
+guarded number path text moment lake = guards number path text moment (versions_reply (now lake) FIRST_REPO.now FIRST_BRANCH.now) lake
+
+-- an upload that was given a number, which then holds the text
+abbrev pub takes : List ℕ → List ℕ → ℕ → Result (ℕ × ℕ) StepFault → Lake → Shown
+takes path text moment (Ok taken) lake =
+    guarded taken.1 path text moment (holding taken.1 text (adds (TicketTake FIRST_REPO.now FIRST_BRANCH.now taken.1) lake))
+takes path text moment (Err fault) lake = refuses lake (refused fault)
+
+-- the bytes that are held of an entry
+abbrev pub held_of : Objects → Object → Option (List ℕ)
+held_of objects entry = option_and_then (get objects) (own_number entry.place)
+
+-- what is shown of the bytes that are held
+abbrev pub body : List ℕ → Option (List ℕ) → Lake → Shown
+body path (Some bytes) lake = does lake bytes
+body path None lake = refuses lake (lost path)
+
+-- what is shown of the entry that was found
+abbrev pub found : List ℕ → Option Object → Lake → Shown
+found path (Some entry) lake = body path (held_of lake.objects entry) lake
+found path None lake = refuses lake (no_path path)
+
+-- what is shown of what was seen at a path
+abbrev pub looks : List ℕ → Result Seen StepFault → Lake → Shown
+looks path (Ok seen) lake = found path seen.found lake
+looks path (Err fault) lake = refuses lake (refused fault)
+
+-- what a request comes to at a moment
+abbrev pub serve : Request → ℕ → Lake → Shown
+serve (Upload path text) moment lake = takes path text moment (ticket_reply (now lake) FIRST_REPO.now FIRST_BRANCH.now) lake
+serve (Cat path) moment lake = looks path (look_reply (now lake) FIRST_REPO.now FIRST_BRANCH.now path) lake
+
+-- what a line comes to, and the moments that are left for the next requests
+abbrev pub asked : Option Request → List ℕ → Lake → Shown × List ℕ
+asked (Some request) moments lake = (serve request (slice_index moments 0) (begun lake), drop 1 moments)
+asked None moments lake = (refuses lake not_built, moments)
+
+abbrev pub turn : List ℕ → List ℕ → Lake → Shown × List ℕ
+turn line moments lake = if is_skipped line then (does lake [], moments) else asked (request_of line) moments lake
+
+-- what was shown, and then what came after it
+abbrev pub before : List ℕ → Bool → Shown → Shown
+before text done next = record { text = text ++ next.text; done = done && next.done; lake = next.lake }
+
+-- What the lines come to, one after the other; each request takes the next moment.
+abbrev pub batch : List (List ℕ) → List ℕ → Lake → Shown
+batch [] moments lake = does lake []
+batch (line ∷ lines) moments lake =
+    let shown = turn line moments lake in
+    before shown.0.text shown.0.done (batch lines shown.1 shown.0.lake)
+
+-- the lines that ended: what stands before a line feed, without one carriage return at its end
+abbrev pub ended_lines : List ℕ → List (List ℕ)
+ended_lines bytes = let parts = slice_split (λ byte. byte == 10) bytes in map strip_carriage_return (take (length parts - 1) parts)
+
+-- it is shown that the batch is too long
+abbrev pub cut_off : Shown → Shown
+cut_off shown = record { text = shown.text ++ too_long; done = false; lake = shown.lake }
+
+-- What a whole batch comes to. Where its source gives more than the limit, the lines that ended within that are served.
+abbrev pub batch_of : ℕ → List ℕ → List ℕ → Shown
+batch_of limit input moments =
+    if nat_le (length input) limit then batch (lines input) moments fresh_lake
+    else cut_off (batch (ended_lines (take limit input)) moments fresh_lake)

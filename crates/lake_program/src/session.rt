@@ -1,0 +1,251 @@
+//! The requests of one client on a lake in memory.
+ghost use Rattle.std.specs.Prelude.{◌≡◌, ◌≢◌, ◌+◌, ◌<◌, ◌^◌, false, option_map, IfOk, OnOk};
+ghost use Rattle.lake_model.specs.declared.first.TheConstants.{FIRST_REPO, FIRST_BRANCH};
+ghost use Rattle.lake_model.specs.Legal.{HasTicket};
+ghost use Rattle.lake_model.specs.Reply.{look_reply, ticket_reply, drop_reply, stage_reply};
+ghost use Rattle.lake_base.specs.declared.entry.Change.TheVariants.{Put};
+ghost use Rattle.lake_program.specs.Text.{refused, uploaded};
+ghost use Rattle.lake_program.specs.Batch.{entry_of};
+
+use crate::command::Command;
+use crate::text::{lost, no_path, refused, uploaded};
+use block_store::{Blocks, SureBlocks};
+use lake_base::{Change, Digest, Entry, NoMemory, Pairs, Path, Place, RefName, RepoName, Text};
+use lake_core::PlainLake;
+use lake_model::{By, FIRST_BRANCH, FIRST_REPO, StepFault};
+use std::alloc::Global;
+
+// How an uploaded text is kept.
+const CONTENT_TYPE: &[u8] = b"application/octet-stream";
+
+/// What is printed of a request, and whether it was done.
+#[derive(Debug, Drop)]
+pub struct Reply {
+    pub text: Vec<u8>,
+    pub done: bool,
+}
+
+/// One client's requests, one after the other, on a lake and objects in memory.
+#[derive(Drop)]
+pub struct Session {
+    alloc: Global,
+    pub lake: PlainLake,
+    pub blocks: SureBlocks,
+    pub calls: u64,
+    repo: RepoName,
+    branch: RefName,
+    pub ghost first_repo: { repo ≡ FIRST_REPO.now },
+    pub ghost first_branch: { branch ≡ FIRST_BRANCH.now },
+}
+
+impl Session {
+    ghost use Rattle.lake_program.specs.Session.{lake_of};
+    ghost use Rattle.lake_program.specs.Seen.{request_seen};
+    ghost use Rattle.lake_program.specs.Reply.{shown};
+    ghost use Rattle.lake_program.specs.Batch.{fresh_lake, now, serve, begun, gives_up, holding, takes, guarded, stages, looks, found, held_of};
+
+    /// A session on a fresh lake, which holds no object.
+    pub fn new(alloc: Global) -> Result<Session, NoMemory>
+        ensures { IfOk result (λ session. lake_of session ≡ fresh_lake) }
+    {
+        let Ok(repo) = RepoName::read(alloc, FIRST_REPO) else {
+            return Err(NoMemory);
+        };
+        let Ok(branch) = RefName::read(alloc, FIRST_BRANCH) else {
+            return Err(NoMemory);
+        };
+        Ok(Session {
+            alloc,
+            lake: PlainLake::fresh(alloc)?,
+            blocks: SureBlocks::new(alloc),
+            calls: 0,
+            repo,
+            branch,
+        })
+    }
+
+    /// Serves a request that is made at this moment. After want of memory some entries of the request
+    /// may stand, and its number may have been given out.
+    pub fn serve(&mut self, command: Command<'_>, moment: u64) -> Result<Reply, NoMemory>
+        requires { self.old.calls + 1 < 2 ^ 64 }
+        ensures reply { IfOk result (λ reply. serve (request_seen command.entry) moment (begun (lake_of self.old))
+            ≡ shown reply (lake_of self.new)) }
+        ensures calls { self.new.calls ≡ self.old.calls + 1 }
+    {
+        self.calls += 1;
+        match command {
+            Command::Upload { path, text } => self.upload(path, text, moment),
+            Command::Cat { path } => self.cat(path),
+        }
+    }
+
+    // The present request's entries are made by the one seat.
+    fn by(&self) -> By
+        ensures { result ≡ record { seat = 0; call = self.now.calls } }
+    {
+        By {
+            seat: 0,
+            call: self.calls,
+        }
+    }
+
+    // Takes a number for the text, and stages its entry.
+    fn upload(&mut self, path: Path, text: &[u8], moment: u64) -> Result<Reply, NoMemory>
+        ensures reply { IfOk result (λ reply. takes path text.now moment (ticket_reply (now (lake_of self.old)) FIRST_REPO.now FIRST_BRANCH.now) (lake_of self.old)
+            ≡ shown reply (lake_of self.new)) }
+        ensures calls { self.new.calls ≡ self.old.calls }
+    {
+        let by = self.by();
+        match self.lake.take_ticket(by, &self.repo, &self.branch) {
+            Ok((_, number)) => self.hold(number, path, text, moment),
+            Err(fault) => refusal(self.alloc, fault),
+        }
+    }
+
+    // The text is held under the number that was taken, and its entry is staged.
+    fn hold(&mut self, number: u64, path: Path, text: &[u8], moment: u64) -> Result<Reply, NoMemory>
+        requires { HasTicket (now (lake_of self.old)) 0 number }
+        ensures reply { IfOk result (λ reply. guarded number path text.now moment (holding number text.now (lake_of self.old)) ≡ shown reply (lake_of self.new)) }
+        ensures calls { self.new.calls ≡ self.old.calls }
+    {
+        if self.blocks.put(number, text).is_err() {
+            let _ = self.give_up(number);
+            return Err(NoMemory);
+        }
+        match self.lake.versions(&self.repo, &self.branch) {
+            Ok(versions) => self.stage(number, versions.version, path, text, moment),
+            Err(fault) => {
+                self.give_up(number)?;
+                refusal(self.alloc, fault)
+            }
+        }
+    }
+
+    // The entry of the text under the number is staged, guarded by the branch's version.
+    fn stage(
+        &mut self,
+        number: u64,
+        version: u64,
+        path: Path,
+        text: &[u8],
+        moment: u64,
+    ) -> Result<Reply, NoMemory>
+        requires { HasTicket (now (lake_of self.old)) 0 number }
+        ensures reply { IfOk result (λ reply. stages number path text.now moment (stage_reply (now (lake_of self.old)) FIRST_REPO.now FIRST_BRANCH.now version) (lake_of self.old)
+            ≡ shown reply (lake_of self.new)) }
+        ensures calls { self.new.calls ≡ self.old.calls }
+    {
+        let made = made(self.alloc, number, &path, text, moment);
+        let Ok((change, text)) = made else {
+            let _ = self.give_up(number);
+            return Err(NoMemory);
+        };
+        let by = self.by();
+        match self
+            .lake
+            .stage(by, &self.repo, &self.branch, version, path, change)
+        {
+            Ok(_) => Ok(Reply { text, done: true }),
+            Err(fault) => {
+                self.give_up(number)?;
+                refusal(self.alloc, fault)
+            }
+        }
+    }
+
+    // The upload of the number is given up, where the history has room for that.
+    fn give_up(&mut self, number: u64) -> Result<(), NoMemory>
+        requires { HasTicket (now (lake_of self.old)) 0 number }
+        ensures ok { OnOk result (lake_of self.new ≡ gives_up number (drop_reply (now (lake_of self.old))) (lake_of self.old)) }
+        ensures calls { self.new.calls ≡ self.old.calls }
+    {
+        let by = self.by();
+        match self.lake.drop_ticket(by, number) {
+            Err(StepFault::NoMemory) => Err(NoMemory),
+            _ => Ok(()),
+        }
+    }
+
+    // Shows the object at the path.
+    fn cat(&mut self, path: Path) -> Result<Reply, NoMemory>
+        ensures reply { IfOk result (λ reply. looks path (look_reply (now (lake_of self.old)) FIRST_REPO.now FIRST_BRANCH.now path) (lake_of self.old)
+            ≡ shown reply (lake_of self.new)) }
+        ensures calls { self.new.calls ≡ self.old.calls }
+    {
+        match self.lake.look(&self.repo, &self.branch, &path) {
+            Ok(seen) => self.show(path, seen.found),
+            Err(fault) => refusal(self.alloc, fault),
+        }
+    }
+
+    // Shows the object of the entry that was found at the path.
+    fn show(&mut self, path: Path, entry: Option<Entry>) -> Result<Reply, NoMemory>
+        ensures reply { IfOk result (λ reply. found path entry (lake_of self.old) ≡ shown reply (lake_of self.new)) }
+        ensures calls { self.new.calls ≡ self.old.calls }
+    {
+        let Some(entry) = entry else {
+            let text = no_path(self.alloc, &path)?;
+            return Ok(Reply { text, done: false });
+        };
+        match self.held(&entry)? {
+            Some(text) => Ok(Reply { text, done: true }),
+            None => {
+                let text = lost(self.alloc, &path)?;
+                Ok(Reply { text, done: false })
+            }
+        }
+    }
+
+    // The bytes that are held of an entry.
+    fn held(&mut self, entry: &Entry) -> Result<Option<Vec<u8>>, NoMemory>
+        ensures held { IfOk result (λ held. option_map (λ bytes. bytes.items) held ≡ held_of (lake_of self.old).objects entry.now) }
+        ensures same { OnOk result (lake_of self.new ≡ lake_of self.old) }
+        ensures calls { self.new.calls ≡ self.old.calls }
+    {
+        match entry.place {
+            Place::Own { number, .. } => match self.blocks.get(number) {
+                Ok(bytes) => Ok(bytes),
+                Err(_) => Err(NoMemory),
+            },
+            Place::External { .. } => Ok(None),
+        }
+    }
+}
+
+// What is printed of a refused step.
+fn refusal(alloc: Global, fault: StepFault) -> Result<Reply, NoMemory>
+    ensures { IfOk result (λ reply. (reply.text.items ≡ refused fault) × (reply.done ≡ false) × (fault ≢ StepFault.NoMemory)) }
+{
+    if fault == StepFault::NoMemory {
+        return Err(NoMemory);
+    }
+    let text = Vec::from_slice(alloc, refused(fault))?;
+    Ok(Reply { text, done: false })
+}
+
+// The change that stages a text, and what is printed of it.
+fn made(
+    alloc: Global,
+    number: u64,
+    path: &Path,
+    text: &[u8],
+    moment: u64,
+) -> Result<(Change, Vec<u8>), NoMemory>
+    ensures { IfOk result (λ made. (made.0 ≡ Put (entry_of number text.now moment)) × (made.1.items ≡ uploaded path.now text.now)) }
+{
+    let Ok(content_type) = Text::read(alloc, CONTENT_TYPE, 255) else {
+        return Err(NoMemory);
+    };
+    let entry = Entry {
+        place: Place::Own {
+            number,
+            digest: Digest::of(text),
+        },
+        size: text.len() as u64,
+        mtime: moment,
+        content_type,
+        metadata: Pairs::new(alloc),
+    };
+    let printed = uploaded(alloc, path, text)?;
+    Ok((Change::Put(entry), printed))
+}
