@@ -29,7 +29,11 @@ impl Model for SureBlocks {
 
     ghost coded = { shelf_code };
 
-    ghost view = { λ blocks. record { held = map.from_entries blocks.objects.entries; misses = blocks.misses; missed = blocks.missed } };
+    ghost view = { λ blocks. record {
+      held = map.from_entries blocks.objects.entries;
+      misses = blocks.misses;
+      missed = blocks.missed;
+    } };
 }
 
 impl SureBlocks {
@@ -73,16 +77,21 @@ impl Blocks for SureBlocks {
     }
 
     fn get(&mut self, number: u64) -> Result<Option<Vec<u8>>, Trouble>
-        ensures got { IfOk result (λ got. option_map (λ bytes. bytes.items) got ≡ map.get self.old.held number) }
+        ensures got { IfOk result
+            (λ got. option_map (λ bytes. bytes.items) got ≡ map.get self.old.held number) }
         ensures held { self.new.held ≡ self.old.held }
-        ensures miss { IfOk result (λ got. IfNone got (Misses number self.old.misses self.new.misses self.new.missed)) }
-        ensures no_miss { IfOk result (λ got. OnSome got (NoMiss self.old.misses self.new.misses self.old.missed self.new.missed)) }
-        ensures no_miss_failed { OnErr result (NoMiss self.old.misses self.new.misses self.old.missed self.new.missed) }
+        ensures miss { IfOk result (λ got. IfNone got
+            (Misses number self.old.misses self.new.misses self.new.missed)) }
+        ensures no_miss { IfOk result (λ got. OnSome got
+            (NoMiss self.old.misses self.new.misses self.old.missed self.new.missed)) }
+        ensures no_miss_failed { OnErr result
+            (NoMiss self.old.misses self.new.misses self.old.missed self.new.missed) }
         ensures later { self.old.misses ≤ self.new.misses }
         ensures cause { FailsByFault 0 0 result }
 
         // A miss counts one.
-        ensures counted { IfOk result (λ got. self.new.misses ≡ (if is_some got then self.old.misses else next_count self.old.misses)) }
+        ensures counted { IfOk result (λ got. self.new.misses
+            ≡ (if is_some got then self.old.misses else next_count self.old.misses)) }
     {
         let Some(object) = self.objects.get(&number) else {
             self.misses = self.misses.saturating_add(1);

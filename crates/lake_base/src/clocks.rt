@@ -34,7 +34,8 @@ impl Clock for FixedClock {
     ghost readings = { told_still };
 
     fn now(&mut self) -> u64
-        ensures reading { IfSome (told_still self.new) (λ now. IfSome (told_still self.old) (λ before. now ≡ before ++ result ∷ [])) }
+        ensures reading { IfSome (told_still self.new) (λ now. IfSome (told_still self.old)
+            (λ before. now ≡ before ++ result ∷ [])) }
         ensures told { IfSome (told_still self.new) (λ _. IsSome (told_still self.old)) }
 
         // It gives its moment, also where the readings are no longer told.
@@ -89,7 +90,8 @@ impl Clock for ScriptClock {
     ghost readings = { told_script };
 
     fn now(&mut self) -> u64
-        ensures reading { IfSome (told_script self.new) (λ now. IfSome (told_script self.old) (λ before. now ≡ before ++ result ∷ [])) }
+        ensures reading { IfSome (told_script self.new) (λ now. IfSome (told_script self.old)
+            (λ before. now ≡ before ++ result ∷ [])) }
         ensures told { IfSome (told_script self.new) (λ _. IsSome (told_script self.old)) }
 
         // It goes on in turn, also where the readings are no longer told.
