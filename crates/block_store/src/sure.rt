@@ -127,21 +127,19 @@ mod tests {
     use super::*;
     use std::test::Fail;
 
-    fn sent<T: Send>(value: T) -> T {
-        value
+    // Puts, puts over it, and gets; the store may have come from another thread.
+    fn second_body<B: Blocks + Send>(blocks: &mut B) -> Result<Option<Vec<u8>>, Trouble> {
+        blocks.put(7, &[1, 2])?;
+        blocks.put(3, &[4])?;
+        blocks.put(7, &[5])?;
+        blocks.get(7)
     }
 
     #[test]
     fn a_store_gives_what_was_put(rt: HostRuntime) -> Result<(), Fail> {
-        let mut blocks = sent(SureBlocks::new(rt.alloc()));
-        assert_eq!(rt; blocks.put(7, &[1, 2]), Ok(()));
-        assert_eq!(rt; blocks.put(3, &[4]), Ok(()));
-        assert_eq!(rt; blocks.put(7, &[5]), Ok(()));
-        let body = blocks
-            .get(7)
-            .ok()
-            .ok_or("no memory")?
-            .ok_or("it isn't held")?;
+        let mut blocks = SureBlocks::new(rt.alloc());
+        let body = second_body(&mut blocks).ok().ok_or("no memory")?;
+        let body = body.ok_or("it isn't held")?;
         assert_eq!(rt; body.as_slice(), [5].as_slice());
         let numbers = blocks.list().ok().ok_or("no memory")?;
         assert_eq!(rt; numbers.as_slice(), [3, 7].as_slice());

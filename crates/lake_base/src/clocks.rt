@@ -109,14 +109,15 @@ mod tests {
     use super::*;
     use std::test::Fail;
 
+    fn four_readings<C: Clock + Send>(mut clock: C) -> [u64; 4] {
+        [clock.now(), clock.now(), clock.now(), clock.now()]
+    }
+
     #[test]
     fn clocks_give_their_moments(rt: HostRuntime) -> Result<(), Fail> {
         let moments = [3, 1, 4].to_vec(rt.alloc())?;
-        let mut script = ScriptClock::new(moments);
-        let given = [script.now(), script.now(), script.now(), script.now()];
-        assert_eq!(rt; given, [3, 1, 4, 4]);
-        let mut fixed = FixedClock::new(5);
-        assert_eq!(rt; [fixed.now(), fixed.now()], [5, 5]);
+        assert_eq!(rt; four_readings(ScriptClock::new(moments)), [3, 1, 4, 4]);
+        assert_eq!(rt; four_readings(FixedClock::new(5)), [5, 5, 5, 5]);
         Ok(())
     }
 }
