@@ -29,7 +29,11 @@ impl Model for SureBlocks {
 
     ghost coded = { shelf_code };
 
-    ghost view = { λ blocks. record { held = map.from_entries blocks.objects.entries; misses = blocks.misses; missed = blocks.missed } };
+    ghost view = { λ blocks. record {
+      held = map.from_entries blocks.objects.entries;
+      misses = blocks.misses;
+      missed = blocks.missed;
+    } };
 }
 
 impl SureBlocks {
@@ -73,16 +77,21 @@ impl Blocks for SureBlocks {
     }
 
     fn get(&mut self, number: u64) -> Result<Option<Vec<u8>>, Trouble>
-        ensures got { IfOk result (λ got. option_map (λ bytes. bytes.items) got ≡ map.get self.old.held number) }
+        ensures got { IfOk result
+            (λ got. option_map (λ bytes. bytes.items) got ≡ map.get self.old.held number) }
         ensures held { self.new.held ≡ self.old.held }
-        ensures miss { IfOk result (λ got. IfNone got (Misses number self.old.misses self.new.misses self.new.missed)) }
-        ensures no_miss { IfOk result (λ got. OnSome got (NoMiss self.old.misses self.new.misses self.old.missed self.new.missed)) }
-        ensures no_miss_failed { OnErr result (NoMiss self.old.misses self.new.misses self.old.missed self.new.missed) }
+        ensures miss { IfOk result (λ got. IfNone got
+            (Misses number self.old.misses self.new.misses self.new.missed)) }
+        ensures no_miss { IfOk result (λ got. OnSome got
+            (NoMiss self.old.misses self.new.misses self.old.missed self.new.missed)) }
+        ensures no_miss_failed { OnErr result
+            (NoMiss self.old.misses self.new.misses self.old.missed self.new.missed) }
         ensures later { self.old.misses ≤ self.new.misses }
         ensures cause { FailsByFault 0 0 result }
 
         // A miss counts one.
-        ensures counted { IfOk result (λ got. self.new.misses ≡ (if is_some got then self.old.misses else next_count self.old.misses)) }
+        ensures counted { IfOk result (λ got. self.new.misses
+            ≡ (if is_some got then self.old.misses else next_count self.old.misses)) }
     {
         let Some(object) = self.objects.get(&number) else {
             self.misses = self.misses.saturating_add(1);
@@ -118,21 +127,19 @@ mod tests {
     use super::*;
     use std::test::Fail;
 
-    fn sent<T: Send>(value: T) -> T {
-        value
+    // Puts, puts over it, and gets; the store may have come from another thread.
+    fn second_body<B: Blocks + Send>(blocks: &mut B) -> Result<Option<Vec<u8>>, Trouble> {
+        blocks.put(7, &[1, 2])?;
+        blocks.put(3, &[4])?;
+        blocks.put(7, &[5])?;
+        blocks.get(7)
     }
 
     #[test]
     fn a_store_gives_what_was_put(rt: HostRuntime) -> Result<(), Fail> {
-        let mut blocks = sent(SureBlocks::new(rt.alloc()));
-        assert_eq!(rt; blocks.put(7, &[1, 2]), Ok(()));
-        assert_eq!(rt; blocks.put(3, &[4]), Ok(()));
-        assert_eq!(rt; blocks.put(7, &[5]), Ok(()));
-        let body = blocks
-            .get(7)
-            .ok()
-            .ok_or("no memory")?
-            .ok_or("it isn't held")?;
+        let mut blocks = SureBlocks::new(rt.alloc());
+        let body = second_body(&mut blocks).ok().ok_or("no memory")?;
+        let body = body.ok_or("it isn't held")?;
         assert_eq!(rt; body.as_slice(), [5].as_slice());
         let numbers = blocks.list().ok().ok_or("no memory")?;
         assert_eq!(rt; numbers.as_slice(), [3, 7].as_slice());

@@ -9,7 +9,7 @@ in_turn moments given h =
     let z1 : given + 1 - length moments ≡ 0 = omega arith in
     let z2 : given - length moments ≡ 0 = omega arith in
     let z3 : min given (length moments - 1) ≡ given = omega arith in
-    rw (z1, z2, z3, take_more moments given 0 h) (rw append-nil (rw append-nil refl))
+    rw (z1, z2, z3, take_more moments given 0 h) (simp append-nil refl)
 
 past_all : (moments : List ℕ) (given : ℕ) → length moments ≤ given → first_moments moments (given + 1) ≡ first_moments moments given ++ moment_after moments given ∷ []
 past_all moments given h =

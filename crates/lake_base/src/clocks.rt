@@ -34,7 +34,8 @@ impl Clock for FixedClock {
     ghost readings = { told_still };
 
     fn now(&mut self) -> u64
-        ensures reading { IfSome (told_still self.new) (λ now. IfSome (told_still self.old) (λ before. now ≡ before ++ result ∷ [])) }
+        ensures reading { IfSome (told_still self.new) (λ now. IfSome (told_still self.old)
+            (λ before. now ≡ before ++ result ∷ [])) }
         ensures told { IfSome (told_still self.new) (λ _. IsSome (told_still self.old)) }
 
         // It gives its moment, also where the readings are no longer told.
@@ -89,7 +90,8 @@ impl Clock for ScriptClock {
     ghost readings = { told_script };
 
     fn now(&mut self) -> u64
-        ensures reading { IfSome (told_script self.new) (λ now. IfSome (told_script self.old) (λ before. now ≡ before ++ result ∷ [])) }
+        ensures reading { IfSome (told_script self.new) (λ now. IfSome (told_script self.old)
+            (λ before. now ≡ before ++ result ∷ [])) }
         ensures told { IfSome (told_script self.new) (λ _. IsSome (told_script self.old)) }
 
         // It goes on in turn, also where the readings are no longer told.
@@ -107,14 +109,15 @@ mod tests {
     use super::*;
     use std::test::Fail;
 
+    fn four_readings<C: Clock + Send>(mut clock: C) -> [u64; 4] {
+        [clock.now(), clock.now(), clock.now(), clock.now()]
+    }
+
     #[test]
     fn clocks_give_their_moments(rt: HostRuntime) -> Result<(), Fail> {
         let moments = [3, 1, 4].to_vec(rt.alloc())?;
-        let mut script = ScriptClock::new(moments);
-        let given = [script.now(), script.now(), script.now(), script.now()];
-        assert_eq!(rt; given, [3, 1, 4, 4]);
-        let mut fixed = FixedClock::new(5);
-        assert_eq!(rt; [fixed.now(), fixed.now()], [5, 5]);
+        assert_eq!(rt; four_readings(ScriptClock::new(moments)), [3, 1, 4, 4]);
+        assert_eq!(rt; four_readings(FixedClock::new(5)), [5, 5, 5, 5]);
         Ok(())
     }
 }
