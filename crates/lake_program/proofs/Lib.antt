@@ -3,6 +3,9 @@ pub mod FeedingSteps
 pub mod Fronts
 pub mod LineLemmas
 pub mod LongLines
+pub mod OutcomeLaws
+pub mod ReadingLaws
+pub mod RunLaws
 pub mod ServingLaws
 pub mod UriLemmas
 pub mod WordLemmas

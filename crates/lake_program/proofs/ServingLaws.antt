@@ -12,7 +12,7 @@ abbrev pub WroteFront : List ℕ → Option (List ℕ) → Option (List ℕ) →
 WroteFront text before after = IfSome before (λ written. (out : List ℕ) × IsFront out text × (after ≡ Some (written ++ out)))
 
 -- some front was written, also where the sink doesn't tell
-front_written : (text : List ℕ) (before after : Option (List ℕ)) → WroteFront text before after → (out : List ℕ) × IsFront out text × IfSome before (λ written. after ≡ Some (written ++ out))
+pub front_written : (text : List ℕ) (before after : Option (List ℕ)) → WroteFront text before after → (out : List ℕ) × IsFront out text × IfSome before (λ written. after ≡ Some (written ++ out))
 front_written text None after wrote = ([], (text, refl), tt)
 front_written text (Some written) after wrote = wrote
 

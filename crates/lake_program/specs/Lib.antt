@@ -3,9 +3,12 @@ pub mod BatchSeen
 pub mod Command
 pub mod Feeding
 pub mod Front
+pub mod Outcome
+pub mod Reading
 pub mod Reply
 pub mod Seen
 pub mod Session
+pub mod Status
 pub mod Tally
 pub mod Text
 pub mod Words

@@ -1,17 +1,20 @@
 //! Batches: each line of a source is served, and what it shows goes to a sink.
-ghost use Rattle.std.specs.Prelude.{◌≡◌, ◌+◌, ◌≤◌, ◌<◌, ◌^◌, ◌&&◌, ◌∷◌, [], ℕ, List, IfOk, length, true, false};
-ghost use Rattle.lake_base.specs.Outside.{HasCause};
+ghost use Rattle.std.specs.Prelude.{◌≡◌, ◌+◌, ◌≤◌, ◌<◌, ◌^◌, ◌≢◌, ◌↔◌, ◌&&◌, ◌++◌, ◌∷◌, [], ℕ, List, Option, IfOk, OnOk, OnErr, IfSome, length, true, false};
+ghost use Rattle.lake_base.specs.Outside.{HasCause, Rose};
 ghost use Rattle.lake_program.specs.Session.{lake_of};
+ghost use Rattle.lake_program.specs.Front.{IsFront};
+ghost use Rattle.lake_program.specs.Text.{too_long};
+ghost use Rattle.lake_program.specs.Status.{Ended, IsBatchStatus};
 ghost use Rattle.lake_program.specs.Tally.{progress};
 ghost use Rattle.lake_program.specs.Feeding.{Moments, Turns, Serves, Feeds};
 
 use crate::command::{is_skipped, read_command};
 use crate::line_buffer::LineBuffer;
 use crate::session::{Reply, Session};
-use crate::text::{NOT_BUILT, OUT_OF_MEMORY};
+use crate::text::{NOT_BUILT, OUT_OF_MEMORY, TOO_LONG};
 use crate::words::Timing;
 use crate::write::write_all;
-use lake_base::{Clock, Failed, NoMemory, Sink};
+use lake_base::{Clock, Failed, NoMemory, Sink, Source};
 use std::alloc::Global;
 
 /// How the lines of a batch went so far.
@@ -23,7 +26,29 @@ pub struct Tally {
     pub starved: bool,
 }
 
+// The statuses of a run: the source failed, a sink failed, and memory was wanting.
+const SOURCE_FAILED: u8 = 3;
+
+pub const SINK_FAILED: u8 = 4;
+
+pub const OUT_OF_MEMORY_STATUS: u8 = 7;
+
 impl Tally {
+    // The status of a batch that was read to its end, and whose last writing came out so.
+    fn ended(self, written: Result<(), Failed>) -> u8
+        ensures { Ended self.starved self.done written result }
+    {
+        if written.is_err() {
+            SINK_FAILED
+        } else if self.starved {
+            OUT_OF_MEMORY_STATUS
+        } else if self.done {
+            0
+        } else {
+            1
+        }
+    }
+
     // One more line was done or not.
     fn count(&mut self, done: bool)
         ensures done { self.new.done ≡ (self.old.done && done) }
@@ -103,6 +128,19 @@ fn serve_line<C: Clock, W: Sink>(
     }
 }
 
+/// How the reading of a batch ended.
+#[derive(Clone, Copy, Debug, PartialEq, Eq)]
+pub enum End {
+    /// The source ended, within the limit.
+    Source,
+    /// The source gave more than the limit.
+    TooLong,
+    /// The source failed.
+    SourceFailed,
+    /// The sink failed.
+    SinkFailed,
+}
+
 /// A batch under way.
 #[derive(Drop)]
 pub struct Batch {
@@ -116,6 +154,8 @@ pub struct Batch {
 impl Batch {
     ghost use Rattle.lake_program.specs.BatchSeen.{progress_of};
     ghost use Rattle.lake_program.specs.Batch.{fresh_lake};
+    ghost use Rattle.lake_program.specs.Reading.{Ends};
+    ghost use Rattle.lake_program.specs.Outcome.{start, Outcome};
 
     /// A batch on a fresh lake, of which no line was read.
     pub fn new(alloc: Global, timing: Timing) -> Result<Batch, NoMemory>
@@ -186,5 +226,106 @@ impl Batch {
             }
         }
         Ok(())
+    }
+
+    /// Reads the source to its end, and serves the lines that end in the first `limit` bytes of it.
+    pub fn read<S: Source, C: Clock, W: Sink>(
+        &mut self,
+        limit: u64,
+        source: &mut S,
+        clock: &mut C,
+        sink: &mut W,
+        room: &mut [u8],
+    ) -> End
+        requires room { 0 < length room.old }
+        requires limit { limit < 2 ^ 63 }
+        requires calls { self.old.session.calls ≡ 0 }
+        ensures ends { IfSome (S.left source.old) (λ input. Ends self.old.timing (C.readings clock.old) (C.readings clock.new) (W.written sink.old) (W.written sink.new)
+            (progress_of self.old) (progress_of self.new) limit input result) }
+        ensures timing { self.new.timing ≡ self.old.timing }
+        ensures calls { self.new.session.calls ≤ limit }
+        ensures source { (S.faults source.old ≤ S.faults source.new) × (result ≡ End.SourceFailed → Rose (S.faults source.old) (S.faults source.new)) }
+        ensures sink { (W.faults sink.old ≤ W.faults sink.new) × (result ≡ End.SinkFailed → Rose (W.faults sink.old) (W.faults sink.new)) }
+    {
+        let mut total = 0;
+        'reading: loop {
+            let count = match source.read(room) {
+                Ok(count) => count,
+                Err(_) => return End::SourceFailed,
+            };
+            if count == 0 {
+                return End::Source;
+            }
+            let allowed = limit - total;
+            if count as u64 > allowed {
+                let (first, _) = room.split_at(allowed as usize);
+                return match self.feed(clock, sink, first) {
+                    Ok(()) => End::TooLong,
+                    Err(_) => End::SinkFailed,
+                };
+            }
+            let (piece, _) = room.split_at(count);
+            match self.feed(clock, sink, piece) {
+                Ok(()) => {}
+                Err(_) => return End::SinkFailed,
+            }
+            total += count as u64;
+        }
+    }
+
+    // Serves the line that nothing ends.
+    fn close<C: Clock, W: Sink>(&mut self, clock: &mut C, sink: &mut W) -> Result<(), Failed>
+        requires { self.old.session.calls + 1 < 2 ^ 64 }
+        ensures serves { Serves self.old.timing (C.readings clock.old) (C.readings clock.new) (W.written sink.old) (W.written sink.new)
+            (progress_of self.old) (progress_of self.new) self.old.line result }
+        ensures timing { self.new.timing ≡ self.old.timing }
+        ensures cause { HasCause (W.faults sink.old) (W.faults sink.new) result }
+    {
+        serve_line(
+            self.alloc,
+            &mut self.session,
+            &mut self.tally,
+            self.timing,
+            clock,
+            sink,
+            self.line.as_slice(),
+        )
+    }
+
+    // Shows that the batch is too long.
+    fn cut_off<W: Sink>(&mut self, sink: &mut W) -> Result<(), Failed>
+        ensures all { OnOk result (IfSome (W.written sink.old) (λ before. W.written sink.new ≡ Some (before ++ too_long))) }
+        ensures front { OnErr result (IfSome (W.written sink.old) (λ before. (out : List ℕ) × IsFront out too_long × (W.written sink.new ≡ Some (before ++ out)))) }
+        ensures progress { progress_of self.new ≡ record { lake = lake_of self.old.session; done = false; starved = self.old.tally.starved; line = self.old.line } }
+        ensures timing { self.new.timing ≡ self.old.timing }
+        ensures cause { HasCause (W.faults sink.old) (W.faults sink.new) result }
+    {
+        self.tally.done = false;
+        write_all(sink, TOO_LONG)
+    }
+
+    /// Ends a batch whose reading ended so: what is stated of the last line, or of a source that gave
+    /// too much, is written, and the status is answered.
+    pub fn finish<C: Clock, W: Sink>(&mut self, end: End, clock: &mut C, sink: &mut W) -> u8
+        requires { self.old.session.calls + 1 < 2 ^ 64 }
+        ensures outcome { (limit : ℕ) (input : List ℕ) (earlier before : Option (List ℕ))
+            → Ends self.old.timing earlier (C.readings clock.old) before (W.written sink.old) start (progress_of self.old) limit input end
+            → Outcome self.old.timing limit earlier (C.readings clock.new) before (W.written sink.new) input result }
+        ensures source { (result ≡ 3) ↔ (end ≡ End.SourceFailed) }
+        ensures sink { (W.faults sink.old ≤ W.faults sink.new) × (result ≡ 4 → (end ≢ End.SinkFailed) → Rose (W.faults sink.old) (W.faults sink.new)) }
+        ensures statuses { IsBatchStatus result }
+    {
+        match end {
+            End::Source => {
+                let closed = self.close(clock, sink);
+                self.tally.ended(closed)
+            }
+            End::TooLong => {
+                let cut = self.cut_off(sink);
+                self.tally.ended(cut)
+            }
+            End::SourceFailed => SOURCE_FAILED,
+            End::SinkFailed => SINK_FAILED,
+        }
     }
 }

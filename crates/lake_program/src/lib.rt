@@ -5,6 +5,7 @@ pub mod batch;
 pub mod command;
 pub mod host;
 pub mod line_buffer;
+pub mod run;
 pub mod session;
 pub mod text;
 pub mod word;

@@ -17,12 +17,12 @@ loop-byte-preserved g c =
     let timing = c.args.self.now.timing in
     let byte = get_or c.args.chunk.now c.loop-byte.byte-index 0 in
     let fed = subst (λ t. Feeds t (g.C.Clock.readings c.loop-byte.clock) (g.C.Clock.readings c.feed_byte.new.clock) (g.W.Sink.written c.loop-byte.sink) (g.W.Sink.written c.feed_byte.new.sink)
-      (progress_of c.loop-byte.self) (progress_of c.feed_byte.new.self) (byte ∷ []) (Ok tt)) c.loop-byte.invariant.timing c.in-Ok.ensures.feeds in
+    (progress_of c.loop-byte.self) (progress_of c.feed_byte.new.self) (byte ∷ []) (Ok tt)) c.loop-byte.invariant.timing c.in-Ok.ensures.feeds in
     record {
       fed = feeds_at timing (g.C.Clock.readings c.args.clock.now) (g.C.Clock.readings c.loop-byte.clock) (g.C.Clock.readings c.feed_byte.new.clock)
-        (g.W.Sink.written c.args.sink.now) (g.W.Sink.written c.loop-byte.sink) (g.W.Sink.written c.feed_byte.new.sink)
-        (progress_of c.args.self.now) (progress_of c.loop-byte.self) (progress_of c.feed_byte.new.self) c.args.chunk.now c.loop-byte.byte-index (Ok tt)
-        c.loop-byte-test.true c.loop-byte.invariant.fed fed;
+          (g.W.Sink.written c.args.sink.now) (g.W.Sink.written c.loop-byte.sink) (g.W.Sink.written c.feed_byte.new.sink)
+          (progress_of c.args.self.now) (progress_of c.loop-byte.self) (progress_of c.feed_byte.new.self) c.args.chunk.now c.loop-byte.byte-index (Ok tt)
+          c.loop-byte-test.true c.loop-byte.invariant.fed fed;
       timing = c.in-Ok.ensures.timing ∙ c.loop-byte.invariant.timing;
       calls = omega (arith, c.in-Ok.ensures.calls, c.loop-byte.invariant.calls);
       later = omega (arith, c.in-Ok.ensures.cause.later, c.loop-byte.invariant.later);
@@ -33,7 +33,7 @@ returns-in-Err-clause-feeds g c =
     let timing = c.args.self.now.timing in
     let byte = get_or c.args.chunk.now c.loop-byte.byte-index 0 in
     let fed = subst (λ t. Feeds t (g.C.Clock.readings c.loop-byte.clock) (g.C.Clock.readings c.feed_byte.new.clock) (g.W.Sink.written c.loop-byte.sink) (g.W.Sink.written c.feed_byte.new.sink)
-      (progress_of c.loop-byte.self) (progress_of c.feed_byte.new.self) (byte ∷ []) (Err c.in-Err.failed)) c.loop-byte.invariant.timing c.in-Err.ensures.feeds in
+    (progress_of c.loop-byte.self) (progress_of c.feed_byte.new.self) (byte ∷ []) (Err c.in-Err.failed)) c.loop-byte.invariant.timing c.in-Err.ensures.feeds in
     feeds_cut_at timing (g.C.Clock.readings c.args.clock.now) (g.C.Clock.readings c.loop-byte.clock) (g.C.Clock.readings c.feed_byte.new.clock)
     (g.W.Sink.written c.args.sink.now) (g.W.Sink.written c.loop-byte.sink) (g.W.Sink.written c.feed_byte.new.sink)
     (progress_of c.args.self.now) (progress_of c.loop-byte.self) (progress_of c.feed_byte.new.self) c.args.chunk.now c.loop-byte.byte-index c.in-Err.failed

@@ -1,0 +1,31 @@
+-- How the source of a batch is read.
+use Rattle.std.specs.Prelude.{◌≡◌, ◌≤◌, ◌<◌, ℕ, List, ◌++◌, length, take, Option, Some, Result, Ok, Err}
+use Rattle.lake_base.specs.declared.outside.Failed.{Failed}
+use Rattle.lake_program.specs.declared.words.Timing.{Timing}
+use Rattle.lake_program.specs.declared.batch.End.{End}
+use Rattle.lake_program.specs.declared.batch.End.TheVariants.{Source, TooLong, SourceFailed, SinkFailed}
+use Rattle.lake_program.specs.Front.{IsFront}
+use Rattle.lake_program.specs.Feeding.{Progress, Feeds}
+
+module _ (timing : Timing) (earlier later written_before written_after : Option (List ℕ)) (old new : Progress) where
+  -- so much of the input was fed, and this is left of it
+  pub record Reached (input : List ℕ) (source : Option (List ℕ)) (total : ℕ) : Type 0 where
+    pub fed : List ℕ
+    pub left : List ℕ
+    pub rest : source ≡ Some left
+    pub whole : fed ++ left ≡ input
+    pub count : total ≡ length fed
+    pub feeds : Feeds timing earlier later written_before written_after old new fed (Ok tt)
+
+  -- a part of the input was fed, within the limit
+  pub record Part (limit : ℕ) (input : List ℕ) (result : Result (Unit {0}) Failed) : Type 0 where
+    pub fed : List ℕ
+    pub front : IsFront fed (take limit input)
+    pub feeds : Feeds timing earlier later written_before written_after old new fed result
+
+  -- The source ended within the limit, it gave more, it failed, or the sink did.
+  abbrev pub Ends : ℕ → List ℕ → End → Type 0
+  Ends limit input Source = (length input ≤ limit) × Feeds timing earlier later written_before written_after old new input (Ok tt)
+  Ends limit input TooLong = (limit < length input) × Feeds timing earlier later written_before written_after old new (take limit input) (Ok tt)
+  Ends limit input SourceFailed = Part limit input (Ok tt)
+  Ends limit input SinkFailed = (failed : Failed) × Part limit input (Err failed)

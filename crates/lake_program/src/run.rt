@@ -1,0 +1,108 @@
+//! The program as one call.
+ghost use Rattle.std.specs.Prelude.{◌≡◌, ◌≢◌, ◌≤◌, ◌<◌, ◌^◌, ◌⊎◌, ◌++◌, ◌↔◌, ℕ, List, IfSome, IsSome, IsNone, if◌then◌else◌};
+ghost use Rattle.lake_base.specs.Outside.{Rose, Quiet};
+ghost use Rattle.lake_program.specs.Words.{timing_of};
+ghost use Rattle.lake_program.specs.Batch.{batch_of};
+ghost use Rattle.lake_program.specs.Feeding.{Moments};
+ghost use Rattle.lake_program.specs.Outcome.{Outcome};
+ghost use Rattle.lake_program.specs.Status.{IsBatchStatus, ShowsUsage};
+
+use crate::batch::{Batch, OUT_OF_MEMORY_STATUS, SINK_FAILED};
+use crate::host::Host;
+use crate::text::USAGE;
+use crate::words::{Timing, batch_timing};
+use crate::write::write_all;
+use lake_base::{Clock, Sink, Source, Text};
+use std::alloc::Global;
+
+/// The most bytes of a batch.
+pub const BATCH_LIMIT: u64 = 1_073_741_824;
+
+// How many bytes are read at once.
+const ROOM: usize = 65_536;
+
+const USAGE_STATUS: u8 = 2;
+
+/// Runs the program with these words: `batch`, or `batch --at N`. Each line of the source is a command;
+/// what it shows goes to the sink. All other words are a usage fault, which is shown on `errors`.
+///
+/// The answer is the program's status: 0 where each line was done, 1 where one was refused or the
+/// batch was too long, 2 for a usage fault, 3 where the source failed, 4 where the sink or `errors`
+/// did, 7 where memory was wanting. The first that is met ends the run, but a line's refusal or want of
+/// memory doesn't.
+pub fn run<R, S: Source, W: Sink, E: Sink, C: Clock, H: Host>(
+    _rt: &R,
+    alloc: Global,
+    words: &[Text],
+    source: &mut S,
+    sink: &mut W,
+    errors: &mut E,
+    clock: &mut C,
+    _host: &mut H,
+) -> u8
+    // Where nothing failed and no memory was wanting, the sink got just what the lines come to on the
+    // one-thread lake, from the fresh lake on.
+    ensures batch { Quiet (S.faults source.old) (S.faults source.new) → Quiet (W.faults sink.old) (W.faults sink.new) → Quiet (E.faults errors.old) (E.faults errors.new) → result ≢ 7
+        → IfSome (timing_of words.now) (λ timing. IfSome (S.left source.old) (λ input. IfSome (W.written sink.old) (λ before.
+        (moments : List ℕ) × Moments timing (C.readings clock.old) (C.readings clock.new) moments
+        × (W.written sink.new ≡ Some (before ++ (batch_of BATCH_LIMIT input moments).text))
+        × (result ≡ (if (batch_of BATCH_LIMIT input moments).done then 0 else 1))))) }
+
+    // Whatever failed, the sink got a front of that, up to a line that found no memory.
+    ensures front { IfSome (timing_of words.now) (λ timing. IfSome (S.left source.old) (λ input.
+        Outcome timing BATCH_LIMIT (C.readings clock.old) (C.readings clock.new) (W.written sink.old) (W.written sink.new) input result)) }
+
+    // Other words are a usage fault, and nothing else is done.
+    ensures usage { (result ≡ 2 → IsNone (timing_of words.now)) × (IsNone (timing_of words.now) → ShowsUsage (E.written errors.old) (E.written errors.new) result
+        × (W.written sink.new ≡ W.written sink.old) × (S.left source.new ≡ S.left source.old) × (C.readings clock.new ≡ C.readings clock.old)) }
+    ensures no_errors { IsSome (timing_of words.now) → E.written errors.new ≡ E.written errors.old }
+
+    // Each failure has its cause.
+    ensures source_failed { result ≡ 3 → Rose (S.faults source.old) (S.faults source.new) }
+    ensures sink_failed { result ≡ 4 → Rose (W.faults sink.old) (W.faults sink.new) ⊎ Rose (E.faults errors.old) (E.faults errors.new) }
+    ensures statuses { IsBatchStatus result ⊎ (result ≡ 2) }
+    ensures later { (S.faults source.old ≤ S.faults source.new) × (W.faults sink.old ≤ W.faults sink.new) × (E.faults errors.old ≤ E.faults errors.new) }
+{
+    match batch_timing(words) {
+        Some(timing) => serve_batch(alloc, BATCH_LIMIT, timing, source, sink, clock),
+        None => show_usage(errors),
+    }
+}
+
+// Shows that the words are a usage fault.
+fn show_usage<E: Sink>(errors: &mut E) -> u8
+    ensures shows { ShowsUsage (E.written errors.old) (E.written errors.new) result }
+    ensures statuses { (result ≡ 2) ⊎ ((result ≡ 4) × Rose (E.faults errors.old) (E.faults errors.new)) }
+    ensures later { E.faults errors.old ≤ E.faults errors.new }
+{
+    match write_all(errors, USAGE) {
+        Ok(()) => USAGE_STATUS,
+        Err(_) => SINK_FAILED,
+    }
+}
+
+/// Serves the lines of a source that end in the first `limit` bytes of it, on a fresh lake in memory.
+pub fn serve_batch<S: Source, W: Sink, C: Clock>(
+    alloc: Global,
+    limit: u64,
+    timing: Timing,
+    source: &mut S,
+    sink: &mut W,
+    clock: &mut C,
+) -> u8
+    requires { limit < 2 ^ 63 }
+    ensures outcome { IfSome (S.left source.old) (λ input.
+        Outcome timing limit (C.readings clock.old) (C.readings clock.new) (W.written sink.old) (W.written sink.new) input result) }
+    ensures source { (S.faults source.old ≤ S.faults source.new) × (result ≡ 3 → Rose (S.faults source.old) (S.faults source.new)) }
+    ensures sink { (W.faults sink.old ≤ W.faults sink.new) × (result ≡ 4 → Rose (W.faults sink.old) (W.faults sink.new)) }
+    ensures statuses { IsBatchStatus result }
+{
+    let Ok(mut batch) = Batch::new(alloc, timing) else {
+        return OUT_OF_MEMORY_STATUS;
+    };
+    let Ok(mut room) = vec![in alloc; 0u8; ROOM] else {
+        return OUT_OF_MEMORY_STATUS;
+    };
+    let end = batch.read(limit, source, clock, sink, room.as_mut_slice());
+    batch.finish(end, clock, sink)
+}
