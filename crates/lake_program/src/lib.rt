@@ -1,6 +1,7 @@
 //! The program as a library.
 #![tactic(auto)]
 
+pub mod adapters;
 pub mod batch;
 pub mod command;
 pub mod host;

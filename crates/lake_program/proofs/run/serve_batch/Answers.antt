@@ -23,10 +23,10 @@ returns-clause-outcome g c =
     let w2 = g.W.Sink.written c.finish.new.sink in
     let reached = progress_of c.read-end.new.self in
     told_then (g.S.Source.left c.args.source.now) _ _ (λ input ends.
-      let begun = subst (λ (p : Progress). Ends c.in-Ok.batch.timing r0 r1 w0 w1 p reached c.args.limit input c.read-end.result) c.in-Ok.ensures.start ends in
-      let timed = subst (λ (t : Timing). Ends t r0 r1 w0 w1 start reached c.args.limit input c.read-end.result) (sym c.read-end.ensures.timing) begun in
-      subst (λ (t : Timing). Outcome t c.args.limit r0 r2 w0 w2 input c.finish.result) (c.read-end.ensures.timing ∙ c.in-Ok.ensures.timing)
-      (c.finish.ensures.outcome c.args.limit input r0 w0 timed)) c.read-end.ensures.ends
+    let begun = subst (λ (p : Progress). Ends c.in-Ok.batch.timing r0 r1 w0 w1 p reached c.args.limit input c.read-end.result) c.in-Ok.ensures.start ends in
+    let timed = subst (λ (t : Timing). Ends t r0 r1 w0 w1 start reached c.args.limit input c.read-end.result) (sym c.read-end.ensures.timing) begun in
+    subst (λ (t : Timing). Outcome t c.args.limit r0 r2 w0 w2 input c.finish.result) (c.read-end.ensures.timing ∙ c.in-Ok.ensures.timing)
+    (c.finish.ensures.outcome c.args.limit input r0 w0 timed)) c.read-end.ensures.ends
 
 pub returns-clause-sink : goal.returns-clause-sink
 returns-clause-sink g c =

@@ -1,0 +1,51 @@
+//! The program `lakefs`: a lake of objects with Git-like branches, driven by lakectl's commands.
+//!
+//! What it does is `lake_program::run::run`; here are only the real streams, clock and words.
+#![tactic(auto)]
+
+use lake_base::{NoMemory, Text};
+use lake_program::adapters::{StdSink, StdSource, SystemClock};
+use lake_program::host::NoHost;
+use lake_program::run::run;
+use std::env;
+use std::io::ErrorKind;
+use std::process::ExitCode;
+use std::rt::Env;
+
+// The program's words, without its name. Words that aren't UTF-8 are none of its own.
+fn words<R: Env + AllocGlobal>(rt: &R) -> Result<Vec<Text>, NoMemory> {
+    let mut words = Vec::new(rt.alloc());
+    let arguments = match env::args(rt) {
+        Ok(arguments) => arguments,
+        Err(error) if error.kind() == ErrorKind::OutOfMemory => return Err(NoMemory),
+        Err(_) => return Ok(words),
+    };
+    for argument in arguments.skip(1) {
+        let Ok(word) = Text::read(rt.alloc(), argument.as_bytes(), usize::MAX) else {
+            return Err(NoMemory);
+        };
+        words.push(word)?;
+    }
+    Ok(words)
+}
+
+fn main(rt: HostRuntime) -> ExitCode {
+    let Ok(words) = words(&rt) else {
+        return ExitCode::from(7);
+    };
+    let mut source = StdSource::new(rt.stdin());
+    let mut sink = StdSink::new(rt.stdout());
+    let mut errors = StdSink::new(rt.stderr());
+    let mut clock = SystemClock::new(rt);
+    let status = run(
+        &(),
+        rt.alloc(),
+        words.as_slice(),
+        &mut source,
+        &mut sink,
+        &mut errors,
+        &mut clock,
+        &mut NoHost,
+    );
+    ExitCode::from(status)
+}
