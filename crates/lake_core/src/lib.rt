@@ -10,3 +10,6 @@
 pub mod plain_lake;
 
 pub use plain_lake::PlainLake;
+
+#[cfg(test)]
+mod tests;

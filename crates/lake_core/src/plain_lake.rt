@@ -115,7 +115,7 @@ impl PlainLake {
         }
     }
 
-    /// What stands at a path of a branch.
+    /// What stands at a path of a branch. Refused as NoRepo or NoRef.
     pub fn look(&self, repo: &RepoName, branch: &RefName, path: &Path) -> Result<Seen, StepFault>
         ensures reply { Gives result (look_reply (replay fresh self.now) repo.now branch.now path.now) }
         ensures legal { IsLegal fresh self.now }
@@ -128,7 +128,8 @@ impl PlainLake {
         })
     }
 
-    /// The version of a branch and that of its repository's settings.
+    /// The version of a branch and that of its repository's settings. Refused as NoRepo or NoRef. It
+    /// takes no memory.
     pub fn versions(&self, repo: &RepoName, branch: &RefName) -> Result<Versions, StepFault>
         ensures reply { result ≡ versions_reply (replay fresh self.now) repo.now branch.now }
         ensures legal { IsLegal fresh self.now }
@@ -142,7 +143,7 @@ impl PlainLake {
     }
 
     /// Gives out a number for an upload to the branch: the place of the entry, and the number, which
-    /// was never given out before.
+    /// was never given out before. Refused as HistoryFull, NoRepo or NoRef.
     pub fn take_ticket(
         &mut self,
         by: By,
@@ -156,9 +157,11 @@ impl PlainLake {
         ensures legal { IsLegal fresh self.new }
         ensures err { OnErr result (self.new ≡ self.old) }
     {
+        // Test.
         self.test_room()?;
         self.test_names(repo, branch)?;
 
+        // Take memory.
         let number = self.next_number;
         let kind = EntryKind::TicketTake {
             repo: repo.copy(self.alloc)?,
@@ -168,12 +171,13 @@ impl PlainLake {
         self.history.reserve(1)?;
         put_ticket(&mut self.tickets, number, by.seat)?;
 
+        // Change.
         self.next_number = number + 1;
         append(&mut self.history, HistoryEntry { by, kind });
         Ok((self.count(), number))
     }
 
-    /// Gives up the upload of a number: the place of the entry.
+    /// Gives up the upload of a number: the place of the entry. Refused as HistoryFull.
     pub fn drop_ticket(&mut self, by: By, number: u64) -> Result<u64, StepFault>
         requires { HasTicket (replay fresh self.old) by.seat number }
         ensures reply { Gives result (drop_reply (replay fresh self.old)) }
@@ -181,10 +185,13 @@ impl PlainLake {
         ensures legal { IsLegal fresh self.new }
         ensures err { OnErr result (self.new ≡ self.old) }
     {
+        // Test.
         self.test_room()?;
 
+        // Take memory.
         self.history.reserve(1)?;
 
+        // Change.
         let kind = EntryKind::TicketDrop { number };
         remove_ticket(&mut self.tickets, Some(number));
         append(&mut self.history, HistoryEntry { by, kind });
@@ -192,7 +199,7 @@ impl PlainLake {
     }
 
     /// Stages a change on a branch of this version: the place of the entry. The ticket of an object's
-    /// number goes.
+    /// number goes. Refused as HistoryFull, NoRepo, NoRef or Changed.
     pub fn stage(
         &mut self,
         by: By,
@@ -209,10 +216,12 @@ impl PlainLake {
         ensures legal { IsLegal fresh self.new }
         ensures err { OnErr result (self.new ≡ self.old) }
     {
+        // Test.
         self.test_room()?;
         self.test_names(repo, branch)?;
         self.test_version(repo, branch, version)?;
 
+        // Take memory.
         let number = put_number(&change);
         let kind = EntryKind::Stage {
             repo: repo.copy(self.alloc)?,
@@ -223,6 +232,7 @@ impl PlainLake {
         self.history.reserve(1)?;
         self.staged.set(path, change)?;
 
+        // Change.
         remove_ticket(&mut self.tickets, number);
         append(&mut self.history, HistoryEntry { by, kind });
         Ok(self.count())

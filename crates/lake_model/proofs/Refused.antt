@@ -1,6 +1,6 @@
 -- What a step answers where it is refused, and what holds where it isn't.
-use Rattle.std.proofs.Common.{◌≡◌, ◌<◌, ℕ, Bool, true, false, cond, refl, sym, ap, ◌∙◌, nat_lt, List, arith}
-use Rattle.std.specs.Prelude.{Option, Some, None, Result, Ok, Err, IsSome, is_some}
+use Rattle.std.proofs.Common.{◌≡◌, ◌<◌, ℕ, Bool, true, false, cond, refl, ap, nat_lt, List, arith}
+use Rattle.std.specs.Prelude.{Option, Some, None, Result, Err, IsSome, is_some}
 use Rattle.std.proofs.lemmas.Bool.Decides.{nat_tests}
 use Rattle.std.specs.FinMap.{contains_key}
 use Rattle.lake_model.specs.declared.history.TheConstants.{HISTORY_LIMIT}

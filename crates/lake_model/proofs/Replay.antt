@@ -1,9 +1,14 @@
 -- A history with one more entry.
-use Rattle.std.proofs.Common.{◌≡◌, ◌+◌, List, [], ◌∷◌, ◌++◌, length, refl, arith}
+use Rattle.std.proofs.Common.{◌≡◌, ℕ, ◌+◌, List, [], ◌∷◌, ◌++◌, length, cond, refl, ap, ◌∙◌, arith}
 use Rattle.lake_model.specs.declared.history.HistoryEntry.{HistoryEntry}
+use Rattle.std.specs.Prelude.{Some}
+use Rattle.std.specs.FinMap.{get, get-insert}
+use Rattle.std.specs.Cmp.{nat_cmp_total, eq_by_cmp_equiv}
+use Rattle.lake_model.specs.declared.history.By.{By}
+use Rattle.lake_model.specs.declared.history.EntryKind.TheVariants.{TicketTake}
 use Rattle.lake_model.specs.State.{State, fresh}
 use Rattle.lake_model.specs.After.{after, replay}
-use Rattle.lake_model.specs.Legal.{Allows, IsLegal}
+use Rattle.lake_model.specs.Legal.{Allows, IsLegal, HasTicket}
 
 -- the last entry is replayed last
 pub replay-push : (state : State) (entries : List HistoryEntry) (entry : HistoryEntry) → replay state (entries ++ entry ∷ []) ≡ after (replay state entries) entry
@@ -23,3 +28,12 @@ entries-replay state (entry ∷ entries) = omega (arith, entries-replay (after s
 -- from the fresh state, the count is the history's length
 pub entries-fresh : (entries : List HistoryEntry) → (replay fresh entries).entries ≡ length entries
 entries-fresh entries = omega (arith, entries-replay fresh entries)
+
+-- a number that was given out last is on a ticket of the seat
+pub HasTicket-taken : (state : State) (entries : List HistoryEntry) (by : By) (repo branch : List ℕ) (number : ℕ)
+    → HasTicket (replay state (entries ++ record { by = by; kind = TicketTake repo branch number } ∷ [])) by.seat number
+HasTicket-taken state entries by repo branch number =
+    let old = (replay state entries).tickets in
+    ap (λ (now : State). get now.tickets number) (replay-push state entries (record { by = by; kind = TicketTake repo branch number }))
+    ∙ get-insert nat_cmp_total old number by.seat number
+    ∙ ap (λ b. cond b (Some by.seat) (get old number)) ((eq_by_cmp_equiv nat_cmp_total).refl number)
