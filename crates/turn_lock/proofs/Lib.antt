@@ -1,0 +1,4 @@
+pub mod Prefixes
+pub mod Keeps
+pub mod Turning
+pub mod Shown

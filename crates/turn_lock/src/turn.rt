@@ -1,0 +1,138 @@
+ghost use Rattle.std.specs.Prelude.{◌≡◌, ℕ, ◌+◌, ◌<◌, ◌≤◌, true, false, List, [], ◌∷◌, ◌++◌, length, Some, All, IfOk, IfErr, MatchResult, slice_get};
+ghost use Rattle.std.specs.Fn.{FnOnceTakesAt, FnOnceReturnsAt};
+ghost use mathlib.Core.List.{IsPrefix};
+ghost use Rattle.turn_lock.specs.Seats.{Sight, Meets, Adds, OnlyAdds, TakesChange, GivesChange, first_sight, sees, split_off, after_draw, longer};
+
+use crate::rule::{Cut, Law, Opening};
+use crate::seat::Seat;
+use crate::standing::Standing;
+use crate::steps::{Place, Top, View, draw, give_back, join, store_length, take_out, take_turn};
+use atomic_table::{Badge, Table};
+use std::alloc::Global;
+use std::marker::{Brand, Model};
+use std::mem::replace;
+use std::snapshot::Snapshot;
+use std::sync::Wait;
+
+/// There was no memory. It is this crate's own.
+#[derive(Clone, Copy, Debug, PartialEq, Eq)]
+pub struct NoMemory;
+
+/// Why no seat was split off.
+#[derive(Clone, Copy, Debug, PartialEq, Eq)]
+pub enum SplitFault {
+    /// All 4,294,967,295 seat numbers were drawn.
+    Full,
+    /// There was no memory. A split takes none, so this never comes.
+    NoMemory,
+}
+
+/// A value that threads share, one seat at a time. To a contract it is a name, which its seats have too.
+#[derive(Drop)]
+pub struct Turn<S: Standing> {
+    table: Table<Option<S>, View<S>, Opening<S>, Law<S>, Global>,
+}
+
+impl<S: Standing> Model for Turn<S> {
+    ghost use Rattle.std.specs.Prelude.{◌≡◌};
+    ghost use Rattle.atomic_table.specs.Seated.{TableId, table_id_coded};
+
+    ghost Value = { TableId };
+
+    ghost coded = { table_id_coded };
+
+    ghost view = { λ t. t.table.shared.table_id };
+
+    ghost invariant = { λ t. (t.table.shared.table_id.words ≡ 3) × (t.table.shared.table_id.slots ≡ 1) };
+}
+
+impl<S: Standing> Turn<S> {
+    /// Hands `f` the value, as it stands at this turn. It waits.
+    pub fn with_read<R, F: FnOnce(&S) -> R, W: Wait>(
+        &self,
+        rt: &W,
+        seat: &mut Seat<S::Origin, S::Entry>,
+        f: F,
+    ) -> R
+        requires own { seat.old.turn ≡ self.now }
+        requires callable { (x : S) → Meets S.origin S.list S.seat_of seat.old x → FnOnceTakesAt F.FnOnce f x }
+        ensures { (x : S) × Meets S.origin S.list S.seat_of seat.old x × FnOnceReturnsAt F.FnOnce f x result × (seat.new ≡ sees seat.old (S.list x) seat.old.mine) }
+    {
+        let top = &self.table.shared;
+        let mut place: Place<S> = replace(&mut seat.badge, Badge::blank()).into_seat();
+        take_turn(rt, top, &mut place);
+        let value = take_out(top, &mut place);
+        let answer = f(&value);
+        give_back(top, &mut place, value);
+        seat.badge = place.into_badge();
+        answer
+    }
+
+    /// Hands `f` the value to change, and the seat's number. It waits.
+    pub fn with_change<R, F: FnOnce(&mut S, u32) -> R, W: Wait>(
+        &self,
+        rt: &W,
+        seat: &mut Seat<S::Origin, S::Entry>,
+        f: F,
+    ) -> R
+        requires own { seat.old.turn ≡ self.now }
+        requires callable { (x : S) → Meets S.origin S.list S.seat_of seat.old x → TakesChange F.FnOnce f x seat.old.number }
+        requires only_adds { (x y : S) (r : R) → Meets S.origin S.list S.seat_of seat.old x → GivesChange F.FnOnce f x seat.old.number r y → OnlyAdds S.origin S.list S.seat_of seat.old.number x y }
+        ensures { (x : S) × (y : S) × (added : List S.Entry) × Meets S.origin S.list S.seat_of seat.old x × GivesChange F.FnOnce f x seat.old.number result y × Adds S.origin S.list S.seat_of seat.old.number x added y × (seat.new ≡ sees seat.old (S.list y) (seat.old.mine ++ added)) }
+    {
+        let top = &self.table.shared;
+        let number = seat.number;
+        let mut place: Place<S> = replace(&mut seat.badge, Badge::blank()).into_seat();
+        take_turn(rt, top, &mut place);
+        let mut value = take_out(top, &mut place);
+        let answer = f(&mut value, number);
+        store_length::<S, Brand>(top, &mut place, &value);
+        give_back(top, &mut place, value);
+        seat.badge = place.into_badge();
+        answer
+    }
+
+    /// A seat of a new number. It has seen what this seat has, and made nothing. It waits.
+    pub fn split<W: Wait>(
+        &self,
+        rt: &W,
+        seat: &mut Seat<S::Origin, S::Entry>,
+    ) -> Result<Seat<S::Origin, S::Entry>, SplitFault>
+        requires { seat.old.turn ≡ self.now }
+        ensures new { IfOk result (λ s. (s ≡ split_off seat.old s.number) × (seat.new ≡ after_draw seat.old (s.number + 1)) × (seat.old.counted ≤ s.number) × (s.number < 4294967295)) }
+        ensures full { IfErr result (λ e. (e ≡ SplitFault.Full) × (seat.new ≡ after_draw seat.old 4294967295)) }
+    {
+        let top = &self.table.shared;
+        let mut place: Place<S> = replace(&mut seat.badge, Badge::blank()).into_seat();
+        let drawn = draw(rt, top, &mut place);
+        let split = match drawn {
+            Some(number) => Ok(Seat {
+                number,
+                badge: top.split_seat::<Cut<S>>(&mut place).into_badge(),
+            }),
+            None => Err(SplitFault::Full),
+        };
+        seat.badge = place.into_badge();
+        split
+    }
+
+    /// Lets this seat know what another has seen. The other is gone then. It waits for nobody.
+    pub fn join<W>(
+        &self,
+        _rt: &W,
+        seat: &mut Seat<S::Origin, S::Entry>,
+        other: Seat<S::Origin, S::Entry>,
+    )
+        requires own { seat.old.turn ≡ self.now }
+        requires other { other.turn ≡ self.now }
+        ensures longer { seat.new ≡ sees seat.old (longer seat.old.seen other.seen) seat.old.mine }
+        ensures begins { IsPrefix seat.old.seen seat.new.seen × IsPrefix other.seen seat.new.seen }
+        ensures beside { (seat.old.alone ≡ false) × (other.alone ≡ false) }
+    {
+        let top = &self.table.shared;
+        let mut place: Place<S> = replace(&mut seat.badge, Badge::blank()).into_seat();
+        let Seat { number: _, badge } = other;
+        join(top, &mut place, badge.into_seat());
+        seat.badge = place.into_badge();
+    }
+}
