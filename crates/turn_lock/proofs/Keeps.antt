@@ -116,6 +116,7 @@ module _ {O E : Type 0} where
           kept_back = λ n r. (let below : n < seats = (f.kept_back n r).0 in omega arith, (f.kept_back n r).1, of n (none_kept n r) ∙ (f.kept_back n r).2);
           current = λ alone. f.current alone ∙ sym (same alone);
           told = prefix_grows d.told log added log' f.told grown;
+          told_same = f.told_same;
           no_clash = f.no_clash;
         }
 

@@ -7,9 +7,14 @@ use denote.Param.Members.{Once}
 use Rattle.atomic_table.specs.Seated.{TableId}
 use Rattle.turn_lock.specs.declared.rule.Doing.{Doing}
 use Rattle.turn_lock.specs.declared.rule.Stage.TheVariants.{Away, Holds, Out}
-use Rattle.turn_lock.specs.Seats.{by_seat, Sight, Meets, Adds, OnlyAdds, sees, TakesChange, GivesChange}
-use Rattle.turn_lock.specs.Rule.{staged, no_turn, sight_of, sight}
-use Rattle.turn_lock.proofs.Prefixes.{by_seat-append, by_seat-own}
+use Rattle.turn_lock.specs.Seats.{by_seat, Sight, Meets, Adds, OnlyAdds, Reaches, sees, TakesChange, GivesChange, first_sight}
+use Rattle.turn_lock.specs.Rule.{staged, no_turn, sight_of, sight, dealer_view, left_view, right_view, joined_view, IsHolding, IsSameWork, WasJoined}
+use Rattle.std.specs.Prelude.{slice_get, ◌==◌}
+use Rattle.std.proofs.Common.{zero, suc, ne_eqb, append_assoc, get_or}
+use Rattle.std.specs.List.{remove}
+use mathlib.Core.Option.{some, some-injective}
+use Rattle.atomic_table.specs.Table.{Me}
+use Rattle.turn_lock.proofs.Prefixes.{by_seat-append, by_seat-own, prefix_trans}
 
 module _ {O E : Type 0} where
   -- the only view of a seat is what it shows
@@ -62,3 +67,79 @@ module _ {O E : Type 0} where
   pub same_number : (s : Sight O E) (z : TableId) (views : List (Doing O E)) (d a b : Doing O E) (l : List E) → sight z views ≡ s → views ≡ d ∷ [] → a ≡ staged Holds d → b ≡ record a { stage = Out; seen = l } → b.number ≡ s.number
   same_number s z views d a b l is only took out =
       ap (λ (v : Doing O E). v.number) out ∙ (ap (λ (v : Doing O E). v.number) took ∙ sym (shows_number s z views d d.number is only refl))
+
+  -- one more seat was joined
+  pub joined_more : (o : Option O) (p q : List E) (items rest done all : List (Sight O E)) (s : Sight O E) → all ≡ items ++ done → items ≡ rest ++ s ∷ [] → IsPrefix p q → All (WasJoined o p) done → WasJoined o q s
+      → (now : List (Sight O E)) × (all ≡ rest ++ now) × All (WasJoined o q) now
+  joined_more o p q items rest done all s are last grown old here =
+      (s ∷ done, are ∙ (ap (λ l. l ++ done) last ∙ append_assoc rest (s ∷ []) done), each)
+    where
+      each : All (WasJoined o q) (s ∷ done)
+      each zero d l = here
+      each (suc k) d l = let w = old k d (omega arith) in (w.0, prefix_trans _ p q w.1 grown, w.2)
+
+module _ {S O E : Type 0} where
+  pub holding_after : (m m' : Me (Option S) (Doing O E)) (e : Doing O E) → m' ≡ (joined_view m.0 e, m.1) → IsHolding m → IsHolding m'
+  holding_after m m' e is h = (
+    ap (λ (x : Me (Option S) (Doing O E)). x.0.living) is ∙ h.0,
+    ap (λ (x : Me (Option S) (Doing O E)). x.0.stage) is ∙ h.1,
+    ap (λ (x : Me (Option S) (Doing O E)). x.1) is ∙ h.2,
+  )
+
+  pub work_after : (d : Doing O E) (m m' : Me (Option S) (Doing O E)) (e : Doing O E) → m' ≡ (joined_view m.0 e, m.1) → IsSameWork d m.0 → IsSameWork d m'.0
+  work_after d m m' e is h = (
+    ap (λ (x : Me (Option S) (Doing O E)). x.0.number) is ∙ h.0,
+    ap (λ (x : Me (Option S) (Doing O E)). x.0.origin) is ∙ h.1,
+    ap (λ (x : Me (Option S) (Doing O E)). x.0.mine) is ∙ h.2,
+  )
+
+module _ {O E : Type 0} where
+  -- a seat that was joined
+  pub was_joined : (o : Option O) (d e : Doing O E) (s : Sight O E) (z : TableId) (views : List (Doing O E)) (seen : List E) → sight z views ≡ s → views ≡ e ∷ [] → e.origin ≡ d.origin → d.origin ≡ o → IsPrefix e.seen seen → e.alone ≡ false → WasJoined o seen s
+  was_joined o d e s z views seen is only same origin_is begins beside =
+      let shown = shows_view s z views e is only in
+      subst (λ (t : Sight O E). WasJoined o seen t) (sym shown) (same ∙ origin_is, begins, beside)
+
+module _ {A : Type 0} where
+  pub none_left : (xs : List A) → (0 < length xs → ⊥) → xs ≡ []
+  none_left [] h = refl
+  none_left (x ∷ xs) h = absurd (h (omega arith))
+
+  -- what is at each index, after a push
+  pub get_more : (xs : List A) (y : A) (P : ℕ → A) → ((k : ℕ) → k < length xs → slice_get xs k ≡ Some (P k)) → y ≡ P (length xs) → (k : ℕ) → k < length xs + 1 → slice_get (xs ++ y ∷ []) k ≡ Some (P k)
+  get_more [] y P at here zero l = ap Some here
+  get_more [] y P at here (suc k) l = absurd (omega arith)
+  get_more (x ∷ xs) y P at here zero l = at 0 (omega arith)
+  get_more (x ∷ xs) y P at here (suc k) l = get_more xs y (λ n. P (suc n)) (λ n m. at (suc n) (omega arith)) here k (omega arith)
+
+  -- what holds of the first element and of the others holds of each
+  pub all_given : (P : A → Type 0) (items : List A) (first : A) (others : List A) → 0 < length items → first ≡ get_or items 0 first → others ≡ remove items 0 → P first → All P others → All P items
+  all_given P [] first others some_item head tail here rest k d l = absurd (omega arith)
+  all_given P (x ∷ xs) first others some_item head tail here rest zero d l = subst P head here
+  all_given P (x ∷ xs) first others some_item head tail here rest (suc k) d l = subst (All P) tail rest k d (omega arith)
+
+  pub removed_own : (P : A → Type 0) (items : List A) (first : A) (others : List A) → 0 < length items → first ≡ get_or items 0 first → others ≡ remove items 0 → All P items → P first × All P others
+  removed_own P [] first others some_item head tail each = absurd (omega arith)
+  removed_own P (x ∷ xs) first others some_item head tail each = (
+    subst P (sym head) (each 0 x (omega arith)),
+    subst (All P) (sym tail) (λ k d l. each (suc k) d (omega arith)),
+  )
+
+module _ {S O E : Type 0} (origin : S → O) (list : S → List E) (seat_of : E → ℕ) where
+  -- the value that is handed out, for the seat that took the turn
+  pub reaches_first : (s : Sight O E) (z : TableId) (views : List (Doing O E)) (d t f : Doing O E) (y : S) → sight z views ≡ s → views ≡ d ∷ [] → t ≡ staged Holds d → IsSameWork t f → IsPrefix t.seen f.seen → (t.alone ≡ true → f ≡ t)
+      → Meets origin list seat_of (sight_of no_turn f) y → Reaches origin list s y
+  reaches_first s z views d t f y is only took work grown alone met =
+      let at_t : Reaches origin list (sight_of z t) y = (
+            sym work.1 ∙ met.0,
+            prefix_trans t.seen f.seen (list y) grown met.1,
+            λ h. (let e = alone h in met.3 (ap (λ (v : Doing O E). v.alone) e ∙ h) ∙ ap (λ (v : Doing O E). v.seen) e),
+          ) in
+      let at_d : Reaches origin list (sight_of z d) y = subst (λ (v : Doing O E). Reaches origin list (sight_of z v) y) took at_t in
+      subst (λ (u : Sight O E). Reaches origin list u y) (sym (shows_view s z views d is only)) at_d
+
+  -- and for those that were joined to it
+  pub reaches_others : (seats : List (Sight O E)) (t f : Doing O E) (y : S) → IsSameWork t f → All (WasJoined t.origin f.seen) seats → Meets origin list seat_of (sight_of no_turn f) y → All (λ s. Reaches origin list s y) seats
+  reaches_others seats t f y work joined met k d l =
+      let w = joined k d l in
+      (w.0 ∙ (sym work.1 ∙ met.0), prefix_trans _ f.seen (list y) w.1 met.1, λ h. absurd (true≢false (sym h ∙ w.2)))

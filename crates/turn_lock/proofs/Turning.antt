@@ -17,7 +17,7 @@ use Rattle.turn_lock.specs.declared.rule.Doing.{Doing}
 use Rattle.turn_lock.specs.declared.rule.Stage.{Stage}
 use Rattle.turn_lock.specs.declared.rule.Stage.TheVariants.{Away, Holds, Out}
 use Rattle.turn_lock.specs.Seats.{by_seat, Sight, Meets, Adds, longer}
-use Rattle.turn_lock.specs.Rule.{AtHome, FitsStage, Reserves, Fits, Differ, Kept, shorter, first_view, spent_view, staged, left_view, right_view, joined_view, no_turn, sight_of, IsAtRest, took, looked, wrote, gave_back, drew, compared, after_try}
+use Rattle.turn_lock.specs.Rule.{AtHome, FitsStage, Reserves, Fits, Differ, Kept, shorter, first_view, dealer_view, spent_view, staged, left_view, right_view, joined_view, no_turn, sight_of, IsAtRest, took, looked, wrote, gave_back, drew, compared, after_try}
 use Rattle.turn_lock.proofs.Prefixes.{prefix_self, prefix_nil, prefix_trans, prefix_grows, prefix_length, prefix_shorter, longer_either, shorter_either, by_seat-append, by_seat-prefix, by_seat-own, by_seat-other, by_seat-below}
 use Rattle.turn_lock.proofs.Keeps.{fits_set, differ_set, fits_end, differ_end, refit, refit_same, away_stage, other_away, free_away, left_as, right_as, differ_as, at_less, holds_away, out_away}
 
@@ -62,7 +62,7 @@ module _ {S O E : Type 0} (origin : S → O) (list : S → List E) (seat_of : E 
             held = λ _. (w, set_here s.views id w (at_less s.views id me.0 at), live, holds_away);
             undrawn = r.undrawn;
             fits = fits_set (Fits seat_of r.o r.log r.seats 1 id false) s.views id w
-                (λ _. let f = r.fits id me.0 at live in record { same_origin = f.same_origin; begins = f.begins; own = f.own; drawn = f.drawn; counts = f.counts; stage = (refl, refl, refl); kept_back = f.kept_back; current = f.current; told = f.told; no_clash = f.no_clash })
+                (λ _. let f = r.fits id me.0 at live in record { same_origin = f.same_origin; begins = f.begins; own = f.own; drawn = f.drawn; counts = f.counts; stage = (refl, refl, refl); kept_back = f.kept_back; current = f.current; told = f.told; told_same = f.told_same; no_clash = f.no_clash })
                 (λ j d _ there lives. let f = r.fits j d there lives in
                     refit_same seat_of r.o r.log r.seats r.seats r.turn 1 r.holder id r.lent false j d f (omega arith)
                     (away_stage 1 id false r.log j d.seen d.stage (free_away r.turn r.holder r.lent r.log j d.seen d.stage f.stage free)));
@@ -124,6 +124,7 @@ module _ {S O E : Type 0} (origin : S → O) (list : S → List E) (seat_of : E 
                 kept_back = λ n k. let b = f.kept_back n k in (b.0, b.1, ap (by_seat seat_of n) (sym same));
                 current = λ _. same;
                 told = f.told;
+                told_same = f.told_same;
                 no_clash = f.no_clash;
               })
               (λ j d apart there lives. let g = r.fits j d there lives in
@@ -182,6 +183,7 @@ module _ {S O E : Type 0} (origin : S → O) (list : S → List E) (seat_of : E 
                 kept_back = λ n k. let b = f.kept_back n k in (b.0, b.1, refl);
                 current = λ _. refl;
                 told = prefix_grows me.0.told r.log added now f.told grows;
+                told_same = f.told_same;
                 no_clash = f.no_clash;
               })
               (λ j d apart there lives. let g = r.fits j d there lives in let other = r.differ j id d me.0 apart there at lives live in
@@ -227,7 +229,7 @@ module _ {S O E : Type 0} (origin : S → O) (list : S → List E) (seat_of : E 
           held = λ z. absurd (omega arith);
           undrawn = r.undrawn;
           fits = fits_set (Fits seat_of r.o r.log r.seats 0 r.holder false) s.views id w
-              (λ _. record { same_origin = f.same_origin; begins = f.begins; own = f.own; drawn = f.drawn; counts = f.counts; stage = tt; kept_back = f.kept_back; current = f.current; told = f.told; no_clash = f.no_clash })
+              (λ _. record { same_origin = f.same_origin; begins = f.begins; own = f.own; drawn = f.drawn; counts = f.counts; stage = tt; kept_back = f.kept_back; current = f.current; told = f.told; told_same = f.told_same; no_clash = f.no_clash })
               (λ j d apart there lives. let g = r.fits j d there lives in
                   refit_same seat_of r.o r.log r.seats r.seats r.turn 0 r.holder r.holder r.lent false j d g (omega arith)
                   (away_stage 0 r.holder false r.log j d.seen d.stage (others_away s r id j d mine.0 apart there lives)));
@@ -245,7 +247,7 @@ module _ {S O E : Type 0} (origin : S → O) (list : S → List E) (seat_of : E 
         keeps,
         tt,
         unmoved s r 1 id me.1 me.0 at,
-        (refl, f.no_clash, λ less. prefix_shorter me.0.told me.0.seen r.log f.told f.begins less),
+        (refl, f.no_clash, f.told_same ∙ sym f.same_origin, λ less. prefix_shorter me.0.told me.0.seen r.log f.told f.begins less),
       )
 
   -- a stage other than `Out` does not read what the seat has seen
@@ -297,6 +299,7 @@ module _ {S O E : Type 0} (origin : S → O) (list : S → List E) (seat_of : E 
                       (omega arith, (λ h. omega arith), subst (λ (m : ℕ). by_seat seat_of m r.log ≡ by_seat seat_of m me.0.seen) (sym e) (none_yet ∙ sym none_seen));
                   current = λ h. absurd (true≢false (sym h));
                   told = f.told;
+                  told_same = f.told_same;
                   no_clash = f.no_clash;
                 })
                 (λ j d apart there lives. let g = r.fits j d there lives in
@@ -346,7 +349,7 @@ module _ {S O E : Type 0} (origin : S → O) (list : S → List E) (seat_of : E 
                 (h.0, set_else s.views id r.holder w (λ (same : r.holder ≡ id). h.3 (let e : h.0 ≡ me.0 = some-injective h.0 me.0 (sym h.1 ∙ (ap (get_elem? s.views) same ∙ at)) in ap (λ (v : Doing O E). v.stage) e ∙ away)) ∙ h.1, h.2, h.3);
             undrawn = r.undrawn;
             fits = fits_set (Fits seat_of r.o r.log r.seats r.turn r.holder r.lent) s.views id w
-                (λ _. record { same_origin = f.same_origin; begins = f.begins; own = f.own; drawn = f.drawn; counts = omega arith; stage = f.stage; kept_back = f.kept_back; current = λ h. absurd (true≢false (sym h)); told = f.told; no_clash = f.no_clash })
+                (λ _. record { same_origin = f.same_origin; begins = f.begins; own = f.own; drawn = f.drawn; counts = omega arith; stage = f.stage; kept_back = f.kept_back; current = λ h. absurd (true≢false (sym h)); told = f.told; told_same = f.told_same; no_clash = f.no_clash })
                 (λ j d apart there lives. r.fits j d there lives);
             differ = differ_as s.views id me.0 w at live refl (λ _ h. h) (λ h. absurd (true≢false (sym h))) r.differ;
           } in (
@@ -367,7 +370,7 @@ module _ {S O E : Type 0} (origin : S → O) (list : S → List E) (seat_of : E 
       let first = f.kept_back d.from (omega arith, some_kept) in
       let old_fits : (j : ℕ) (e : Doing O E) → get_elem? vs j ≡ some e → e.living ≡ true → Fits seat_of r.o r.log r.seats r.turn r.holder r.lent j e =
           fits_set (Fits seat_of r.o r.log r.seats r.turn r.holder r.lent) s.views id l
-              (λ _. record { same_origin = f.same_origin; begins = f.begins; own = f.own; drawn = f.drawn; counts = f.counts; stage = f.stage; kept_back = λ n k. (let a : d.to ≤ n = k.0 in let b : n < d.to = k.1 in absurd (omega arith)); current = λ h. absurd (true≢false (sym h)); told = f.told; no_clash = f.no_clash })
+              (λ _. record { same_origin = f.same_origin; begins = f.begins; own = f.own; drawn = f.drawn; counts = f.counts; stage = f.stage; kept_back = λ n k. (let a : d.to ≤ n = k.0 in let b : n < d.to = k.1 in absurd (omega arith)); current = λ h. absurd (true≢false (sym h)); told = f.told; told_same = f.told_same; no_clash = f.no_clash })
               (λ j e _ there lives. r.fits j e there lives) in
       let old_differ : (i j : ℕ) (x y : Doing O E) → i ≢ j → get_elem? vs i ≡ some x → get_elem? vs j ≡ some y → x.living ≡ true → y.living ≡ true → Differ x y =
           differ_as s.views id d l at live refl (λ n k. (let a : d.to ≤ n = k.0 in let b : n < d.to = k.1 in absurd (omega arith))) (λ h. absurd (true≢false (sym h))) r.differ in
@@ -398,6 +401,7 @@ module _ {S O E : Type 0} (origin : S → O) (list : S → List E) (seat_of : E 
               kept_back = λ m k. let a : d.from + 1 ≤ m = k.0 in let b = f.kept_back m (omega arith, k.1) in (b.0, (λ h. omega arith), b.2);
               current = λ h. absurd (true≢false (sym h));
               told = f.told;
+              told_same = f.told_same;
               no_clash = f.no_clash;
             }
             old_fits;
@@ -466,6 +470,7 @@ module _ {S O E : Type 0} (origin : S → O) (list : S → List E) (seat_of : E 
                 kept_back = λ n k. (let a : d.to ≤ n = k.0 in let b : n < d.to = k.1 in absurd (omega arith));
                 current = λ h. absurd (true≢false (sym h));
                 told = shorter_either (λ l. IsPrefix l r.log) d.seen e.seen f.begins g.begins;
+                told_same = g.same_origin;
                 no_clash = neither d.alone e.alone one.not_alone two.not_alone;
               })
               (λ j v _ in_it lives. r.fits j v in_it lives) in
@@ -538,9 +543,17 @@ module _ {S O E : Type 0} (origin : S → O) (list : S → List E) (seat_of : E 
         kept_back = λ n k. let a : 1 ≤ n = k.0 in (k.1, (λ h. (let z : n ≡ 0 = h in omega arith)), refl);
         current = λ _. refl;
         told = prefix_nil (list x);
+        told_same = refl;
         no_clash = refl;
       }
       only (suc j) d at live = absurd (some-ne-none d (sym at))
+
+  pub opens_as : (x y : S) (seats n m len : ℕ) (slots : List (Option S)) → slots ≡ Some x ∷ [] → y ≡ x → n ≡ seats → m ≡ seats → len ≡ length (list x) → 0 < seats → seats ≤ 4294967295 → All (λ e. seat_of e < seats) (list x)
+      → Kept origin list seat_of (opening (0 ∷ len ∷ m ∷ []) slots (first_view origin list seat_of y n))
+  opens_as x y seats n m len slots slots_are same n_is m_is len_is some_seat few below =
+      subst (λ (t : List ℕ × List (Option S) × Doing O E). Kept origin list seat_of (opening t.0 t.1 t.2))
+      (λ i. (0 ∷ sym len_is i ∷ sym m_is i ∷ [], sym slots_are i, first_view origin list seat_of (sym same i) (sym n_is i)))
+      (opens x seats some_seat few below)
 
   -- at the end, with the turn held by a seat
   pub closes : (id : ℕ) (d : Doing O E) (ws : List ℕ) (xs : List (Option S)) → d.living ≡ true → d.stage ≡ Holds → Final (Seen (Kept origin list seat_of) id d) ws xs
@@ -580,6 +593,12 @@ module _ {S O E : Type 0} (origin : S → O) (list : S → List E) (seat_of : E 
   splits_as id n d e is live away =
       subst (λ (v : Doing O E). Splits (Kept origin list seat_of) id v (left_view v) (right_view seat_of v)) (sym is)
       (splits id record d { alone = false; counted = n + 1; from = n; to = n + 1 } live away (omega arith))
+
+  -- while the seats of a new turn are dealt
+  pub splits_dealer : (id : ℕ) (x : S) (seats k : ℕ) (m : Me (Option S) (Doing O E)) → m ≡ (dealer_view origin list seat_of x seats k, []) → k + 1 < seats → Splits (Kept origin list seat_of) id m.0 (left_view m.0) (right_view seat_of m.0)
+  splits_dealer id x seats k m is more =
+      subst (λ (v : Me (Option S) (Doing O E)). Splits (Kept origin list seat_of) id v.0 (left_view v.0) (right_view seat_of v.0)) (sym is)
+      (splits id (dealer_view origin list seat_of x seats k) refl refl more)
 
 module _ {S O E : Type 0} where
   -- a seat that took a slot holds it

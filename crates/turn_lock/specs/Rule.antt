@@ -40,6 +40,7 @@ pub record Fits {O E : Type 0} (seat_of : E → ℕ) (o : O) (log : List E) (sea
   pub kept_back : (n : ℕ) → Reserves d n → (n < seats) × (n ≢ d.number) × (by_seat seat_of n log ≡ by_seat seat_of n d.seen)
   pub current : d.alone ≡ true → d.seen ≡ log
   pub told : IsPrefix d.told log
+  pub told_same : d.told_origin ≡ Some o
   pub no_clash : d.clash ≡ false
 
 -- what is true of two living views: their numbers differ, also from those kept back, and a seat that is alone has no other beside it
@@ -90,12 +91,13 @@ module _ {O E : Type 0} where
     from = 1;
     to = seats;
     told = [];
+    told_origin = Some (origin x);
     clash = false;
   }
 
   -- a view that was joined to another
   abbrev pub spent_view : Doing O E
-  spent_view = record { living = false; number = 0; origin = None; seen = []; mine = []; alone = false; counted = 0; stage = Away; from = 0; to = 0; told = []; clash = false }
+  spent_view = record { living = false; number = 0; origin = None; seen = []; mine = []; alone = false; counted = 0; stage = Away; from = 0; to = 0; told = []; told_origin = None; clash = false }
 
   abbrev pub staged : Stage → Doing O E → Doing O E
   staged stage d = record d { stage = stage }
@@ -110,7 +112,11 @@ module _ {O E : Type 0} where
 
   -- two seats made one
   abbrev pub joined_view : Doing O E → Doing O E → Doing O E
-  joined_view d e = record d { seen = longer d.seen e.seen; told = shorter d.seen e.seen; alone = false; clash = d.alone || e.alone; from = d.to }
+  joined_view d e = record d { seen = longer d.seen e.seen; told = shorter d.seen e.seen; told_origin = e.origin; alone = false; clash = d.alone || e.alone; from = d.to }
+
+  -- the view that goes on to the k-th seat of a new turn, which keeps back the numbers of the later ones
+  abbrev pub dealer_view : {S : Type 0} → (S → O) → (S → List E) → (E → ℕ) → S → ℕ → ℕ → Doing O E
+  dealer_view origin list seat_of x seats k = record (first_view origin list seat_of x seats) { number = k; mine = by_seat seat_of k (list x); from = k + 1 }
 
   -- what a seat shows of its view
   abbrev pub sight_of : TableId → Doing O E → Sight O E
@@ -154,9 +160,9 @@ module _ {S O E : Type 0} where
       ((m' ≡ (record m.0 { alone = false; counted = n + 1; from = n; to = n + 1 }, m.1)) × (by_seat seat_of n m.0.seen ≡ []) × (m.0.counted ≤ n))
       ((m' ≡ (record m.0 { alone = false; counted = n }, m.1)) × (m.0.counted ≤ n) × (n ≤ 4294967295))
 
-  -- of two lists that were seen the longer begins with the other, and neither seat was alone
+  -- of two lists that were seen the longer begins with the other, the two seats have one origin, and neither was alone
   abbrev pub compared : Step (Option S) → Sat S O E → ℕ → Sat S O E → Type 0
-  compared s m n m' = (m' ≡ m) × (m.0.clash ≡ false) × (length m.0.told ≤ length m.0.seen → IsPrefix m.0.told m.0.seen)
+  compared s m n m' = (m' ≡ m) × (m.0.clash ≡ false) × (m.0.told_origin ≡ m.0.origin) × (length m.0.told ≤ length m.0.seen → IsPrefix m.0.told m.0.seen)
 
 module _ {S O E : Type 0} where
   -- a seat of this turn, which has three words and one place
@@ -169,3 +175,16 @@ module _ {S O E : Type 0} where
   -- as long as a seat has only tried to draw, its view is as it was, but for what it counts
   abbrev pub after_try : Sat S O E → Sat S O E → Type 0
   after_try m m' = (m' ≡ m) ⊎ ((n : ℕ) × (m' ≡ (record m.0 { alone = false; counted = n }, m.1)) × (m.0.counted ≤ n))
+
+  -- the seat holds the turn, and the value lies in its place
+  abbrev pub IsHolding : Sat S O E → Type 0
+  IsHolding m = (m.0.living ≡ true) × (m.0.stage ≡ Holds) × (m.1 ≡ [])
+
+module _ {O E : Type 0} where
+  -- the number, the origin and the own entries are as they were
+  abbrev pub IsSameWork : Doing O E → Doing O E → Type 0
+  IsSameWork d e = (e.number ≡ d.number) × (e.origin ≡ d.origin) × (e.mine ≡ d.mine)
+
+  -- a seat that was joined to one of this origin, which has seen this list
+  abbrev pub WasJoined : Option O → List E → Sight O E → Type 0
+  WasJoined o seen s = (s.origin ≡ o) × IsPrefix s.seen seen × (s.alone ≡ false)

@@ -29,13 +29,16 @@ pub struct Doing<O, E> {
     /// The numbers from here on, below `to`, are kept back for seats that are to be split off.
     pub from: u64,
     pub to: u64,
-    /// What a seat that was joined to this one had seen.
+    /// What the shorter-sighted of two joined seats had seen.
     pub told: LinkedList<E>,
+    /// The origin of a seat that was joined to this one.
+    pub told_origin: Option<O>,
     /// That one of two joined seats was alone, which never comes.
     pub clash: bool,
 }
 
 /// What a turn is told when it is made.
+#[derive(Drop)]
 pub struct Opening<S> {
     pub value: Snapshot<S>,
     pub seats: u64,

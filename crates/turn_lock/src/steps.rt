@@ -1,9 +1,9 @@
 //! The atomic steps of a turn, each as a function over the base's table and one seat of it.
-ghost use Rattle.std.specs.Prelude.{◌≡◌, ◌≢◌, ℕ, ◌+◌, ◌<◌, ◌≤◌, true, false, List, [], ◌∷◌, ◌++◌, length, Some, None, MatchOption, All};
+ghost use Rattle.std.specs.Prelude.{◌≡◌, ◌≢◌, ℕ, ◌+◌, ◌<◌, ◌≤◌, true, false, List, [], ◌∷◌, ◌++◌, length, Some, None, MatchOption, All, slice_get, vec_capacity};
 ghost use mathlib.Core.List.{IsPrefix};
 ghost use Rattle.turn_lock.specs.declared.rule.Stage.TheVariants.{Away, Holds, Out};
-ghost use Rattle.turn_lock.specs.Seats.{by_seat, Meets};
-ghost use Rattle.turn_lock.specs.Rule.{IsSeatOf, IsSameSeat, IsAtRest, no_turn, sight_of, staged, left_view, right_view, joined_view};
+ghost use Rattle.turn_lock.specs.Seats.{by_seat, Meets, first_sight};
+ghost use Rattle.turn_lock.specs.Rule.{IsSeatOf, IsSameSeat, IsAtRest, no_turn, sight_of, staged, left_view, right_view, joined_view, first_view, IsHolding, IsSameWork, WasJoined};
 
 use crate::rule::{
     Compare, Cut, Doing, Draw, GiveBack, Glue, Law, Look, Noted, Opening, Take, Write,
@@ -29,6 +29,10 @@ pub(crate) type View<S> = Doing<<S as Standing>::Origin, <S as Standing>::Entry>
 
 pub(crate) type Top<S> = Shared<Option<S>, View<S>, Opening<S>, Law<S>>;
 
+/// A seat as its holder has it.
+pub(crate) type RestingSeat<S> = crate::seat::Seat<<S as Standing>::Origin, <S as Standing>::Entry>;
+
+/// A seat of the base, which a step moves.
 pub(crate) type Place<S> = Seat<Option<S>, View<S>>;
 
 /// Takes the turn. While another seat has it, it tries again, and lets other threads run between two tries.
@@ -108,8 +112,56 @@ pub(crate) fn join<S: Standing>(top: &Top<S>, place: &mut Place<S>, other: Place
     requires other { IsSeatOf top.now.table_id other × IsAtRest other.me.0 × (other.me.1 ≡ []) }
     ensures same { IsSameSeat place.old place.new × (place.new.me ≡ (joined_view place.old.me.0 other.me.0, place.old.me.1)) }
     ensures begins { IsPrefix place.old.me.0.seen place.new.me.0.seen × IsPrefix other.me.0.seen place.new.me.0.seen }
-    ensures beside { (place.old.me.0.alone ≡ false) × (other.me.0.alone ≡ false) }
+    ensures beside { (other.me.0.origin ≡ place.old.me.0.origin) × (place.old.me.0.alone ≡ false) × (other.me.0.alone ≡ false) }
 {
     top.join_seat::<Glue>(place, other);
     top.load::<Compare>(place, HISTORY);
+}
+
+/// Joins every one of these seats to the one that holds the turn.
+pub(crate) fn join_all<S: Standing>(
+    top: &Top<S>,
+    place: &mut Place<S>,
+    mut seats: Vec<RestingSeat<S>>,
+)
+    requires own { IsSeatOf top.now.table_id place.old × IsHolding place.old.me }
+    requires seats { All (λ s. s.turn ≡ top.now.table_id) seats.items }
+    ensures same { IsSameSeat place.old place.new × IsHolding place.new.me × IsSameWork place.old.me.0 place.new.me.0 }
+    ensures begins { IsPrefix place.old.me.0.seen place.new.me.0.seen × All (WasJoined place.old.me.0.origin place.new.me.0.seen) seats.items }
+    ensures alone { place.old.me.0.alone ≡ true → place.new.me.0 ≡ place.old.me.0 }
+{
+    while let Some(other) = seats.pop() {
+        let RestingSeat::<S> { number: _, badge } = other;
+        join(top, place, badge.into_seat());
+    }
+}
+
+/// The seats of a new turn, in the order of their numbers, from the seat that keeps these back.
+pub(crate) fn deal<S: Standing>(
+    top: &Top<S>,
+    first: Place<S>,
+    about: &Opening<S>,
+    seats: u32,
+    mut all: Vec<RestingSeat<S>>,
+) -> Vec<RestingSeat<S>>
+    requires seats { (0 < seats) × (about.now.seats ≡ seats) }
+    requires room { (all.items ≡ []) × (seats ≤ vec_capacity all) }
+    requires first { IsSeatOf top.now.table_id first × (first.me ≡ (first_view S.origin S.list S.seat_of about.now.value.value seats, [])) }
+    ensures count { length result.items ≡ seats }
+    ensures each { (k : ℕ) → k < seats → slice_get result.items k ≡ Some (first_sight S.origin S.list S.seat_of top.now.table_id about.now.value.value seats k) }
+{
+    let mut place = first;
+    for number in 0..seats - 1 {
+        let next = top.split_seat::<Cut<S>>(&mut place);
+        all.push_reserved(RestingSeat::<S> {
+            number,
+            badge: place.into_badge(),
+        });
+        place = next;
+    }
+    all.push_reserved(RestingSeat::<S> {
+        number: seats - 1,
+        badge: place.into_badge(),
+    });
+    all
 }

@@ -1,14 +1,16 @@
 ghost use Rattle.std.specs.Prelude.{◌≡◌, ℕ, ◌+◌, ◌<◌, ◌≤◌, true, false, List, [], ◌∷◌, ◌++◌, length, Some, All, IfOk, IfErr, MatchResult, slice_get};
 ghost use Rattle.std.specs.Fn.{FnOnceTakesAt, FnOnceReturnsAt};
 ghost use mathlib.Core.List.{IsPrefix};
-ghost use Rattle.turn_lock.specs.Seats.{Sight, Meets, Adds, OnlyAdds, TakesChange, GivesChange, first_sight, sees, split_off, after_draw, longer};
+ghost use Rattle.turn_lock.specs.Seats.{Meets, Reaches, Adds, OnlyAdds, TakesChange, GivesChange, first_sight, sees, split_off, after_draw, longer};
 
 use crate::rule::{Cut, Law, Opening};
 use crate::seat::Seat;
 use crate::standing::Standing;
-use crate::steps::{Place, Top, View, draw, give_back, join, store_length, take_out, take_turn};
+use crate::steps::{
+    Place, View, deal, draw, give_back, join, join_all, store_length, take_out, take_turn,
+};
 use atomic_table::{Badge, Table};
-use std::alloc::Global;
+use std::alloc::{AllocError, Global};
 use std::marker::{Brand, Model};
 use std::mem::replace;
 use std::snapshot::Snapshot;
@@ -17,6 +19,12 @@ use std::sync::Wait;
 /// There was no memory. It is this crate's own.
 #[derive(Clone, Copy, Debug, PartialEq, Eq)]
 pub struct NoMemory;
+
+impl From<AllocError> for NoMemory {
+    fn from(_: AllocError) -> NoMemory {
+        NoMemory
+    }
+}
 
 /// Why no seat was split off.
 #[derive(Clone, Copy, Debug, PartialEq, Eq)]
@@ -47,6 +55,49 @@ impl<S: Standing> Model for Turn<S> {
 }
 
 impl<S: Standing> Turn<S> {
+    /// A turn over `value`, and its seats, numbered from 0. Each has seen the value's list.
+    pub fn new(
+        alloc: Global,
+        value: S,
+        seats: u32,
+    ) -> Result<(Turn<S>, Vec<Seat<S::Origin, S::Entry>>), NoMemory>
+        requires some { 0 < seats }
+        requires numbers { All (λ e. S.seat_of e < seats) (S.list value) }
+        ensures count { IfOk result (λ r. length r.1.items ≡ seats) }
+        ensures each { IfOk result (λ r. (k : ℕ) → k < seats → slice_get r.1.items k ≡ Some (first_sight S.origin S.list S.seat_of r.0 value seats k)) }
+    {
+        let all = Vec::with_capacity(alloc, seats as usize)?;
+        let about = Opening {
+            value: Snapshot::of(&value),
+            seats: u64::from(seats),
+        };
+        let words = [0, value.entries(), u64::from(seats)];
+        let mut slots = Vec::with_capacity(alloc, 1)?;
+        slots.push_reserved(Some(value));
+        let Ok((table, first)) = Table::new(alloc, &words, slots, &about) else {
+            return Err(NoMemory);
+        };
+        let all = deal(&table.shared, first, &about, seats, all);
+        Ok((Turn { table }, all))
+    }
+
+    /// Takes the turn by the first of these seats, joins the others to it, and hands out the value. It waits.
+    pub fn close<W: Wait>(self, rt: &W, mut seats: Vec<Seat<S::Origin, S::Entry>>) -> S
+        requires some { 0 < length seats.items }
+        requires own { All (λ s. s.turn ≡ self) seats.items }
+        ensures { All (λ s. Reaches S.origin S.list s result) seats.items }
+    {
+        let Turn { table } = self;
+        let Seat { number: _, badge } = seats.remove(0);
+        let mut place: Place<S> = badge.into_seat();
+        take_turn(rt, &table.shared, &mut place);
+        join_all(&table.shared, &mut place, seats);
+        let mut closed = table.close_with(place);
+        let value = closed.take(0);
+        closed.free();
+        value.unwrap()
+    }
+
     /// Hands `f` the value, as it stands at this turn. It waits.
     pub fn with_read<R, F: FnOnce(&S) -> R, W: Wait>(
         &self,
@@ -127,7 +178,7 @@ impl<S: Standing> Turn<S> {
         requires other { other.turn ≡ self.now }
         ensures longer { seat.new ≡ sees seat.old (longer seat.old.seen other.seen) seat.old.mine }
         ensures begins { IsPrefix seat.old.seen seat.new.seen × IsPrefix other.seen seat.new.seen }
-        ensures beside { (seat.old.alone ≡ false) × (other.alone ≡ false) }
+        ensures beside { (other.origin ≡ seat.old.origin) × (seat.old.alone ≡ false) × (other.alone ≡ false) }
     {
         let top = &self.table.shared;
         let mut place: Place<S> = replace(&mut seat.badge, Badge::blank()).into_seat();
