@@ -1,22 +1,15 @@
 -- Each step of a turn keeps its rule.
-use Rattle.std.proofs.Common.{◌≡◌, ◌≢◌, ◌⊎◌, inl, inr, ⊎_elim, ℕ, zero, suc, ◌+◌, ◌<◌, ◌≤◌, eqb, eq-eqb, ne_eqb, List, [], ◌∷◌, ◌++◌, map, length, get_or, set, Bool, true, false, ◌||◌, true≢false, Option, Some, None, refl, sym, ap, ◌∙◌, subst, arith, length-append, length-set}
+use Rattle.std.proofs.Common.{◌≡◌, ◌≢◌, ◌⊎◌, inl, inr, ⊎_elim, ℕ, zero, suc, ◌<◌, ◌≤◌, List, [], ◌∷◌, ◌++◌, length, set, Bool, true, refl, sym, ap, ◌∙◌, subst, arith}
 use Rattle.std.proofs.lemmas.List.{append-nil}
-use Rattle.std.specs.List.{All}
-use mathlib.Core.Logic.{dite}
-use mathlib.Core.Option.{some, none, some-injective, some-ne-none}
-use mathlib.Core.Option as maybe
-use mathlib.Core.List.{IsPrefix}
-use native.Mathlib.Decide.{ℕ_discrete}
+use mathlib.Core.Option.{some, some-injective, some-ne-none}
 use lib.ListN.{get_elem?}
-use prog.Atomic.{either}
-use Rattle.atomic_table.specs.Table.{State, Me, step, keeps, takes, gives, stepped, Allows, Splits, Joins, opening, Final, Seen}
-use Rattle.atomic_table.proofs.Lists.{at_set, at_snoc, set_again, set_here, set_else, exchanged}
+use Rattle.atomic_table.proofs.Lists.{at_set}
 use Rattle.turn_lock.specs.declared.rule.Doing.{Doing}
 use Rattle.turn_lock.specs.declared.rule.Stage.{Stage}
 use Rattle.turn_lock.specs.declared.rule.Stage.TheVariants.{Away, Holds, Out}
-use Rattle.turn_lock.specs.Seats.{by_seat, Sight, Meets, Adds, longer}
-use Rattle.turn_lock.specs.Rule.{AtHome, FitsStage, Reserves, Fits, Differ, Kept, shorter, first_view, spent_view, staged, left_view, right_view, joined_view, no_turn, sight_of, IsAtRest, took, looked, wrote, gave_back, drew, compared}
-use Rattle.turn_lock.proofs.Prefixes.{prefix_self, prefix_nil, prefix_trans, prefix_grows, prefix_length, prefix_shorter, longer_either, shorter_either, by_seat-append, by_seat-prefix, by_seat-own, by_seat-other, by_seat-below}
+use Rattle.turn_lock.specs.Seats.{by_seat}
+use Rattle.turn_lock.specs.Rule.{FitsStage, Reserves, Fits, Differ}
+use Rattle.turn_lock.proofs.Prefixes.{prefix_grows, by_seat-append}
 
 module _ {A : Type 0} where
   -- the two cases of a new view at the end of the list
@@ -60,15 +53,15 @@ module _ {O E : Type 0} where
   differ_set Q vs me w mine old i j d e apart at_i at_j live_d live_e =
       ⊎_elim
       (λ (t : (i ≡ me) × (w ≡ d)).
-          ⊎_elim
-          (λ (u : (j ≡ me) × (w ≡ e)). absurd (apart (t.0 ∙ sym u.0)))
-          (λ (u : (j ≢ me) × (get_elem? vs j ≡ some e)). subst (λ (v : (Doing O E)). Q v e) t.1 (mine j e u.0 u.1 live_e (ap (λ (v : (Doing O E)). v.living) t.1 ∙ live_d)).0)
-          (at_set vs me j w e at_j))
+      ⊎_elim
+      (λ (u : (j ≡ me) × (w ≡ e)). absurd (apart (t.0 ∙ sym u.0)))
+      (λ (u : (j ≢ me) × (get_elem? vs j ≡ some e)). subst (λ (v : (Doing O E)). Q v e) t.1 (mine j e u.0 u.1 live_e (ap (λ (v : (Doing O E)). v.living) t.1 ∙ live_d)).0)
+      (at_set vs me j w e at_j))
       (λ (t : (i ≢ me) × (get_elem? vs i ≡ some d)).
-          ⊎_elim
-          (λ (u : (j ≡ me) × (w ≡ e)). subst (λ (v : (Doing O E)). Q d v) u.1 (mine i d t.0 t.1 live_d (ap (λ (v : (Doing O E)). v.living) u.1 ∙ live_e)).1)
-          (λ (u : (j ≢ me) × (get_elem? vs j ≡ some e)). old i j d e apart t.1 u.1 live_d live_e)
-          (at_set vs me j w e at_j))
+      ⊎_elim
+      (λ (u : (j ≡ me) × (w ≡ e)). subst (λ (v : (Doing O E)). Q d v) u.1 (mine i d t.0 t.1 live_d (ap (λ (v : (Doing O E)). v.living) u.1 ∙ live_e)).1)
+      (λ (u : (j ≢ me) × (get_elem? vs j ≡ some e)). old i j d e apart t.1 u.1 live_d live_e)
+      (at_set vs me j w e at_j))
       (at_set vs me i w d at_i)
 
   pub fits_end : (P : ℕ → (Doing O E) → Type 0) (vs : List (Doing O E)) (w : (Doing O E)) → P (length vs) w → ((j : ℕ) (d : (Doing O E)) → get_elem? vs j ≡ some d → d.living ≡ true → P j d)
@@ -85,15 +78,15 @@ module _ {O E : Type 0} where
   differ_end Q vs w mine old i j d e apart at_i at_j live_d live_e =
       ⊎_elim
       (λ (t : get_elem? vs i ≡ some d).
-          ⊎_elim
-          (λ (u : get_elem? vs j ≡ some e). old i j d e apart t u live_d live_e)
-          (λ (u : (j ≡ length vs) × (w ≡ e)). subst (λ (v : (Doing O E)). Q d v) u.1 (mine i d t live_d).1)
-          (at_end vs w j e at_j))
+      ⊎_elim
+      (λ (u : get_elem? vs j ≡ some e). old i j d e apart t u live_d live_e)
+      (λ (u : (j ≡ length vs) × (w ≡ e)). subst (λ (v : (Doing O E)). Q d v) u.1 (mine i d t live_d).1)
+      (at_end vs w j e at_j))
       (λ (t : (i ≡ length vs) × (w ≡ d)).
-          ⊎_elim
-          (λ (u : get_elem? vs j ≡ some e). subst (λ (v : (Doing O E)). Q v e) t.1 (mine j e u live_e).0)
-          (λ (u : (j ≡ length vs) × (w ≡ e)). absurd (apart (t.0 ∙ sym u.0)))
-          (at_end vs w j e at_j))
+      ⊎_elim
+      (λ (u : get_elem? vs j ≡ some e). subst (λ (v : (Doing O E)). Q v e) t.1 (mine j e u live_e).0)
+      (λ (u : (j ≡ length vs) × (w ≡ e)). absurd (apart (t.0 ∙ sym u.0)))
+      (at_end vs w j e at_j))
       (at_end vs w i d at_i)
 
   module _ (seat_of : E → ℕ) where
@@ -105,7 +98,7 @@ module _ {O E : Type 0} where
         let number : d.number < seats = f.drawn in
         let counted : d.counted ≤ seats = f.counts in
         let of : (n : ℕ) → by_seat seat_of n added ≡ [] → by_seat seat_of n log' ≡ by_seat seat_of n log =
-            λ n z. ap (by_seat seat_of n) grown ∙ (by_seat-append seat_of n log added ∙ (ap (λ w. by_seat seat_of n log ++ w) z ∙ append-nil (by_seat seat_of n log))) in
+        λ n z. ap (by_seat seat_of n) grown ∙ (by_seat-append seat_of n log added ∙ (ap (λ w. by_seat seat_of n log ++ w) z ∙ append-nil (by_seat seat_of n log))) in
         record {
           same_origin = f.same_origin;
           begins = prefix_grows d.seen log added log' f.begins grown;
@@ -125,7 +118,6 @@ module _ {O E : Type 0} where
         → seats ≤ seats' → FitsStage turn' holder' lent' log j d.seen d.stage → Fits seat_of o log seats' turn' holder' lent' j d
     refit_same o log seats seats' turn turn' holder holder' lent lent' j d f more stage =
         refit o log log [] seats seats' turn turn' holder holder' lent lent' j d f (sym (append-nil log)) more refl (λ n r. refl) (λ _. refl) stage
-
 
   -- a new view that shows no more than the old one differs from the others as that did
   pub left_as : (d d' e : Doing O E) → d'.number ≡ d.number → ((n : ℕ) → Reserves d' n → Reserves d n) → (d'.alone ≡ true → d.alone ≡ true) → Differ d e → Differ d' e
@@ -150,9 +142,9 @@ module _ {O E : Type 0} where
   differ_as vs me d w at live same less alone old =
       differ_set Differ vs me w
       (λ j e apart at_e live_e _. (
-          left_as d w e same less alone (old me j d e (λ h. apart (sym h)) at at_e live live_e),
-          right_as e d w same less (old j me e d apart at_e at live_e live),
-        ))
+        left_as d w e same less alone (old me j d e (λ h. apart (sym h)) at at_e live live_e),
+        right_as e d w same less (old j me e d apart at_e at live_e live),
+      ))
       old
 
 pub at_less : {A : Type 0} (l : List A) (i : ℕ) (a : A) → get_elem? l i ≡ some a → i < length l

@@ -1,5 +1,5 @@
 -- What a seat shows before and after a call, by what its view was at each step.
-use Rattle.std.proofs.Common.{◌≡◌, ◌≢◌, ℕ, ◌+◌, ◌<◌, ◌≤◌, List, [], ◌∷◌, ◌++◌, length, Bool, true, false, true≢false, Option, Some, None, refl, sym, ap, ◌∙◌, subst, arith}
+use Rattle.std.proofs.Common.{◌≡◌, ℕ, ◌+◌, ◌<◌, List, [], ◌∷◌, ◌++◌, length, true, false, true≢false, Option, Some, refl, sym, ap, ◌∙◌, subst, arith}
 use Rattle.std.specs.List.{All}
 use mathlib.Core.List.{IsPrefix}
 use denote.Ref.{MutBor}
@@ -7,12 +7,11 @@ use denote.Param.Members.{Once}
 use Rattle.atomic_table.specs.Seated.{TableId}
 use Rattle.turn_lock.specs.declared.rule.Doing.{Doing}
 use Rattle.turn_lock.specs.declared.rule.Stage.TheVariants.{Away, Holds, Out}
-use Rattle.turn_lock.specs.Seats.{by_seat, Sight, Meets, Adds, OnlyAdds, Reaches, sees, TakesChange, GivesChange, first_sight}
-use Rattle.turn_lock.specs.Rule.{staged, no_turn, sight_of, sight, dealer_view, left_view, right_view, joined_view, IsHolding, IsSameWork, WasJoined}
-use Rattle.std.specs.Prelude.{slice_get, ◌==◌}
-use Rattle.std.proofs.Common.{zero, suc, ne_eqb, append_assoc, get_or}
+use Rattle.turn_lock.specs.Seats.{by_seat, Sight, Meets, Adds, Reaches, sees, TakesChange, GivesChange}
+use Rattle.turn_lock.specs.Rule.{staged, no_turn, sight_of, sight, joined_view, IsHolding, IsSameWork, WasJoined}
+use Rattle.std.specs.Prelude.{slice_get}
+use Rattle.std.proofs.Common.{zero, suc, append_assoc, get_or}
 use Rattle.std.specs.List.{remove}
-use mathlib.Core.Option.{some, some-injective}
 use Rattle.atomic_table.specs.Table.{Me}
 use Rattle.turn_lock.proofs.Prefixes.{by_seat-append, by_seat-own, prefix_trans}
 
@@ -131,10 +130,10 @@ module _ {S O E : Type 0} (origin : S → O) (list : S → List E) (seat_of : E 
       → Meets origin list seat_of (sight_of no_turn f) y → Reaches origin list s y
   reaches_first s z views d t f y is only took work grown alone met =
       let at_t : Reaches origin list (sight_of z t) y = (
-            sym work.1 ∙ met.0,
-            prefix_trans t.seen f.seen (list y) grown met.1,
-            λ h. (let e = alone h in met.3 (ap (λ (v : Doing O E). v.alone) e ∙ h) ∙ ap (λ (v : Doing O E). v.seen) e),
-          ) in
+        sym work.1 ∙ met.0,
+        prefix_trans t.seen f.seen (list y) grown met.1,
+        λ h. (let e = alone h in met.3 (ap (λ (v : Doing O E). v.alone) e ∙ h) ∙ ap (λ (v : Doing O E). v.seen) e),
+      ) in
       let at_d : Reaches origin list (sight_of z d) y = subst (λ (v : Doing O E). Reaches origin list (sight_of z v) y) took at_t in
       subst (λ (u : Sight O E). Reaches origin list u y) (sym (shows_view s z views d is only)) at_d
 

@@ -1,5 +1,5 @@
 -- Each step of a turn keeps its rule.
-use Rattle.std.proofs.Common.{◌≡◌, ◌≢◌, ◌⊎◌, inl, inr, ⊎_elim, ℕ, zero, suc, ◌+◌, ◌<◌, ◌≤◌, eqb, eq-eqb, ne_eqb, List, [], ◌∷◌, ◌++◌, map, length, get_or, set, Bool, true, false, cond, ◌||◌, true≢false, Option, Some, None, refl, sym, ap, ◌∙◌, subst, arith, length-append, length-set}
+use Rattle.std.proofs.Common.{◌≡◌, ◌≢◌, ⊎_elim, ℕ, zero, suc, ◌+◌, ◌<◌, ◌≤◌, eqb, eq-eqb, ne_eqb, List, [], ◌∷◌, ◌++◌, length, get_or, set, Bool, true, false, ◌||◌, true≢false, Option, Some, refl, sym, ap, ◌∙◌, subst, arith}
 use Rattle.std.proofs.lemmas.List.{append-nil}
 use Rattle.std.specs.Prelude.{MatchBool}
 use Rattle.std.specs.List.{All}
@@ -16,10 +16,10 @@ use Rattle.atomic_table.proofs.Lists.{at_set, at_longer, set_again, set_here, se
 use Rattle.turn_lock.specs.declared.rule.Doing.{Doing}
 use Rattle.turn_lock.specs.declared.rule.Stage.{Stage}
 use Rattle.turn_lock.specs.declared.rule.Stage.TheVariants.{Away, Holds, Out}
-use Rattle.turn_lock.specs.Seats.{by_seat, Sight, Meets, Adds, longer}
-use Rattle.turn_lock.specs.Rule.{AtHome, FitsStage, Reserves, Fits, Differ, Kept, shorter, first_view, dealer_view, spent_view, staged, left_view, right_view, joined_view, no_turn, sight_of, IsAtRest, took, looked, wrote, gave_back, drew, compared, after_try}
-use Rattle.turn_lock.proofs.Prefixes.{prefix_self, prefix_nil, prefix_trans, prefix_grows, prefix_length, prefix_shorter, longer_either, shorter_either, by_seat-append, by_seat-prefix, by_seat-own, by_seat-other, by_seat-below}
-use Rattle.turn_lock.proofs.Keeps.{fits_set, differ_set, fits_end, differ_end, refit, refit_same, away_stage, other_away, free_away, left_as, right_as, differ_as, at_less, holds_away, out_away}
+use Rattle.turn_lock.specs.Seats.{by_seat, Meets}
+use Rattle.turn_lock.specs.Rule.{AtHome, FitsStage, Fits, Differ, Kept, first_view, dealer_view, spent_view, staged, left_view, right_view, joined_view, no_turn, sight_of, took, looked, wrote, gave_back, drew, compared, after_try}
+use Rattle.turn_lock.proofs.Prefixes.{prefix_self, prefix_nil, prefix_grows, prefix_shorter, longer_either, shorter_either, by_seat-append, by_seat-prefix, by_seat-other, by_seat-below}
+use Rattle.turn_lock.proofs.Keeps.{fits_set, differ_set, fits_end, differ_end, refit, refit_same, away_stage, other_away, free_away, differ_as, at_less, holds_away, out_away}
 
 module _ {S O E : Type 0} where
   kept_views : (m me : Me (Option S) (Doing O E)) → after_try m me → (me.0.living ≡ m.0.living) × (me.0.stage ≡ m.0.stage)
@@ -46,41 +46,41 @@ module _ {S O E : Type 0} (origin : S → O) (list : S → List E) (seat_of : E 
       let w : Doing O E = staged Holds me.0 in
       dite (ℕ_discrete x 0)
       (λ (hit : x ≡ 0).
-          let free : r.turn ≡ 0 = sym is ∙ hit in
-          let kept : Kept origin list seat_of (stepped s 0 1 id me.1 w keeps) = record {
-            o = r.o;
-            log = r.log;
-            turn = 1;
-            seats = r.seats;
-            holder = id;
-            lent = false;
-            words = ap (λ (ws : List ℕ). set ws 0 1) r.words;
-            one = omega arith;
-            few = r.few;
-            home = subst (λ (b : Bool). AtHome origin list r.o r.log b s.homes) (r.free free) r.home;
-            free = λ _. refl;
-            held = λ _. (w, set_here s.views id w (at_less s.views id me.0 at), live, holds_away);
-            undrawn = r.undrawn;
-            fits = fits_set (Fits seat_of r.o r.log r.seats 1 id false) s.views id w
-                (λ _. let f = r.fits id me.0 at live in record { same_origin = f.same_origin; begins = f.begins; own = f.own; drawn = f.drawn; counts = f.counts; stage = (refl, refl, refl); kept_back = f.kept_back; current = f.current; told = f.told; told_same = f.told_same; no_clash = f.no_clash })
-                (λ j d _ there lives. let f = r.fits j d there lives in
-                    refit_same seat_of r.o r.log r.seats r.seats r.turn 1 r.holder id r.lent false j d f (omega arith)
-                    (away_stage 1 id false r.log j d.seen d.stage (free_away r.turn r.holder r.lent r.log j d.seen d.stage f.stage free)));
-            differ = differ_as s.views id me.0 w at live refl (λ _ h. h) (λ h. h) r.differ;
-          } in (
-            w,
-            keeps,
-            tt,
-            subst (λ (b : Bool). Kept origin list seat_of (stepped s 0 (either b 1 x) id me.1 w keeps)) (sym (eq-eqb x 0 hit)) kept,
-            rw (eq-eqb x 0 hit) refl,
-          ))
+      let free : r.turn ≡ 0 = sym is ∙ hit in
+      let kept : Kept origin list seat_of (stepped s 0 1 id me.1 w keeps) = record {
+        o = r.o;
+        log = r.log;
+        turn = 1;
+        seats = r.seats;
+        holder = id;
+        lent = false;
+        words = ap (λ (ws : List ℕ). set ws 0 1) r.words;
+        one = omega arith;
+        few = r.few;
+        home = subst (λ (b : Bool). AtHome origin list r.o r.log b s.homes) (r.free free) r.home;
+        free = λ _. refl;
+        held = λ _. (w, set_here s.views id w (at_less s.views id me.0 at), live, holds_away);
+        undrawn = r.undrawn;
+        fits = fits_set (Fits seat_of r.o r.log r.seats 1 id false) s.views id w
+            (λ _. let f = r.fits id me.0 at live in record { same_origin = f.same_origin; begins = f.begins; own = f.own; drawn = f.drawn; counts = f.counts; stage = (refl, refl, refl); kept_back = f.kept_back; current = f.current; told = f.told; told_same = f.told_same; no_clash = f.no_clash })
+            (λ j d _ there lives. let f = r.fits j d there lives in
+            refit_same seat_of r.o r.log r.seats r.seats r.turn 1 r.holder id r.lent false j d f (omega arith)
+            (away_stage 1 id false r.log j d.seen d.stage (free_away r.turn r.holder r.lent r.log j d.seen d.stage f.stage free)));
+        differ = differ_as s.views id me.0 w at live refl (λ _ h. h) (λ h. h) r.differ;
+      } in (
+        w,
+        keeps,
+        tt,
+        subst (λ (b : Bool). Kept origin list seat_of (stepped s 0 (either b 1 x) id me.1 w keeps)) (sym (eq-eqb x 0 hit)) kept,
+        rw (eq-eqb x 0 hit) refl,
+      ))
       (λ (miss : x ≢ 0). (
-          me.0,
-          keeps,
-          tt,
-          subst (λ (b : Bool). Kept origin list seat_of (stepped s 0 (either b 1 x) id me.1 me.0 keeps)) (sym (ne_eqb x 0 miss)) (unmoved s r 0 id me.1 me.0 at),
-          rw (ne_eqb x 0 miss) refl,
-        ))
+        me.0,
+        keeps,
+        tt,
+        subst (λ (b : Bool). Kept origin list seat_of (stepped s 0 (either b 1 x) id me.1 me.0 keeps)) (sym (ne_eqb x 0 miss)) (unmoved s r 0 id me.1 me.0 at),
+        rw (ne_eqb x 0 miss) refl,
+      ))
 
   -- while the holder holds the turn, the others are away
   others_away : (s : State (Option S) (Doing O E)) (r : Kept origin list seat_of s) (id j : ℕ) (d : Doing O E) → id ≡ r.holder → j ≢ id → get_elem? s.views j ≡ some d → d.living ≡ true → d.stage ≡ Away
@@ -128,8 +128,8 @@ module _ {S O E : Type 0} (origin : S → O) (list : S → List E) (seat_of : E 
                 no_clash = f.no_clash;
               })
               (λ j d apart there lives. let g = r.fits j d there lives in
-                  refit_same seat_of r.o r.log r.seats r.seats r.turn r.turn r.holder r.holder r.lent true j d g (omega arith)
-                  (away_stage r.turn r.holder true r.log j d.seen d.stage (others_away s r id j d mine.0 apart there lives)));
+              refit_same seat_of r.o r.log r.seats r.seats r.turn r.turn r.holder r.holder r.lent true j d g (omega arith)
+              (away_stage r.turn r.holder true r.log j d.seen d.stage (others_away s r id j d mine.0 apart there lives)));
           differ = differ_as s.views id me.0 w at live refl (λ _ h. h) (λ h. h) r.differ;
         },
         (
@@ -154,7 +154,7 @@ module _ {S O E : Type 0} (origin : S → O) (list : S → List E) (seat_of : E 
       let w : Doing O E = record me.0 { seen = now; mine = by_seat seat_of me.0.number now } in
       let number : me.0.number < r.seats = f.drawn in
       let of : (n : ℕ) → n ≢ me.0.number → by_seat seat_of n now ≡ by_seat seat_of n r.log =
-          λ n apart. ap (by_seat seat_of n) grows ∙ (by_seat-append seat_of n r.log added ∙ (ap (λ l. by_seat seat_of n r.log ++ l) (by_seat-other seat_of me.0.number n added own_all apart) ∙ append-nil (by_seat seat_of n r.log))) in (
+      λ n apart. ap (by_seat seat_of n) grows ∙ (by_seat-append seat_of n r.log added ∙ (ap (λ l. by_seat seat_of n r.log ++ l) (by_seat-other seat_of me.0.number n added own_all apart) ∙ append-nil (by_seat seat_of n r.log))) in (
         w,
         keeps,
         tt,
@@ -187,11 +187,11 @@ module _ {S O E : Type 0} (origin : S → O) (list : S → List E) (seat_of : E 
                 no_clash = f.no_clash;
               })
               (λ j d apart there lives. let g = r.fits j d there lives in let other = r.differ j id d me.0 apart there at lives live in
-                  refit seat_of r.o r.log now added r.seats r.seats r.turn r.turn r.holder r.holder r.lent r.lent j d g grows (omega arith)
-                  (by_seat-other seat_of me.0.number d.number added own_all other.numbers)
-                  (λ n k. by_seat-other seat_of me.0.number n added own_all (other.kept_back n k))
-                  (λ alone. absurd (other.not_alone alone))
-                  (away_stage r.turn r.holder r.lent now j d.seen d.stage (others_away s r id j d mine.0 apart there lives)));
+              refit seat_of r.o r.log now added r.seats r.seats r.turn r.turn r.holder r.holder r.lent r.lent j d g grows (omega arith)
+              (by_seat-other seat_of me.0.number d.number added own_all other.numbers)
+              (λ n k. by_seat-other seat_of me.0.number n added own_all (other.kept_back n k))
+              (λ alone. absurd (other.not_alone alone))
+              (away_stage r.turn r.holder r.lent now j d.seen d.stage (others_away s r id j d mine.0 apart there lives)));
           differ = differ_as s.views id me.0 w at live refl (λ _ h. h) (λ h. h) r.differ;
         },
         refl,
@@ -231,8 +231,8 @@ module _ {S O E : Type 0} (origin : S → O) (list : S → List E) (seat_of : E 
           fits = fits_set (Fits seat_of r.o r.log r.seats 0 r.holder false) s.views id w
               (λ _. record { same_origin = f.same_origin; begins = f.begins; own = f.own; drawn = f.drawn; counts = f.counts; stage = tt; kept_back = f.kept_back; current = f.current; told = f.told; told_same = f.told_same; no_clash = f.no_clash })
               (λ j d apart there lives. let g = r.fits j d there lives in
-                  refit_same seat_of r.o r.log r.seats r.seats r.turn 0 r.holder r.holder r.lent false j d g (omega arith)
-                  (away_stage 0 r.holder false r.log j d.seen d.stage (others_away s r id j d mine.0 apart there lives)));
+              refit_same seat_of r.o r.log r.seats r.seats r.turn 0 r.holder r.holder r.lent false j d g (omega arith)
+              (away_stage 0 r.holder false r.log j d.seen d.stage (others_away s r id j d mine.0 apart there lives)));
           differ = differ_as s.views id me.0 w at live refl (λ _ h. h) (λ h. h) r.differ;
         },
         refl,
@@ -268,97 +268,97 @@ module _ {S O E : Type 0} (origin : S → O) (list : S → List E) (seat_of : E 
       let few : r.seats ≤ 4294967295 = r.few in
       dite (ℕ_discrete x old)
       (λ (hit : x ≡ old).
-          let w : Doing O E = record me.0 { alone = false; counted = x + 1; from = x; to = x + 1 } in
-          let now : r.seats ≡ old = sym is ∙ hit in
-          let none_yet : by_seat seat_of x r.log ≡ [] = r.undrawn x (omega arith) in
-          let none_seen : by_seat seat_of x me.0.seen ≡ [] = by_seat-prefix seat_of x me.0.seen r.log f.begins none_yet in
-          let kept : Kept origin list seat_of (stepped s 2 (old + 1) id me.1 w keeps) = record {
-            o = r.o;
-            log = r.log;
-            turn = r.turn;
-            seats = old + 1;
-            holder = r.holder;
-            lent = r.lent;
-            words = ap (λ (ws : List ℕ). set ws 2 (old + 1)) r.words;
-            one = r.one;
-            few = omega arith;
-            home = r.home;
-            free = r.free;
-            held = λ one. let h = r.held one in
-                (h.0, set_else s.views id r.holder w (λ (same : r.holder ≡ id). h.3 (let e : h.0 ≡ me.0 = some-injective h.0 me.0 (sym h.1 ∙ (ap (get_elem? s.views) same ∙ at)) in ap (λ (v : Doing O E). v.stage) e ∙ away)) ∙ h.1, h.2, h.3);
-            undrawn = λ n above. r.undrawn n (omega arith);
-            fits = fits_set (Fits seat_of r.o r.log (old + 1) r.turn r.holder r.lent) s.views id w
-                (λ _. record {
-                  same_origin = f.same_origin;
-                  begins = f.begins;
-                  own = f.own;
-                  drawn = omega arith;
-                  counts = omega arith;
-                  stage = f.stage;
-                  kept_back = λ n k. let e : n ≡ x = (let a : x ≤ n = k.0 in let b : n < x + 1 = k.1 in omega arith) in
-                      (omega arith, (λ h. omega arith), subst (λ (m : ℕ). by_seat seat_of m r.log ≡ by_seat seat_of m me.0.seen) (sym e) (none_yet ∙ sym none_seen));
-                  current = λ h. absurd (true≢false (sym h));
-                  told = f.told;
-                  told_same = f.told_same;
-                  no_clash = f.no_clash;
-                })
-                (λ j d apart there lives. let g = r.fits j d there lives in
-                    refit_same seat_of r.o r.log r.seats (old + 1) r.turn r.turn r.holder r.holder r.lent r.lent j d g (omega arith) g.stage);
-            differ = differ_set Differ s.views id w
-                (λ j e apart there lives _.
-                    let g = r.fits j e there lives in
-                    let below : e.number < r.seats = g.drawn in
-                    let one = r.differ id j me.0 e (λ h. apart (sym h)) at there live lives in
-                    let two = r.differ j id e me.0 apart there at lives live in (
-                      record {
-                        numbers = one.numbers;
-                        kept_back = λ n k h. (let a : x ≤ n = k.0 in let b : n ≡ e.number = h in omega arith);
-                        both = λ n k q. (let a : x ≤ n = k.0 in let b : n < r.seats = (g.kept_back n q).0 in absurd (omega arith));
-                        not_alone = λ h. absurd (true≢false (sym h));
-                      },
-                      record {
-                        numbers = two.numbers;
-                        kept_back = two.kept_back;
-                        both = λ n q k. (let a : x ≤ n = k.0 in let b : n < r.seats = (g.kept_back n q).0 in absurd (omega arith));
-                        not_alone = two.not_alone;
-                      },
-                    ))
-                r.differ;
-          } in (
-            w,
-            keeps,
-            tt,
-            subst (λ (b : Bool). Kept origin list seat_of (stepped s 2 (either b (old + 1) x) id me.1 w keeps)) (sym (eq-eqb x old hit)) kept,
-            rw (eq-eqb x old hit) (refl, none_seen, omega arith),
-          ))
+      let w : Doing O E = record me.0 { alone = false; counted = x + 1; from = x; to = x + 1 } in
+      let now : r.seats ≡ old = sym is ∙ hit in
+      let none_yet : by_seat seat_of x r.log ≡ [] = r.undrawn x (omega arith) in
+      let none_seen : by_seat seat_of x me.0.seen ≡ [] = by_seat-prefix seat_of x me.0.seen r.log f.begins none_yet in
+      let kept : Kept origin list seat_of (stepped s 2 (old + 1) id me.1 w keeps) = record {
+        o = r.o;
+        log = r.log;
+        turn = r.turn;
+        seats = old + 1;
+        holder = r.holder;
+        lent = r.lent;
+        words = ap (λ (ws : List ℕ). set ws 2 (old + 1)) r.words;
+        one = r.one;
+        few = omega arith;
+        home = r.home;
+        free = r.free;
+        held = λ one. let h = r.held one in
+            (h.0, set_else s.views id r.holder w (λ (same : r.holder ≡ id). h.3 (let e : h.0 ≡ me.0 = some-injective h.0 me.0 (sym h.1 ∙ (ap (get_elem? s.views) same ∙ at)) in ap (λ (v : Doing O E). v.stage) e ∙ away)) ∙ h.1, h.2, h.3);
+        undrawn = λ n above. r.undrawn n (omega arith);
+        fits = fits_set (Fits seat_of r.o r.log (old + 1) r.turn r.holder r.lent) s.views id w
+            (λ _. record {
+              same_origin = f.same_origin;
+              begins = f.begins;
+              own = f.own;
+              drawn = omega arith;
+              counts = omega arith;
+              stage = f.stage;
+              kept_back = λ n k. let e : n ≡ x = (let a : x ≤ n = k.0 in let b : n < x + 1 = k.1 in omega arith) in
+                  (omega arith, (λ h. omega arith), subst (λ (m : ℕ). by_seat seat_of m r.log ≡ by_seat seat_of m me.0.seen) (sym e) (none_yet ∙ sym none_seen));
+              current = λ h. absurd (true≢false (sym h));
+              told = f.told;
+              told_same = f.told_same;
+              no_clash = f.no_clash;
+            })
+            (λ j d apart there lives. let g = r.fits j d there lives in
+            refit_same seat_of r.o r.log r.seats (old + 1) r.turn r.turn r.holder r.holder r.lent r.lent j d g (omega arith) g.stage);
+        differ = differ_set Differ s.views id w
+            (λ j e apart there lives _.
+            let g = r.fits j e there lives in
+            let below : e.number < r.seats = g.drawn in
+            let one = r.differ id j me.0 e (λ h. apart (sym h)) at there live lives in
+            let two = r.differ j id e me.0 apart there at lives live in (
+              record {
+                numbers = one.numbers;
+                kept_back = λ n k h. (let a : x ≤ n = k.0 in let b : n ≡ e.number = h in omega arith);
+                both = λ n k q. (let a : x ≤ n = k.0 in let b : n < r.seats = (g.kept_back n q).0 in absurd (omega arith));
+                not_alone = λ h. absurd (true≢false (sym h));
+              },
+              record {
+                numbers = two.numbers;
+                kept_back = two.kept_back;
+                both = λ n q k. (let a : x ≤ n = k.0 in let b : n < r.seats = (g.kept_back n q).0 in absurd (omega arith));
+                not_alone = two.not_alone;
+              },
+            ))
+            r.differ;
+      } in (
+        w,
+        keeps,
+        tt,
+        subst (λ (b : Bool). Kept origin list seat_of (stepped s 2 (either b (old + 1) x) id me.1 w keeps)) (sym (eq-eqb x old hit)) kept,
+        rw (eq-eqb x old hit) (refl, none_seen, omega arith),
+      ))
       (λ (miss : x ≢ old).
-          let w : Doing O E = record me.0 { alone = false; counted = x } in
-          let kept : Kept origin list seat_of (stepped s 2 x id me.1 w keeps) = record {
-            o = r.o;
-            log = r.log;
-            turn = r.turn;
-            seats = r.seats;
-            holder = r.holder;
-            lent = r.lent;
-            words = ap (λ (ws : List ℕ). set ws 2 (get_or ws 2 0)) r.words;
-            one = r.one;
-            few = r.few;
-            home = r.home;
-            free = r.free;
-            held = λ one. let h = r.held one in
-                (h.0, set_else s.views id r.holder w (λ (same : r.holder ≡ id). h.3 (let e : h.0 ≡ me.0 = some-injective h.0 me.0 (sym h.1 ∙ (ap (get_elem? s.views) same ∙ at)) in ap (λ (v : Doing O E). v.stage) e ∙ away)) ∙ h.1, h.2, h.3);
-            undrawn = r.undrawn;
-            fits = fits_set (Fits seat_of r.o r.log r.seats r.turn r.holder r.lent) s.views id w
-                (λ _. record { same_origin = f.same_origin; begins = f.begins; own = f.own; drawn = f.drawn; counts = omega arith; stage = f.stage; kept_back = f.kept_back; current = λ h. absurd (true≢false (sym h)); told = f.told; told_same = f.told_same; no_clash = f.no_clash })
-                (λ j d apart there lives. r.fits j d there lives);
-            differ = differ_as s.views id me.0 w at live refl (λ _ h. h) (λ h. absurd (true≢false (sym h))) r.differ;
-          } in (
-            w,
-            keeps,
-            tt,
-            subst (λ (b : Bool). Kept origin list seat_of (stepped s 2 (either b (old + 1) x) id me.1 w keeps)) (sym (ne_eqb x old miss)) kept,
-            rw (ne_eqb x old miss) (refl, omega arith, omega arith),
-          ))
+      let w : Doing O E = record me.0 { alone = false; counted = x } in
+      let kept : Kept origin list seat_of (stepped s 2 x id me.1 w keeps) = record {
+        o = r.o;
+        log = r.log;
+        turn = r.turn;
+        seats = r.seats;
+        holder = r.holder;
+        lent = r.lent;
+        words = ap (λ (ws : List ℕ). set ws 2 (get_or ws 2 0)) r.words;
+        one = r.one;
+        few = r.few;
+        home = r.home;
+        free = r.free;
+        held = λ one. let h = r.held one in
+            (h.0, set_else s.views id r.holder w (λ (same : r.holder ≡ id). h.3 (let e : h.0 ≡ me.0 = some-injective h.0 me.0 (sym h.1 ∙ (ap (get_elem? s.views) same ∙ at)) in ap (λ (v : Doing O E). v.stage) e ∙ away)) ∙ h.1, h.2, h.3);
+        undrawn = r.undrawn;
+        fits = fits_set (Fits seat_of r.o r.log r.seats r.turn r.holder r.lent) s.views id w
+            (λ _. record { same_origin = f.same_origin; begins = f.begins; own = f.own; drawn = f.drawn; counts = omega arith; stage = f.stage; kept_back = f.kept_back; current = λ h. absurd (true≢false (sym h)); told = f.told; told_same = f.told_same; no_clash = f.no_clash })
+            (λ j d apart there lives. r.fits j d there lives);
+        differ = differ_as s.views id me.0 w at live refl (λ _ h. h) (λ h. absurd (true≢false (sym h))) r.differ;
+      } in (
+        w,
+        keeps,
+        tt,
+        subst (λ (b : Bool). Kept origin list seat_of (stepped s 2 (either b (old + 1) x) id me.1 w keeps)) (sym (ne_eqb x old miss)) kept,
+        rw (ne_eqb x old miss) (refl, omega arith, omega arith),
+      ))
 
   -- the list of views while a seat is split off
   pub splits : (id : ℕ) (d : Doing O E) → d.living ≡ true → d.stage ≡ Away → d.from < d.to → Splits (Kept origin list seat_of) id d (left_view d) (right_view seat_of d)
@@ -369,11 +369,11 @@ module _ {S O E : Type 0} (origin : S → O) (list : S → List E) (seat_of : E 
       let vs : List (Doing O E) = set s.views id l in
       let first = f.kept_back d.from (omega arith, some_kept) in
       let old_fits : (j : ℕ) (e : Doing O E) → get_elem? vs j ≡ some e → e.living ≡ true → Fits seat_of r.o r.log r.seats r.turn r.holder r.lent j e =
-          fits_set (Fits seat_of r.o r.log r.seats r.turn r.holder r.lent) s.views id l
-              (λ _. record { same_origin = f.same_origin; begins = f.begins; own = f.own; drawn = f.drawn; counts = f.counts; stage = f.stage; kept_back = λ n k. (let a : d.to ≤ n = k.0 in let b : n < d.to = k.1 in absurd (omega arith)); current = λ h. absurd (true≢false (sym h)); told = f.told; told_same = f.told_same; no_clash = f.no_clash })
-              (λ j e _ there lives. r.fits j e there lives) in
+      fits_set (Fits seat_of r.o r.log r.seats r.turn r.holder r.lent) s.views id l
+      (λ _. record { same_origin = f.same_origin; begins = f.begins; own = f.own; drawn = f.drawn; counts = f.counts; stage = f.stage; kept_back = λ n k. (let a : d.to ≤ n = k.0 in let b : n < d.to = k.1 in absurd (omega arith)); current = λ h. absurd (true≢false (sym h)); told = f.told; told_same = f.told_same; no_clash = f.no_clash })
+      (λ j e _ there lives. r.fits j e there lives) in
       let old_differ : (i j : ℕ) (x y : Doing O E) → i ≢ j → get_elem? vs i ≡ some x → get_elem? vs j ≡ some y → x.living ≡ true → y.living ≡ true → Differ x y =
-          differ_as s.views id d l at live refl (λ n k. (let a : d.to ≤ n = k.0 in let b : n < d.to = k.1 in absurd (omega arith))) (λ h. absurd (true≢false (sym h))) r.differ in
+      differ_as s.views id d l at live refl (λ n k. (let a : d.to ≤ n = k.0 in let b : n < d.to = k.1 in absurd (omega arith))) (λ h. absurd (true≢false (sym h))) r.differ in
       record {
         o = r.o;
         log = r.log;
@@ -407,38 +407,38 @@ module _ {S O E : Type 0} (origin : S → O) (list : S → List E) (seat_of : E 
             old_fits;
         differ = differ_end Differ vs n
             (λ j e there lives.
-                ⊎_elim
-                (λ (t : (j ≡ id) × (l ≡ e)). subst (λ (v : Doing O E). Differ n v × Differ v n) t.1 (
-                    record {
-                      numbers = λ h. first.1 h;
-                      kept_back = λ m k h. (let a : d.from + 1 ≤ m = k.0 in (f.kept_back m (omega arith, k.1)).1 h);
-                      both = λ m k q. (let a : d.to ≤ m = q.0 in let b : m < d.to = q.1 in omega arith);
-                      not_alone = λ h. absurd (true≢false (sym h));
-                    },
-                    record {
-                      numbers = λ h. first.1 (sym h);
-                      kept_back = λ m k h. (let a : d.to ≤ m = k.0 in let b : m < d.to = k.1 in omega arith);
-                      both = λ m k q. (let a : d.to ≤ m = k.0 in let b : m < d.to = k.1 in omega arith);
-                      not_alone = λ h. absurd (true≢false (sym h));
-                    },
-                  ))
-                (λ (t : (j ≢ id) × (get_elem? s.views j ≡ some e)).
-                    let one = r.differ id j d e (λ h. t.0 (sym h)) at t.1 live lives in
-                    let two = r.differ j id e d t.0 t.1 at lives live in (
-                      record {
-                        numbers = one.kept_back d.from (omega arith, some_kept);
-                        kept_back = λ m k. (let a : d.from + 1 ≤ m = k.0 in one.kept_back m (omega arith, k.1));
-                        both = λ m k. (let a : d.from + 1 ≤ m = k.0 in one.both m (omega arith, k.1));
-                        not_alone = λ h. absurd (true≢false (sym h));
-                      },
-                      record {
-                        numbers = λ h. one.kept_back d.from (omega arith, some_kept) (sym h);
-                        kept_back = λ m k h. two.both m k (let e' : m ≡ d.from = h in (omega arith, omega arith));
-                        both = λ m k q. two.both m k (let a : d.from + 1 ≤ m = q.0 in (omega arith, q.1));
-                        not_alone = two.not_alone;
-                      },
-                    ))
-                (at_set s.views id j l e there))
+            ⊎_elim
+            (λ (t : (j ≡ id) × (l ≡ e)). subst (λ (v : Doing O E). Differ n v × Differ v n) t.1 (
+              record {
+                numbers = λ h. first.1 h;
+                kept_back = λ m k h. (let a : d.from + 1 ≤ m = k.0 in (f.kept_back m (omega arith, k.1)).1 h);
+                both = λ m k q. (let a : d.to ≤ m = q.0 in let b : m < d.to = q.1 in omega arith);
+                not_alone = λ h. absurd (true≢false (sym h));
+              },
+              record {
+                numbers = λ h. first.1 (sym h);
+                kept_back = λ m k h. (let a : d.to ≤ m = k.0 in let b : m < d.to = k.1 in omega arith);
+                both = λ m k q. (let a : d.to ≤ m = k.0 in let b : m < d.to = k.1 in omega arith);
+                not_alone = λ h. absurd (true≢false (sym h));
+              },
+            ))
+            (λ (t : (j ≢ id) × (get_elem? s.views j ≡ some e)).
+            let one = r.differ id j d e (λ h. t.0 (sym h)) at t.1 live lives in
+            let two = r.differ j id e d t.0 t.1 at lives live in (
+              record {
+                numbers = one.kept_back d.from (omega arith, some_kept);
+                kept_back = λ m k. (let a : d.from + 1 ≤ m = k.0 in one.kept_back m (omega arith, k.1));
+                both = λ m k. (let a : d.from + 1 ≤ m = k.0 in one.both m (omega arith, k.1));
+                not_alone = λ h. absurd (true≢false (sym h));
+              },
+              record {
+                numbers = λ h. one.kept_back d.from (omega arith, some_kept) (sym h);
+                kept_back = λ m k h. two.both m k (let e' : m ≡ d.from = h in (omega arith, omega arith));
+                both = λ m k q. two.both m k (let a : d.from + 1 ≤ m = q.0 in (omega arith, q.1));
+                not_alone = two.not_alone;
+              },
+            ))
+            (at_set s.views id j l e there))
             old_differ;
       }
 
@@ -459,21 +459,21 @@ module _ {S O E : Type 0} (origin : S → O) (list : S → List E) (seat_of : E 
       let one = r.differ id other d e (λ h. apart (sym h)) at at_e live live_e in
       let two = r.differ other id e d apart at_e at live_e live in
       let vs_fits : (j : ℕ) (v : Doing O E) → get_elem? vs j ≡ some v → v.living ≡ true → Fits seat_of r.o r.log r.seats r.turn r.holder r.lent j v =
-          fits_set (Fits seat_of r.o r.log r.seats r.turn r.holder r.lent) s.views id both
-              (λ _. record {
-                same_origin = f.same_origin;
-                begins = longer_either (λ l. IsPrefix l r.log) d.seen e.seen f.begins g.begins;
-                own = f.own;
-                drawn = f.drawn;
-                counts = f.counts;
-                stage = reads_nothing r.turn r.holder r.lent r.log id d.seen both.seen d.stage not_out f.stage;
-                kept_back = λ n k. (let a : d.to ≤ n = k.0 in let b : n < d.to = k.1 in absurd (omega arith));
-                current = λ h. absurd (true≢false (sym h));
-                told = shorter_either (λ l. IsPrefix l r.log) d.seen e.seen f.begins g.begins;
-                told_same = g.same_origin;
-                no_clash = neither d.alone e.alone one.not_alone two.not_alone;
-              })
-              (λ j v _ in_it lives. r.fits j v in_it lives) in
+      fits_set (Fits seat_of r.o r.log r.seats r.turn r.holder r.lent) s.views id both
+      (λ _. record {
+        same_origin = f.same_origin;
+        begins = longer_either (λ l. IsPrefix l r.log) d.seen e.seen f.begins g.begins;
+        own = f.own;
+        drawn = f.drawn;
+        counts = f.counts;
+        stage = reads_nothing r.turn r.holder r.lent r.log id d.seen both.seen d.stage not_out f.stage;
+        kept_back = λ n k. (let a : d.to ≤ n = k.0 in let b : n < d.to = k.1 in absurd (omega arith));
+        current = λ h. absurd (true≢false (sym h));
+        told = shorter_either (λ l. IsPrefix l r.log) d.seen e.seen f.begins g.begins;
+        told_same = g.same_origin;
+        no_clash = neither d.alone e.alone one.not_alone two.not_alone;
+      })
+      (λ j v _ in_it lives. r.fits j v in_it lives) in
       record {
         o = r.o;
         log = r.log;
@@ -491,12 +491,12 @@ module _ {S O E : Type 0} (origin : S → O) (list : S → List E) (seat_of : E 
             let not_other : r.holder ≢ other = λ same. h.3 (let e' : h.0 ≡ e = some-injective h.0 e (sym h.1 ∙ (ap (get_elem? s.views) same ∙ at_e)) in ap (λ (v : Doing O E). v.stage) e' ∙ away) in
             dite (ℕ_discrete r.holder id)
             (λ (same : r.holder ≡ id).
-                let e' : h.0 ≡ d = some-injective h.0 d (sym h.1 ∙ (ap (get_elem? s.views) same ∙ at)) in (
-                  both,
-                  set_else vs other r.holder spent_view not_other ∙ (ap (get_elem? vs) same ∙ set_here s.views id both (at_less s.views id d at)),
-                  live,
-                  λ k. h.3 (ap (λ (v : Doing O E). v.stage) e' ∙ k),
-                ))
+            let e' : h.0 ≡ d = some-injective h.0 d (sym h.1 ∙ (ap (get_elem? s.views) same ∙ at)) in (
+              both,
+              set_else vs other r.holder spent_view not_other ∙ (ap (get_elem? vs) same ∙ set_here s.views id both (at_less s.views id d at)),
+              live,
+              λ k. h.3 (ap (λ (v : Doing O E). v.stage) e' ∙ k),
+            ))
             (λ (else : r.holder ≢ id). (h.0, set_else vs other r.holder spent_view not_other ∙ (set_else s.views id r.holder both else ∙ h.1), h.2, h.3));
         undrawn = r.undrawn;
         fits = fits_set (Fits seat_of r.o r.log r.seats r.turn r.holder r.lent) vs other spent_view (λ lives. absurd (true≢false (sym lives))) (λ j v _ in_it lives. vs_fits j v in_it lives);
@@ -611,15 +611,15 @@ module _ {S O E : Type 0} where
       let won = subst (λ (b : Bool). MatchBool b ((me' ≡ (record me.0 { alone = false; counted = n + 1; from = n; to = n + 1 }, me.1)) × (by_seat seat_of n me.0.seen ≡ []) × (me.0.counted ≤ n)) ((me' ≡ (record me.0 { alone = false; counted = n }, me.1)) × (me.0.counted ≤ n) × (n ≤ 4294967295))) hit told in
       ⊎_elim
       (λ (same : me ≡ m). (
-          won.0 ∙ ap (λ (x : Me (Option S) (Doing O E)). (record x.0 { alone = false; counted = n + 1; from = n; to = n + 1 }, x.1)) same,
-          subst (λ (x : Me (Option S) (Doing O E)). by_seat seat_of n x.0.seen ≡ []) same won.1,
-          subst (λ (x : Me (Option S) (Doing O E)). x.0.counted ≤ n) same won.2,
-        ))
+        won.0 ∙ ap (λ (x : Me (Option S) (Doing O E)). (record x.0 { alone = false; counted = n + 1; from = n; to = n + 1 }, x.1)) same,
+        subst (λ (x : Me (Option S) (Doing O E)). by_seat seat_of n x.0.seen ≡ []) same won.1,
+        subst (λ (x : Me (Option S) (Doing O E)). x.0.counted ≤ n) same won.2,
+      ))
       (λ (t : (k : ℕ) × (me ≡ (record m.0 { alone = false; counted = k }, m.1)) × (m.0.counted ≤ k)). (
-          won.0 ∙ ap (λ (x : Me (Option S) (Doing O E)). (record x.0 { alone = false; counted = n + 1; from = n; to = n + 1 }, x.1)) t.1,
-          subst (λ (x : Me (Option S) (Doing O E)). by_seat seat_of n x.0.seen ≡ []) t.1 won.1,
-          (let k : t.0 ≤ n = subst (λ (x : Me (Option S) (Doing O E)). x.0.counted ≤ n) t.1 won.2 in let j : m.0.counted ≤ t.0 = t.2 in omega arith),
-        ))
+        won.0 ∙ ap (λ (x : Me (Option S) (Doing O E)). (record x.0 { alone = false; counted = n + 1; from = n; to = n + 1 }, x.1)) t.1,
+        subst (λ (x : Me (Option S) (Doing O E)). by_seat seat_of n x.0.seen ≡ []) t.1 won.1,
+        (let k : t.0 ≤ n = subst (λ (x : Me (Option S) (Doing O E)). x.0.counted ≤ n) t.1 won.2 in let j : m.0.counted ≤ t.0 = t.2 in omega arith),
+      ))
       tried
 
   pub tried_miss : (seat_of : E → ℕ) (slots old : ℕ) (m me me' : Me (Option S) (Doing O E)) (n : ℕ) → after_try m me → drew seat_of (step slots 2 old (old + 1) none) me n me' → eqb n old ≡ false
@@ -628,13 +628,13 @@ module _ {S O E : Type 0} where
       let lost = subst (λ (b : Bool). MatchBool b ((me' ≡ (record me.0 { alone = false; counted = n + 1; from = n; to = n + 1 }, me.1)) × (by_seat seat_of n me.0.seen ≡ []) × (me.0.counted ≤ n)) ((me' ≡ (record me.0 { alone = false; counted = n }, me.1)) × (me.0.counted ≤ n) × (n ≤ 4294967295))) miss told in
       ⊎_elim
       (λ (same : me ≡ m). (
-          lost.0 ∙ ap (λ (x : Me (Option S) (Doing O E)). (record x.0 { alone = false; counted = n }, x.1)) same,
-          subst (λ (x : Me (Option S) (Doing O E)). x.0.counted ≤ n) same lost.1,
-          lost.2,
-        ))
+        lost.0 ∙ ap (λ (x : Me (Option S) (Doing O E)). (record x.0 { alone = false; counted = n }, x.1)) same,
+        subst (λ (x : Me (Option S) (Doing O E)). x.0.counted ≤ n) same lost.1,
+        lost.2,
+      ))
       (λ (t : (k : ℕ) × (me ≡ (record m.0 { alone = false; counted = k }, m.1)) × (m.0.counted ≤ k)). (
-          lost.0 ∙ ap (λ (x : Me (Option S) (Doing O E)). (record x.0 { alone = false; counted = n }, x.1)) t.1,
-          (let k : t.0 ≤ n = subst (λ (x : Me (Option S) (Doing O E)). x.0.counted ≤ n) t.1 lost.1 in let j : m.0.counted ≤ t.0 = t.2 in omega arith),
-          lost.2,
-        ))
+        lost.0 ∙ ap (λ (x : Me (Option S) (Doing O E)). (record x.0 { alone = false; counted = n }, x.1)) t.1,
+        (let k : t.0 ≤ n = subst (λ (x : Me (Option S) (Doing O E)). x.0.counted ≤ n) t.1 lost.1 in let j : m.0.counted ≤ t.0 = t.2 in omega arith),
+        lost.2,
+      ))
       tried

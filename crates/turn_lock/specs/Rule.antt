@@ -1,6 +1,6 @@
 -- The rule of a turn over its three words, the value's place and what the seats know, and what each step tells.
 -- The words are the turn (1 while a seat holds it), the length of the stored list, and how many seat numbers were drawn.
-use Rattle.std.specs.Prelude.{◌≡◌, ◌≢◌, ◌⊎◌, ℕ, ◌+◌, ◌<◌, ◌≤◌, ◌==◌, ◌||◌, List, ◌++◌, [], ◌∷◌, length, Bool, true, false, Option, Some, None, if◌then◌else◌, MatchBool}
+use Rattle.std.specs.Prelude.{◌≡◌, ◌≢◌, ◌⊎◌, ℕ, ◌+◌, ◌<◌, ◌≤◌, ◌==◌, ◌||◌, List, [], ◌∷◌, length, Bool, true, false, Option, Some, None, if◌then◌else◌, MatchBool}
 use mathlib.Core.Option.{some, none}
 use mathlib.Core.Option as maybe
 use mathlib.Core.List.{IsPrefix}

@@ -1,5 +1,5 @@
 -- What the holder of a seat knows, and what it may do.
-use Rattle.std.specs.Prelude.{◌≡◌, ℕ, ◌+◌, ◌<◌, ◌==◌, List, ◌++◌, [], ◌∷◌, length, Bool, true, false, Option, Some, None, All, if◌then◌else◌}
+use Rattle.std.specs.Prelude.{◌≡◌, ℕ, ◌+◌, ◌==◌, List, ◌++◌, [], length, Bool, true, false, Option, Some, All, if◌then◌else◌}
 use Rattle.std.proofs.Math.Dec.{ltb}
 use Rattle.std.specs.List.{filter}
 use mathlib.Core.List.{IsPrefix}

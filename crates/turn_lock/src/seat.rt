@@ -1,3 +1,5 @@
+ghost use Rattle.std.specs.Prelude.{◌≡◌};
+
 use crate::rule::Doing;
 use atomic_table::Badge;
 use std::marker::Model;
@@ -22,4 +24,13 @@ impl<O, E> Model for Seat<O, E> {
     ghost view = { λ s. sight s.badge.table_id s.badge.views };
 
     ghost invariant = { λ s. Rests s.number s.badge.views };
+}
+
+impl<O, E> Seat<O, E> {
+    /// The seat's number, which `with_change` hands to its closure.
+    pub fn number(&self) -> u32
+        ensures { result ≡ self.now.number }
+    {
+        self.number
+    }
 }

@@ -83,11 +83,7 @@ pub(crate) fn give_back<S: Standing>(top: &Top<S>, place: &mut Place<S>, value: 
 }
 
 /// Draws a number for a new seat, or finds that all were drawn.
-pub(crate) fn draw<S: Standing, W: Wait>(
-    rt: &W,
-    top: &Top<S>,
-    place: &mut Place<S>,
-) -> Option<u32>
+pub(crate) fn draw<S: Standing, W: Wait>(rt: &W, top: &Top<S>, place: &mut Place<S>) -> Option<u32>
     requires { IsSeatOf top.now.table_id place.old × IsAtRest place.old.me.0 × (place.old.me.1 ≡ []) }
     ensures same { IsSameSeat place.old place.new }
     ensures drawn { MatchOption result ((place.new.me ≡ (record place.old.me.0 { alone = false; counted = 4294967295 }, [])) × (place.old.me.0.counted ≤ 4294967295)) (λ n. (place.new.me ≡ (record place.old.me.0 { alone = false; counted = n + 1; from = n; to = n + 1 }, [])) × (by_seat S.seat_of n place.old.me.0.seen ≡ []) × (place.old.me.0.counted ≤ n) × (n < 4294967295)) }

@@ -63,6 +63,7 @@ impl<S: Standing> Turn<S> {
     ) -> Result<(Turn<S>, Vec<Seat<S::Origin, S::Entry>>), NoMemory>
         requires some { 0 < seats }
         requires numbers { All (λ e. S.seat_of e < seats) (S.list value) }
+        ensures own { IfOk result (λ r. All (λ s. s.turn ≡ r.0) r.1.items) }
         ensures count { IfOk result (λ r. length r.1.items ≡ seats) }
         ensures each { IfOk result (λ r. (k : ℕ) → k < seats → slice_get r.1.items k ≡ Some (first_sight S.origin S.list S.seat_of r.0 value seats k)) }
     {

@@ -1,4 +1,4 @@
-use Rattle.std.proofs.Common.{rules, ap, sym, ◌∙◌, arith}
+use Rattle.std.proofs.Common.{rules}
 use Rattle.turn_lock.proofs.Turning.{draws_as}
 use Rattle.turn_lock.proofs.steps.draw.Goals as goal
 

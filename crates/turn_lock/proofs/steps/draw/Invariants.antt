@@ -1,4 +1,4 @@
-use Rattle.std.proofs.Common.{◌≡◌, ℕ, ◌<◌, ◌≤◌}
+use Rattle.std.proofs.Common.{◌<◌}
 use Rattle.turn_lock.specs.Rule.{IsSameSeat, after_try}
 use Rattle.turn_lock.proofs.steps.draw.Given as goal
 

@@ -1,4 +1,4 @@
-use Rattle.std.proofs.Common.{rules, ap, sym, ◌∙◌, None}
+use Rattle.std.proofs.Common.{rules, None}
 use Rattle.turn_lock.proofs.Turning.{gives_turn_as}
 use Rattle.turn_lock.proofs.steps.give_back.Goals as goal
 

@@ -1,5 +1,4 @@
-use Rattle.std.proofs.Common.{rules, refl, ap, sym, ◌∙◌, [], ◌++◌, ◌≡◌, true≢false, All, subst, ◌<◌, ℕ, length, arith}
-use mathlib.Core.List.{IsPrefix}
+use Rattle.std.proofs.Common.{rules, ap, sym, ◌∙◌, ◌++◌, ◌≡◌, true≢false, All, subst, arith}
 use Rattle.std.proofs.lemmas.List.Elements.{All-pop}
 use Rattle.turn_lock.specs.Rule.{WasJoined}
 use Rattle.turn_lock.proofs.Prefixes.{prefix_trans}

@@ -1,4 +1,4 @@
-use Rattle.std.proofs.Common.{rules, ap, sym, ◌∙◌, Some}
+use Rattle.std.proofs.Common.{rules, Some}
 use Rattle.turn_lock.proofs.Turning.{looks, holding}
 use Rattle.turn_lock.proofs.steps.take_out.Goals as goal
 

@@ -1,4 +1,4 @@
-use Rattle.std.proofs.Common.{rules, refl, ap, sym, ◌∙◌, ◌≡◌, subst, Some, get_or}
+use Rattle.std.proofs.Common.{refl, ap, sym, ◌∙◌, ◌≡◌, subst, get_or}
 use Rattle.std.specs.Prelude.{IsSome}
 use mathlib.Core.Option.{some-injective}
 use Rattle.turn_lock.specs.Seats.{Reaches}

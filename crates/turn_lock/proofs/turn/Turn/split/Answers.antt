@@ -1,4 +1,4 @@
-use Rattle.std.proofs.Common.{rules, ap, sym, ◌∙◌, [], arith, ◌<◌}
+use Rattle.std.proofs.Common.{rules, ap}
 use Rattle.turn_lock.proofs.Turning.{splits_as}
 use Rattle.turn_lock.proofs.turn.Turn.split.Goals as goal
 

@@ -1,4 +1,4 @@
-use Rattle.std.proofs.Common.{rules, ap, sym, ◌∙◌, []}
+use Rattle.std.proofs.Common.{rules, ap, sym, ◌∙◌}
 use Rattle.turn_lock.proofs.Shown.{seat_meets, seat_read}
 use Rattle.turn_lock.proofs.turn.Turn.with_read.Goals as goal
 
