@@ -1,14 +1,17 @@
 -- What a seat shows before and after a call, by what its view was at each step.
-use Rattle.std.proofs.Common.{◌≡◌, ℕ, ◌+◌, ◌<◌, List, [], ◌∷◌, ◌++◌, length, true, false, true≢false, Option, Some, refl, sym, ap, ◌∙◌, subst, arith}
+use Rattle.std.proofs.Common.{zero, suc, ◌≡◌, ℕ, ◌+◌, ◌<◌, List, [], ◌∷◌, ◌++◌, length, true, false, true≢false, Option, Some, refl, sym, ap, ◌∙◌, subst, arith}
 use Rattle.std.specs.List.{All}
 use mathlib.Core.List.{IsPrefix}
 use denote.Ref.{MutBor}
 use denote.Param.Members.{Once}
+use lib.ListN.{get_elem?}
+use mathlib.Core.Option.{some}
 use Rattle.atomic_table.specs.Seated.{TableId}
+use Rattle.turn_lock.proofs.Keeps.{at_back}
 use Rattle.turn_lock.specs.declared.rule.Doing.{Doing}
 use Rattle.turn_lock.specs.declared.rule.Stage.TheVariants.{Away, Holds, Out}
-use Rattle.turn_lock.specs.Seats.{by_seat, Sight, Meets, Adds, Reaches, sees, TakesChange, GivesChange}
-use Rattle.turn_lock.specs.Rule.{staged, no_turn, sight_of, sight, joined_view, IsHolding, IsSameWork, WasJoined}
+use Rattle.turn_lock.specs.Seats.{by_seat, Sight, Meets, Adds, sees, TakesChange, GivesChange}
+use Rattle.turn_lock.specs.Rule.{IsKin, staged, no_turn, sight_of, sight, joined_view, IsHolding, IsSameWork, WasJoined}
 use Rattle.std.specs.Prelude.{slice_get}
 use Rattle.std.proofs.Common.{zero, suc, append_assoc, get_or}
 use Rattle.std.specs.List.{remove}
@@ -68,14 +71,17 @@ module _ {O E : Type 0} where
       ap (λ (v : Doing O E). v.number) out ∙ (ap (λ (v : Doing O E). v.number) took ∙ sym (shows_number s z views d d.number is only refl))
 
   -- one more seat was joined
-  pub joined_more : (o : Option O) (p q : List E) (items rest done all : List (Sight O E)) (s : Sight O E) → all ≡ items ++ done → items ≡ rest ++ s ∷ [] → IsPrefix p q → All (WasJoined o p) done → WasJoined o q s
-      → (now : List (Sight O E)) × (all ≡ rest ++ now) × All (WasJoined o q) now
-  joined_more o p q items rest done all s are last grown old here =
+  pub joined_more : (o : Option O) (p q : List E) (kin mine now : List (ℕ × List E)) (k : ℕ × List E) (items rest done all : List (Sight O E)) (s : Sight O E) → all ≡ items ++ done → items ≡ rest ++ s ∷ [] → IsPrefix p q → now ≡ k ∷ (mine ++ kin) → All (WasJoined o p kin) done → WasJoined o q now s
+      → (after : List (Sight O E)) × (all ≡ rest ++ after) × All (WasJoined o q now) after
+  joined_more o p q kin mine now k items rest done all s are last grown now_is old here =
       (s ∷ done, are ∙ (ap (λ l. l ++ done) last ∙ append_assoc rest (s ∷ []) done), each)
     where
-      each : All (WasJoined o q) (s ∷ done)
+      still : (a : ℕ × List E) → (i : ℕ) × (get_elem? kin i ≡ some a) → (i : ℕ) × (get_elem? now i ≡ some a)
+      still a t = let r = at_back mine kin t.0 a t.1 in (suc r.0, ap (λ l. get_elem? l (suc r.0)) now_is ∙ r.1)
+
+      each : All (WasJoined o q now) (s ∷ done)
       each zero d l = here
-      each (suc k) d l = let w = old k d (omega arith) in (w.0, prefix_trans _ p q w.1 grown, w.2)
+      each (suc n) d l = let w = old n d (omega arith) in (w.0, prefix_trans _ p q w.1 grown, w.2, still _ w.3)
 
 module _ {S O E : Type 0} where
   pub holding_after : (m m' : Me (Option S) (Doing O E)) (e : Doing O E) → m' ≡ (joined_view m.0 e, m.1) → IsHolding m → IsHolding m'
@@ -94,10 +100,11 @@ module _ {S O E : Type 0} where
 
 module _ {O E : Type 0} where
   -- a seat that was joined
-  pub was_joined : (o : Option O) (d e : Doing O E) (s : Sight O E) (z : TableId) (views : List (Doing O E)) (seen : List E) → sight z views ≡ s → views ≡ e ∷ [] → e.origin ≡ d.origin → d.origin ≡ o → IsPrefix e.seen seen → e.alone ≡ false → WasJoined o seen s
-  was_joined o d e s z views seen is only same origin_is begins beside =
+  pub was_joined : (o : Option O) (d e : Doing O E) (s : Sight O E) (z : TableId) (views : List (Doing O E)) (seen : List E) (now others : List (ℕ × List E)) → sight z views ≡ s → views ≡ e ∷ [] → e.origin ≡ d.origin → d.origin ≡ o → IsPrefix e.seen seen → e.alone ≡ false → now ≡ (e.number, e.mine) ∷ others → WasJoined o seen now s
+  was_joined o d e s z views seen now others is only same origin_is begins beside now_is =
       let shown = shows_view s z views e is only in
-      subst (λ (t : Sight O E). WasJoined o seen t) (sym shown) (same ∙ origin_is, begins, beside)
+      let here : WasJoined o seen now (sight_of z e) = (same ∙ origin_is, begins, beside, (0, ap (λ l. get_elem? l 0) now_is)) in
+      subst (λ (t : Sight O E). WasJoined o seen now t) (sym shown) here
 
 module _ {A : Type 0} where
   pub none_left : (xs : List A) → (0 < length xs → ⊥) → xs ≡ []
@@ -126,19 +133,20 @@ module _ {A : Type 0} where
 
 module _ {S O E : Type 0} (origin : S → O) (list : S → List E) (seat_of : E → ℕ) where
   -- the value that is handed out, for the seat that took the turn
-  pub reaches_first : (s : Sight O E) (z : TableId) (views : List (Doing O E)) (d t f : Doing O E) (y : S) → sight z views ≡ s → views ≡ d ∷ [] → t ≡ staged Holds d → IsSameWork t f → IsPrefix t.seen f.seen → (t.alone ≡ true → f ≡ t)
-      → Meets origin list seat_of (sight_of no_turn f) y → Reaches origin list s y
-  reaches_first s z views d t f y is only took work grown alone met =
-      let at_t : Reaches origin list (sight_of z t) y = (
+  pub meets_first : (s : Sight O E) (z : TableId) (views : List (Doing O E)) (d t f : Doing O E) (y : S) → sight z views ≡ s → views ≡ d ∷ [] → t ≡ staged Holds d → IsSameWork t f → IsPrefix t.seen f.seen → (t.alone ≡ true → f ≡ t)
+      → Meets origin list seat_of (sight_of no_turn f) y → Meets origin list seat_of s y
+  meets_first s z views d t f y is only took work grown alone met =
+      let at_t : Meets origin list seat_of (sight_of z t) y = (
         sym work.1 ∙ met.0,
         prefix_trans t.seen f.seen (list y) grown met.1,
+        ap (λ n. by_seat seat_of n (list y)) (sym work.0) ∙ (met.2 ∙ work.2),
         λ h. (let e = alone h in met.3 (ap (λ (v : Doing O E). v.alone) e ∙ h) ∙ ap (λ (v : Doing O E). v.seen) e),
       ) in
-      let at_d : Reaches origin list (sight_of z d) y = subst (λ (v : Doing O E). Reaches origin list (sight_of z v) y) took at_t in
-      subst (λ (u : Sight O E). Reaches origin list u y) (sym (shows_view s z views d is only)) at_d
+      let at_d : Meets origin list seat_of (sight_of z d) y = subst (λ (v : Doing O E). Meets origin list seat_of (sight_of z v) y) took at_t in
+      subst (λ (u : Sight O E). Meets origin list seat_of u y) (sym (shows_view s z views d is only)) at_d
 
   -- and for those that were joined to it
-  pub reaches_others : (seats : List (Sight O E)) (t f : Doing O E) (y : S) → IsSameWork t f → All (WasJoined t.origin f.seen) seats → Meets origin list seat_of (sight_of no_turn f) y → All (λ s. Reaches origin list s y) seats
-  reaches_others seats t f y work joined met k d l =
+  pub meets_others : (seats : List (Sight O E)) (t f : Doing O E) (y : S) → IsSameWork t f → All (WasJoined t.origin f.seen f.kin) seats → Meets origin list seat_of (sight_of no_turn f) y → ((k : ℕ × List E) → IsKin f k → by_seat seat_of k.0 (list y) ≡ k.1) → All (λ s. Meets origin list seat_of s y) seats
+  meets_others seats t f y work joined met kin k d l =
       let w = joined k d l in
-      (w.0 ∙ (sym work.1 ∙ met.0), prefix_trans _ f.seen (list y) w.1 met.1, λ h. absurd (true≢false (sym h ∙ w.2)))
+      (w.0 ∙ (sym work.1 ∙ met.0), prefix_trans _ f.seen (list y) w.1 met.1, kin _ w.3, λ h. absurd (true≢false (sym h ∙ w.2)))

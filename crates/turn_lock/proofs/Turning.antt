@@ -1,5 +1,5 @@
 -- Each step of a turn keeps its rule.
-use Rattle.std.proofs.Common.{◌≡◌, ◌≢◌, ⊎_elim, ℕ, zero, suc, ◌+◌, ◌<◌, ◌≤◌, eqb, eq-eqb, ne_eqb, List, [], ◌∷◌, ◌++◌, length, get_or, set, Bool, true, false, ◌||◌, true≢false, Option, Some, refl, sym, ap, ◌∙◌, subst, arith}
+use Rattle.std.proofs.Common.{inr, inl, ◌⊎◌, ◌≡◌, ◌≢◌, ⊎_elim, ℕ, zero, suc, ◌+◌, ◌<◌, ◌≤◌, eqb, eq-eqb, ne_eqb, List, [], ◌∷◌, ◌++◌, length, get_or, set, Bool, true, false, ◌||◌, true≢false, Option, Some, refl, sym, ap, ◌∙◌, subst, arith}
 use Rattle.std.proofs.lemmas.List.{append-nil}
 use Rattle.std.specs.Prelude.{MatchBool}
 use Rattle.std.specs.List.{All}
@@ -17,17 +17,9 @@ use Rattle.turn_lock.specs.declared.rule.Doing.{Doing}
 use Rattle.turn_lock.specs.declared.rule.Stage.{Stage}
 use Rattle.turn_lock.specs.declared.rule.Stage.TheVariants.{Away, Holds, Out}
 use Rattle.turn_lock.specs.Seats.{by_seat, Meets}
-use Rattle.turn_lock.specs.Rule.{AtHome, FitsStage, Fits, Differ, Kept, first_view, dealer_view, spent_view, staged, left_view, right_view, joined_view, no_turn, sight_of, took, looked, wrote, gave_back, drew, compared, after_try}
+use Rattle.turn_lock.specs.Rule.{Reserves, IsKin, AtHome, FitsStage, Fits, Differ, Kept, first_view, dealer_view, spent_view, staged, left_view, right_view, joined_view, no_turn, sight_of, took, looked, wrote, gave_back, drew, compared, after_try}
 use Rattle.turn_lock.proofs.Prefixes.{prefix_self, prefix_nil, prefix_grows, prefix_shorter, longer_either, shorter_either, by_seat-append, by_seat-prefix, by_seat-other, by_seat-below}
-use Rattle.turn_lock.proofs.Keeps.{fits_set, differ_set, fits_end, differ_end, refit, refit_same, away_stage, other_away, free_away, differ_as, at_less, holds_away, out_away}
-
-module _ {S O E : Type 0} where
-  kept_views : (m me : Me (Option S) (Doing O E)) → after_try m me → (me.0.living ≡ m.0.living) × (me.0.stage ≡ m.0.stage)
-  kept_views m me tried =
-      ⊎_elim
-      (λ (same : me ≡ m). (ap (λ (x : Me (Option S) (Doing O E)). x.0.living) same, ap (λ (x : Me (Option S) (Doing O E)). x.0.stage) same))
-      (λ (t : (k : ℕ) × (me ≡ (record m.0 { alone = false; counted = k }, m.1)) × (m.0.counted ≤ k)). (ap (λ (x : Me (Option S) (Doing O E)). x.0.living) t.1, ap (λ (x : Me (Option S) (Doing O E)). x.0.stage) t.1))
-      tried
+use Rattle.turn_lock.proofs.Keeps.{fits_set, differ_set, fits_end, differ_end, refit, refit_same, away_stage, other_away, free_away, differ_as, at_less, holds_away, out_away, at_append, differ_two}
 
 module _ {S O E : Type 0} (origin : S → O) (list : S → List E) (seat_of : E → ℕ) where
   -- a step that changes no word, and the view only in what the rule does not read
@@ -62,11 +54,11 @@ module _ {S O E : Type 0} (origin : S → O) (list : S → List E) (seat_of : E 
         held = λ _. (w, set_here s.views id w (at_less s.views id me.0 at), live, holds_away);
         undrawn = r.undrawn;
         fits = fits_set (Fits seat_of r.o r.log r.seats 1 id false) s.views id w
-            (λ _. let f = r.fits id me.0 at live in record { same_origin = f.same_origin; begins = f.begins; own = f.own; drawn = f.drawn; counts = f.counts; stage = (refl, refl, refl); kept_back = f.kept_back; current = f.current; told = f.told; told_same = f.told_same; no_clash = f.no_clash })
+            (λ _. let f = r.fits id me.0 at live in record { same_origin = f.same_origin; begins = f.begins; own = f.own; drawn = f.drawn; counts = f.counts; stage = (refl, refl, refl); kept_back = f.kept_back; current = f.current; told = f.told; told_same = f.told_same; kin = f.kin; no_clash = f.no_clash })
             (λ j d _ there lives. let f = r.fits j d there lives in
             refit_same seat_of r.o r.log r.seats r.seats r.turn 1 r.holder id r.lent false j d f (omega arith)
             (away_stage 1 id false r.log j d.seen d.stage (free_away r.turn r.holder r.lent r.log j d.seen d.stage f.stage free)));
-        differ = differ_as s.views id me.0 w at live refl (λ _ h. h) (λ h. h) r.differ;
+        differ = differ_as s.views id me.0 w at live refl (λ _ h. h) (λ _ h. h) (λ h. h) r.differ;
       } in (
         w,
         keeps,
@@ -125,12 +117,13 @@ module _ {S O E : Type 0} (origin : S → O) (list : S → List E) (seat_of : E 
                 current = λ _. same;
                 told = f.told;
                 told_same = f.told_same;
+                kin = f.kin;
                 no_clash = f.no_clash;
               })
               (λ j d apart there lives. let g = r.fits j d there lives in
               refit_same seat_of r.o r.log r.seats r.seats r.turn r.turn r.holder r.holder r.lent true j d g (omega arith)
               (away_stage r.turn r.holder true r.log j d.seen d.stage (others_away s r id j d mine.0 apart there lives)));
-          differ = differ_as s.views id me.0 w at live refl (λ _ h. h) (λ h. h) r.differ;
+          differ = differ_as s.views id me.0 w at live refl (λ _ h. h) (λ _ h. h) (λ h. h) r.differ;
         },
         (
           y,
@@ -184,15 +177,17 @@ module _ {S O E : Type 0} (origin : S → O) (list : S → List E) (seat_of : E 
                 current = λ _. refl;
                 told = prefix_grows me.0.told r.log added now f.told grows;
                 told_same = f.told_same;
+                kin = λ k h. let b = f.kin k h in (b.0, b.1, b.2, of k.0 b.1 ∙ b.3);
                 no_clash = f.no_clash;
               })
               (λ j d apart there lives. let g = r.fits j d there lives in let other = r.differ j id d me.0 apart there at lives live in
               refit seat_of r.o r.log now added r.seats r.seats r.turn r.turn r.holder r.holder r.lent r.lent j d g grows (omega arith)
               (by_seat-other seat_of me.0.number d.number added own_all other.numbers)
               (λ n k. by_seat-other seat_of me.0.number n added own_all (other.kept_back n k))
+              (λ k h. by_seat-other seat_of me.0.number k.0 added own_all (other.kin k h).0)
               (λ alone. absurd (other.not_alone alone))
               (away_stage r.turn r.holder r.lent now j d.seen d.stage (others_away s r id j d mine.0 apart there lives)));
-          differ = differ_as s.views id me.0 w at live refl (λ _ h. h) (λ h. h) r.differ;
+          differ = differ_as s.views id me.0 w at live refl (λ _ h. h) (λ _ h. h) (λ h. h) r.differ;
         },
         refl,
       )
@@ -229,11 +224,11 @@ module _ {S O E : Type 0} (origin : S → O) (list : S → List E) (seat_of : E 
           held = λ z. absurd (omega arith);
           undrawn = r.undrawn;
           fits = fits_set (Fits seat_of r.o r.log r.seats 0 r.holder false) s.views id w
-              (λ _. record { same_origin = f.same_origin; begins = f.begins; own = f.own; drawn = f.drawn; counts = f.counts; stage = tt; kept_back = f.kept_back; current = f.current; told = f.told; told_same = f.told_same; no_clash = f.no_clash })
+              (λ _. record { same_origin = f.same_origin; begins = f.begins; own = f.own; drawn = f.drawn; counts = f.counts; stage = tt; kept_back = f.kept_back; current = f.current; told = f.told; told_same = f.told_same; kin = f.kin; no_clash = f.no_clash })
               (λ j d apart there lives. let g = r.fits j d there lives in
               refit_same seat_of r.o r.log r.seats r.seats r.turn 0 r.holder r.holder r.lent false j d g (omega arith)
               (away_stage 0 r.holder false r.log j d.seen d.stage (others_away s r id j d mine.0 apart there lives)));
-          differ = differ_as s.views id me.0 w at live refl (λ _ h. h) (λ h. h) r.differ;
+          differ = differ_as s.views id me.0 w at live refl (λ _ h. h) (λ _ h. h) (λ h. h) r.differ;
         },
         refl,
       )
@@ -250,331 +245,6 @@ module _ {S O E : Type 0} (origin : S → O) (list : S → List E) (seat_of : E 
         (refl, f.no_clash, f.told_same ∙ sym f.same_origin, λ less. prefix_shorter me.0.told me.0.seen r.log f.told f.begins less),
       )
 
-  -- a stage other than `Out` does not read what the seat has seen
-  reads_nothing : (turn holder : ℕ) (lent : Bool) (log : List E) (j : ℕ) (seen now : List E) (stage : Stage) → stage ≢ Out → FitsStage turn holder lent log j seen stage → FitsStage turn holder lent log j now stage
-  reads_nothing turn holder lent log j seen now Away apart f = tt
-  reads_nothing turn holder lent log j seen now Holds apart f = f
-  reads_nothing turn holder lent log j seen now Out apart f = absurd (apart refl)
-
-  -- a seat draws the next number, or sees how many are drawn
-  pub draws : (slots id old : ℕ) (me : Me (Option S) (Doing O E)) → me.0.living ≡ true → me.0.stage ≡ Away → old < 4294967295
-      → Allows (Kept origin list seat_of) slots id me 2 (λ n. either (eqb n old) (old + 1) n) (drew seat_of (step slots 2 old (old + 1) none) me)
-  draws slots id old me live away room s r _ at _ =
-      let x : ℕ = get_or s.words 2 0 in
-      let is : x ≡ r.seats = ap (λ ws. get_or ws 2 0) r.words in
-      let f = r.fits id me.0 at live in
-      let counts : me.0.counted ≤ r.seats = f.counts in
-      let number : me.0.number < r.seats = f.drawn in
-      let few : r.seats ≤ 4294967295 = r.few in
-      dite (ℕ_discrete x old)
-      (λ (hit : x ≡ old).
-      let w : Doing O E = record me.0 { alone = false; counted = x + 1; from = x; to = x + 1 } in
-      let now : r.seats ≡ old = sym is ∙ hit in
-      let none_yet : by_seat seat_of x r.log ≡ [] = r.undrawn x (omega arith) in
-      let none_seen : by_seat seat_of x me.0.seen ≡ [] = by_seat-prefix seat_of x me.0.seen r.log f.begins none_yet in
-      let kept : Kept origin list seat_of (stepped s 2 (old + 1) id me.1 w keeps) = record {
-        o = r.o;
-        log = r.log;
-        turn = r.turn;
-        seats = old + 1;
-        holder = r.holder;
-        lent = r.lent;
-        words = ap (λ (ws : List ℕ). set ws 2 (old + 1)) r.words;
-        one = r.one;
-        few = omega arith;
-        home = r.home;
-        free = r.free;
-        held = λ one. let h = r.held one in
-            (h.0, set_else s.views id r.holder w (λ (same : r.holder ≡ id). h.3 (let e : h.0 ≡ me.0 = some-injective h.0 me.0 (sym h.1 ∙ (ap (get_elem? s.views) same ∙ at)) in ap (λ (v : Doing O E). v.stage) e ∙ away)) ∙ h.1, h.2, h.3);
-        undrawn = λ n above. r.undrawn n (omega arith);
-        fits = fits_set (Fits seat_of r.o r.log (old + 1) r.turn r.holder r.lent) s.views id w
-            (λ _. record {
-              same_origin = f.same_origin;
-              begins = f.begins;
-              own = f.own;
-              drawn = omega arith;
-              counts = omega arith;
-              stage = f.stage;
-              kept_back = λ n k. let e : n ≡ x = (let a : x ≤ n = k.0 in let b : n < x + 1 = k.1 in omega arith) in
-                  (omega arith, (λ h. omega arith), subst (λ (m : ℕ). by_seat seat_of m r.log ≡ by_seat seat_of m me.0.seen) (sym e) (none_yet ∙ sym none_seen));
-              current = λ h. absurd (true≢false (sym h));
-              told = f.told;
-              told_same = f.told_same;
-              no_clash = f.no_clash;
-            })
-            (λ j d apart there lives. let g = r.fits j d there lives in
-            refit_same seat_of r.o r.log r.seats (old + 1) r.turn r.turn r.holder r.holder r.lent r.lent j d g (omega arith) g.stage);
-        differ = differ_set Differ s.views id w
-            (λ j e apart there lives _.
-            let g = r.fits j e there lives in
-            let below : e.number < r.seats = g.drawn in
-            let one = r.differ id j me.0 e (λ h. apart (sym h)) at there live lives in
-            let two = r.differ j id e me.0 apart there at lives live in (
-              record {
-                numbers = one.numbers;
-                kept_back = λ n k h. (let a : x ≤ n = k.0 in let b : n ≡ e.number = h in omega arith);
-                both = λ n k q. (let a : x ≤ n = k.0 in let b : n < r.seats = (g.kept_back n q).0 in absurd (omega arith));
-                not_alone = λ h. absurd (true≢false (sym h));
-              },
-              record {
-                numbers = two.numbers;
-                kept_back = two.kept_back;
-                both = λ n q k. (let a : x ≤ n = k.0 in let b : n < r.seats = (g.kept_back n q).0 in absurd (omega arith));
-                not_alone = two.not_alone;
-              },
-            ))
-            r.differ;
-      } in (
-        w,
-        keeps,
-        tt,
-        subst (λ (b : Bool). Kept origin list seat_of (stepped s 2 (either b (old + 1) x) id me.1 w keeps)) (sym (eq-eqb x old hit)) kept,
-        rw (eq-eqb x old hit) (refl, none_seen, omega arith),
-      ))
-      (λ (miss : x ≢ old).
-      let w : Doing O E = record me.0 { alone = false; counted = x } in
-      let kept : Kept origin list seat_of (stepped s 2 x id me.1 w keeps) = record {
-        o = r.o;
-        log = r.log;
-        turn = r.turn;
-        seats = r.seats;
-        holder = r.holder;
-        lent = r.lent;
-        words = ap (λ (ws : List ℕ). set ws 2 (get_or ws 2 0)) r.words;
-        one = r.one;
-        few = r.few;
-        home = r.home;
-        free = r.free;
-        held = λ one. let h = r.held one in
-            (h.0, set_else s.views id r.holder w (λ (same : r.holder ≡ id). h.3 (let e : h.0 ≡ me.0 = some-injective h.0 me.0 (sym h.1 ∙ (ap (get_elem? s.views) same ∙ at)) in ap (λ (v : Doing O E). v.stage) e ∙ away)) ∙ h.1, h.2, h.3);
-        undrawn = r.undrawn;
-        fits = fits_set (Fits seat_of r.o r.log r.seats r.turn r.holder r.lent) s.views id w
-            (λ _. record { same_origin = f.same_origin; begins = f.begins; own = f.own; drawn = f.drawn; counts = omega arith; stage = f.stage; kept_back = f.kept_back; current = λ h. absurd (true≢false (sym h)); told = f.told; told_same = f.told_same; no_clash = f.no_clash })
-            (λ j d apart there lives. r.fits j d there lives);
-        differ = differ_as s.views id me.0 w at live refl (λ _ h. h) (λ h. absurd (true≢false (sym h))) r.differ;
-      } in (
-        w,
-        keeps,
-        tt,
-        subst (λ (b : Bool). Kept origin list seat_of (stepped s 2 (either b (old + 1) x) id me.1 w keeps)) (sym (ne_eqb x old miss)) kept,
-        rw (ne_eqb x old miss) (refl, omega arith, omega arith),
-      ))
-
-  -- the list of views while a seat is split off
-  pub splits : (id : ℕ) (d : Doing O E) → d.living ≡ true → d.stage ≡ Away → d.from < d.to → Splits (Kept origin list seat_of) id d (left_view d) (right_view seat_of d)
-  splits id d live away some_kept s r at =
-      let f = r.fits id d at live in
-      let l : Doing O E = left_view d in
-      let n : Doing O E = right_view seat_of d in
-      let vs : List (Doing O E) = set s.views id l in
-      let first = f.kept_back d.from (omega arith, some_kept) in
-      let old_fits : (j : ℕ) (e : Doing O E) → get_elem? vs j ≡ some e → e.living ≡ true → Fits seat_of r.o r.log r.seats r.turn r.holder r.lent j e =
-      fits_set (Fits seat_of r.o r.log r.seats r.turn r.holder r.lent) s.views id l
-      (λ _. record { same_origin = f.same_origin; begins = f.begins; own = f.own; drawn = f.drawn; counts = f.counts; stage = f.stage; kept_back = λ n k. (let a : d.to ≤ n = k.0 in let b : n < d.to = k.1 in absurd (omega arith)); current = λ h. absurd (true≢false (sym h)); told = f.told; told_same = f.told_same; no_clash = f.no_clash })
-      (λ j e _ there lives. r.fits j e there lives) in
-      let old_differ : (i j : ℕ) (x y : Doing O E) → i ≢ j → get_elem? vs i ≡ some x → get_elem? vs j ≡ some y → x.living ≡ true → y.living ≡ true → Differ x y =
-      differ_as s.views id d l at live refl (λ n k. (let a : d.to ≤ n = k.0 in let b : n < d.to = k.1 in absurd (omega arith))) (λ h. absurd (true≢false (sym h))) r.differ in
-      record {
-        o = r.o;
-        log = r.log;
-        turn = r.turn;
-        seats = r.seats;
-        holder = r.holder;
-        lent = r.lent;
-        words = r.words;
-        one = r.one;
-        few = r.few;
-        home = r.home;
-        free = r.free;
-        held = λ one. let h = r.held one in
-            let apart : r.holder ≢ id = λ same. h.3 (let e : h.0 ≡ d = some-injective h.0 d (sym h.1 ∙ (ap (get_elem? s.views) same ∙ at)) in ap (λ (v : Doing O E). v.stage) e ∙ away) in
-            (h.0, at_longer vs (n ∷ []) r.holder h.0 (set_else s.views id r.holder l apart ∙ h.1), h.2, h.3);
-        undrawn = r.undrawn;
-        fits = fits_end (Fits seat_of r.o r.log r.seats r.turn r.holder r.lent) vs n
-            record {
-              same_origin = f.same_origin;
-              begins = f.begins;
-              own = first.2;
-              drawn = first.0;
-              counts = f.counts;
-              stage = away_stage r.turn r.holder r.lent r.log (length vs) d.seen d.stage away;
-              kept_back = λ m k. let a : d.from + 1 ≤ m = k.0 in let b = f.kept_back m (omega arith, k.1) in (b.0, (λ h. omega arith), b.2);
-              current = λ h. absurd (true≢false (sym h));
-              told = f.told;
-              told_same = f.told_same;
-              no_clash = f.no_clash;
-            }
-            old_fits;
-        differ = differ_end Differ vs n
-            (λ j e there lives.
-            ⊎_elim
-            (λ (t : (j ≡ id) × (l ≡ e)). subst (λ (v : Doing O E). Differ n v × Differ v n) t.1 (
-              record {
-                numbers = λ h. first.1 h;
-                kept_back = λ m k h. (let a : d.from + 1 ≤ m = k.0 in (f.kept_back m (omega arith, k.1)).1 h);
-                both = λ m k q. (let a : d.to ≤ m = q.0 in let b : m < d.to = q.1 in omega arith);
-                not_alone = λ h. absurd (true≢false (sym h));
-              },
-              record {
-                numbers = λ h. first.1 (sym h);
-                kept_back = λ m k h. (let a : d.to ≤ m = k.0 in let b : m < d.to = k.1 in omega arith);
-                both = λ m k q. (let a : d.to ≤ m = k.0 in let b : m < d.to = k.1 in omega arith);
-                not_alone = λ h. absurd (true≢false (sym h));
-              },
-            ))
-            (λ (t : (j ≢ id) × (get_elem? s.views j ≡ some e)).
-            let one = r.differ id j d e (λ h. t.0 (sym h)) at t.1 live lives in
-            let two = r.differ j id e d t.0 t.1 at lives live in (
-              record {
-                numbers = one.kept_back d.from (omega arith, some_kept);
-                kept_back = λ m k. (let a : d.from + 1 ≤ m = k.0 in one.kept_back m (omega arith, k.1));
-                both = λ m k. (let a : d.from + 1 ≤ m = k.0 in one.both m (omega arith, k.1));
-                not_alone = λ h. absurd (true≢false (sym h));
-              },
-              record {
-                numbers = λ h. one.kept_back d.from (omega arith, some_kept) (sym h);
-                kept_back = λ m k h. two.both m k (let e' : m ≡ d.from = h in (omega arith, omega arith));
-                both = λ m k q. two.both m k (let a : d.from + 1 ≤ m = q.0 in (omega arith, q.1));
-                not_alone = two.not_alone;
-              },
-            ))
-            (at_set s.views id j l e there))
-            old_differ;
-      }
-
-  -- either of two is true where both are not
-  neither : (a b : Bool) → (a ≡ true → ⊥) → (b ≡ true → ⊥) → (a || b) ≡ false
-  neither true b p q = absurd (p refl)
-  neither false true p q = absurd (q refl)
-  neither false false p q = refl
-
-  -- a seat takes in another, which is spent
-  pub joins : (id : ℕ) (d : Doing O E) (other : ℕ) (e : Doing O E) → d.living ≡ true → d.stage ≢ Out → e.living ≡ true → e.stage ≡ Away → Joins (Kept origin list seat_of) id d other e (joined_view d e) spent_view
-  joins id d other e live not_out live_e away s r at apart there =
-      let f = r.fits id d at live in
-      let both : Doing O E = joined_view d e in
-      let vs : List (Doing O E) = set s.views id both in
-      let at_e : get_elem? s.views other ≡ some e = sym (set_else s.views id other both apart) ∙ there in
-      let g = r.fits other e at_e live_e in
-      let one = r.differ id other d e (λ h. apart (sym h)) at at_e live live_e in
-      let two = r.differ other id e d apart at_e at live_e live in
-      let vs_fits : (j : ℕ) (v : Doing O E) → get_elem? vs j ≡ some v → v.living ≡ true → Fits seat_of r.o r.log r.seats r.turn r.holder r.lent j v =
-      fits_set (Fits seat_of r.o r.log r.seats r.turn r.holder r.lent) s.views id both
-      (λ _. record {
-        same_origin = f.same_origin;
-        begins = longer_either (λ l. IsPrefix l r.log) d.seen e.seen f.begins g.begins;
-        own = f.own;
-        drawn = f.drawn;
-        counts = f.counts;
-        stage = reads_nothing r.turn r.holder r.lent r.log id d.seen both.seen d.stage not_out f.stage;
-        kept_back = λ n k. (let a : d.to ≤ n = k.0 in let b : n < d.to = k.1 in absurd (omega arith));
-        current = λ h. absurd (true≢false (sym h));
-        told = shorter_either (λ l. IsPrefix l r.log) d.seen e.seen f.begins g.begins;
-        told_same = g.same_origin;
-        no_clash = neither d.alone e.alone one.not_alone two.not_alone;
-      })
-      (λ j v _ in_it lives. r.fits j v in_it lives) in
-      record {
-        o = r.o;
-        log = r.log;
-        turn = r.turn;
-        seats = r.seats;
-        holder = r.holder;
-        lent = r.lent;
-        words = r.words;
-        one = r.one;
-        few = r.few;
-        home = r.home;
-        free = r.free;
-        held = λ taken.
-            let h = r.held taken in
-            let not_other : r.holder ≢ other = λ same. h.3 (let e' : h.0 ≡ e = some-injective h.0 e (sym h.1 ∙ (ap (get_elem? s.views) same ∙ at_e)) in ap (λ (v : Doing O E). v.stage) e' ∙ away) in
-            dite (ℕ_discrete r.holder id)
-            (λ (same : r.holder ≡ id).
-            let e' : h.0 ≡ d = some-injective h.0 d (sym h.1 ∙ (ap (get_elem? s.views) same ∙ at)) in (
-              both,
-              set_else vs other r.holder spent_view not_other ∙ (ap (get_elem? vs) same ∙ set_here s.views id both (at_less s.views id d at)),
-              live,
-              λ k. h.3 (ap (λ (v : Doing O E). v.stage) e' ∙ k),
-            ))
-            (λ (else : r.holder ≢ id). (h.0, set_else vs other r.holder spent_view not_other ∙ (set_else s.views id r.holder both else ∙ h.1), h.2, h.3));
-        undrawn = r.undrawn;
-        fits = fits_set (Fits seat_of r.o r.log r.seats r.turn r.holder r.lent) vs other spent_view (λ lives. absurd (true≢false (sym lives))) (λ j v _ in_it lives. vs_fits j v in_it lives);
-        differ = differ_set Differ vs other spent_view (λ j v _ _ _ lives. absurd (true≢false (sym lives)))
-            (differ_as s.views id d both at live refl (λ n k. (let a : d.to ≤ n = k.0 in let b : n < d.to = k.1 in absurd (omega arith))) (λ h. absurd (true≢false (sym h))) r.differ);
-      }
-
-  -- a new turn over x, of some seats
-  pub opens : (x : S) (seats : ℕ) → 0 < seats → seats ≤ 4294967295 → All (λ e. seat_of e < seats) (list x)
-      → Kept origin list seat_of (opening (0 ∷ length (list x) ∷ seats ∷ []) (Some x ∷ []) (first_view origin list seat_of x seats))
-  opens x seats some_seat few below = record {
-    o = origin x;
-    log = list x;
-    turn = 0;
-    seats = seats;
-    holder = 0;
-    lent = false;
-    words = refl;
-    one = omega arith;
-    few = few;
-    home = (x, refl, refl, refl);
-    free = λ _. refl;
-    held = λ h. absurd (omega arith);
-    undrawn = λ n above. by_seat-below seat_of seats n (list x) below above;
-    fits = only;
-    differ = λ i j d e apart at_i at_j _ _. absurd (apart (first i d at_i ∙ sym (first j e at_j)));
-  }
-    where
-      v : Doing O E
-      v = first_view origin list seat_of x seats
-
-      first : (i : ℕ) (d : Doing O E) → get_elem? (first_view origin list seat_of x seats ∷ []) i ≡ some d → i ≡ 0
-      first zero d at = refl
-      first (suc i) d at = absurd (some-ne-none d (sym at))
-
-      only : (j : ℕ) (d : Doing O E) → get_elem? (first_view origin list seat_of x seats ∷ []) j ≡ some d → d.living ≡ true → Fits seat_of (origin x) (list x) seats 0 0 false j d
-      only zero d at live = subst (Fits seat_of (origin x) (list x) seats 0 0 false 0) (some-injective (first_view origin list seat_of x seats) d at) record {
-        same_origin = refl;
-        begins = prefix_self (list x);
-        own = refl;
-        drawn = some_seat;
-        counts = omega arith;
-        stage = tt;
-        kept_back = λ n k. let a : 1 ≤ n = k.0 in (k.1, (λ h. (let z : n ≡ 0 = h in omega arith)), refl);
-        current = λ _. refl;
-        told = prefix_nil (list x);
-        told_same = refl;
-        no_clash = refl;
-      }
-      only (suc j) d at live = absurd (some-ne-none d (sym at))
-
-  pub opens_as : (x y : S) (seats n m len : ℕ) (slots : List (Option S)) → slots ≡ Some x ∷ [] → y ≡ x → n ≡ seats → m ≡ seats → len ≡ length (list x) → 0 < seats → seats ≤ 4294967295 → All (λ e. seat_of e < seats) (list x)
-      → Kept origin list seat_of (opening (0 ∷ len ∷ m ∷ []) slots (first_view origin list seat_of y n))
-  opens_as x y seats n m len slots slots_are same n_is m_is len_is some_seat few below =
-      subst (λ (t : List ℕ × List (Option S) × Doing O E). Kept origin list seat_of (opening t.0 t.1 t.2))
-      (λ i. (0 ∷ sym len_is i ∷ sym m_is i ∷ [], sym slots_are i, first_view origin list seat_of (sym same i) (sym n_is i)))
-      (opens x seats some_seat few below)
-
-  -- at the end, with the turn held by a seat
-  pub closes : (id : ℕ) (d : Doing O E) (ws : List ℕ) (xs : List (Option S)) → d.living ≡ true → d.stage ≡ Holds → Final (Seen (Kept origin list seat_of) id d) ws xs
-      → (y : S) × (get_elem? xs 0 ≡ some (Some y)) × Meets origin list seat_of (sight_of no_turn d) y × (d.clash ≡ false)
-  closes id d ws xs live holding final =
-      let s = final.0 in
-      let r = final.1.0 in
-      let f = r.fits id d final.1.1 live in
-      let mine : (id ≡ r.holder) × (r.turn ≡ 1) × (r.lent ≡ false) = subst (λ (t : Stage). FitsStage r.turn r.holder r.lent r.log id d.seen t) holding f.stage in
-      let home : AtHome origin list r.o r.log false s.homes = subst (λ (b : Bool). AtHome origin list r.o r.log b s.homes) mine.2 r.home in (
-        home.0,
-        final.4 0 (Some home.0) (ap (λ (hs : List (maybe.Option (Option S))). get_elem? hs 0) home.1),
-        (
-          f.same_origin ∙ ap Some (sym home.2),
-          subst (λ (l : List E). IsPrefix d.seen l) (sym home.3) f.begins,
-          ap (by_seat seat_of d.number) home.3 ∙ f.own,
-          λ alone. home.3 ∙ sym (f.current alone),
-        ),
-        f.no_clash,
-      )
-
   -- the same steps, at a view that is known by an equation
   pub gives_turn_as : (slots id : ℕ) (me : Me (Option S) (Doing O E)) (d : Doing O E) (c : List (ℕ × Option S)) (x : ℕ × Option S) (y : S) → c ≡ x ∷ [] → me ≡ (d, (0, Some y) ∷ rest c) → d.living ≡ true → d.stage ≡ Out → d.origin ≡ Some (origin y) → list y ≡ d.seen
       → Allows (Kept origin list seat_of) slots id me 0 (λ _. 0) (λ _. gave_back (step slots 0 0 0 none) me 0)
@@ -582,59 +252,7 @@ module _ {S O E : Type 0} (origin : S → O) (list : S → List E) (seat_of : E 
       let is' : me ≡ (d, (0, Some y) ∷ []) = is ∙ ap (λ (l : List (ℕ × Option S)). (d, (0, Some y) ∷ rest l)) carried in
       gives_turn slots id me y (ap (λ (m : Me (Option S) (Doing O E)). m.0.living) is' ∙ live) (ap (λ (m : Me (Option S) (Doing O E)). m.0.stage) is' ∙ out) (ap (λ (m : Me (Option S) (Doing O E)). m.1) is') (ap (λ (m : Me (Option S) (Doing O E)). m.0.origin) is' ∙ from_o) (same ∙ sym (ap (λ (m : Me (Option S) (Doing O E)). m.0.seen) is'))
 
-  pub draws_as : (slots id old : ℕ) (m me : Me (Option S) (Doing O E)) → after_try m me → m.0.living ≡ true → m.0.stage ≡ Away → old < 4294967295
-      → Allows (Kept origin list seat_of) slots id me 2 (λ n. either (eqb n old) (old + 1) n) (drew seat_of (step slots 2 old (old + 1) none) me)
-  draws_as slots id old m me tried live away room =
-      let kept = kept_views m me tried in
-      draws slots id old me (kept.0 ∙ live) (kept.1 ∙ away) room
-
-  -- a seat that has just drawn n may be split
-  pub splits_as : (id n : ℕ) (d e : Doing O E) → e ≡ record d { alone = false; counted = n + 1; from = n; to = n + 1 } → d.living ≡ true → d.stage ≡ Away → Splits (Kept origin list seat_of) id e (left_view e) (right_view seat_of e)
-  splits_as id n d e is live away =
-      subst (λ (v : Doing O E). Splits (Kept origin list seat_of) id v (left_view v) (right_view seat_of v)) (sym is)
-      (splits id record d { alone = false; counted = n + 1; from = n; to = n + 1 } live away (omega arith))
-
-  -- while the seats of a new turn are dealt
-  pub splits_dealer : (id : ℕ) (x : S) (seats k : ℕ) (m : Me (Option S) (Doing O E)) → m ≡ (dealer_view origin list seat_of x seats k, []) → k + 1 < seats → Splits (Kept origin list seat_of) id m.0 (left_view m.0) (right_view seat_of m.0)
-  splits_dealer id x seats k m is more =
-      subst (λ (v : Me (Option S) (Doing O E)). Splits (Kept origin list seat_of) id v.0 (left_view v.0) (right_view seat_of v.0)) (sym is)
-      (splits id (dealer_view origin list seat_of x seats k) refl refl more)
-
 module _ {S O E : Type 0} where
   -- a seat that took a slot holds it
   pub holding : (me : Me (Option S) (Doing O E)) (d : Doing O E) (k : ℕ) (x : Option S) (c : List (ℕ × Option S)) → me ≡ (d, (k, x) ∷ c) → me.1 ≡ (k, x) ∷ rest me.1
   holding me d k x c e = subst (λ (m : Me (Option S) (Doing O E)). m.1 ≡ (k, x) ∷ rest m.1) (sym e) refl
-
-  pub tried_hit : (seat_of : E → ℕ) (slots old : ℕ) (m me me' : Me (Option S) (Doing O E)) (n : ℕ) → after_try m me → drew seat_of (step slots 2 old (old + 1) none) me n me' → eqb n old ≡ true
-      → (me' ≡ (record m.0 { alone = false; counted = n + 1; from = n; to = n + 1 }, m.1)) × (by_seat seat_of n m.0.seen ≡ []) × (m.0.counted ≤ n)
-  tried_hit seat_of slots old m me me' n tried told hit =
-      let won = subst (λ (b : Bool). MatchBool b ((me' ≡ (record me.0 { alone = false; counted = n + 1; from = n; to = n + 1 }, me.1)) × (by_seat seat_of n me.0.seen ≡ []) × (me.0.counted ≤ n)) ((me' ≡ (record me.0 { alone = false; counted = n }, me.1)) × (me.0.counted ≤ n) × (n ≤ 4294967295))) hit told in
-      ⊎_elim
-      (λ (same : me ≡ m). (
-        won.0 ∙ ap (λ (x : Me (Option S) (Doing O E)). (record x.0 { alone = false; counted = n + 1; from = n; to = n + 1 }, x.1)) same,
-        subst (λ (x : Me (Option S) (Doing O E)). by_seat seat_of n x.0.seen ≡ []) same won.1,
-        subst (λ (x : Me (Option S) (Doing O E)). x.0.counted ≤ n) same won.2,
-      ))
-      (λ (t : (k : ℕ) × (me ≡ (record m.0 { alone = false; counted = k }, m.1)) × (m.0.counted ≤ k)). (
-        won.0 ∙ ap (λ (x : Me (Option S) (Doing O E)). (record x.0 { alone = false; counted = n + 1; from = n; to = n + 1 }, x.1)) t.1,
-        subst (λ (x : Me (Option S) (Doing O E)). by_seat seat_of n x.0.seen ≡ []) t.1 won.1,
-        (let k : t.0 ≤ n = subst (λ (x : Me (Option S) (Doing O E)). x.0.counted ≤ n) t.1 won.2 in let j : m.0.counted ≤ t.0 = t.2 in omega arith),
-      ))
-      tried
-
-  pub tried_miss : (seat_of : E → ℕ) (slots old : ℕ) (m me me' : Me (Option S) (Doing O E)) (n : ℕ) → after_try m me → drew seat_of (step slots 2 old (old + 1) none) me n me' → eqb n old ≡ false
-      → (me' ≡ (record m.0 { alone = false; counted = n }, m.1)) × (m.0.counted ≤ n) × (n ≤ 4294967295)
-  tried_miss seat_of slots old m me me' n tried told miss =
-      let lost = subst (λ (b : Bool). MatchBool b ((me' ≡ (record me.0 { alone = false; counted = n + 1; from = n; to = n + 1 }, me.1)) × (by_seat seat_of n me.0.seen ≡ []) × (me.0.counted ≤ n)) ((me' ≡ (record me.0 { alone = false; counted = n }, me.1)) × (me.0.counted ≤ n) × (n ≤ 4294967295))) miss told in
-      ⊎_elim
-      (λ (same : me ≡ m). (
-        lost.0 ∙ ap (λ (x : Me (Option S) (Doing O E)). (record x.0 { alone = false; counted = n }, x.1)) same,
-        subst (λ (x : Me (Option S) (Doing O E)). x.0.counted ≤ n) same lost.1,
-        lost.2,
-      ))
-      (λ (t : (k : ℕ) × (me ≡ (record m.0 { alone = false; counted = k }, m.1)) × (m.0.counted ≤ k)). (
-        lost.0 ∙ ap (λ (x : Me (Option S) (Doing O E)). (record x.0 { alone = false; counted = n }, x.1)) t.1,
-        (let k : t.0 ≤ n = subst (λ (x : Me (Option S) (Doing O E)). x.0.counted ≤ n) t.1 lost.1 in let j : m.0.counted ≤ t.0 = t.2 in omega arith),
-        lost.2,
-      ))
-      tried

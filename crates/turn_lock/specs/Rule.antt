@@ -1,6 +1,6 @@
 -- The rule of a turn over its three words, the value's place and what the seats know, and what each step tells.
 -- The words are the turn (1 while a seat holds it), the length of the stored list, and how many seat numbers were drawn.
-use Rattle.std.specs.Prelude.{◌≡◌, ◌≢◌, ◌⊎◌, ℕ, ◌+◌, ◌<◌, ◌≤◌, ◌==◌, ◌||◌, List, [], ◌∷◌, length, Bool, true, false, Option, Some, None, if◌then◌else◌, MatchBool}
+use Rattle.std.specs.Prelude.{◌++◌, ◌≡◌, ◌≢◌, ◌⊎◌, ℕ, ◌+◌, ◌<◌, ◌≤◌, ◌==◌, ◌||◌, List, [], ◌∷◌, length, Bool, true, false, Option, Some, None, if◌then◌else◌, MatchBool}
 use mathlib.Core.Option.{some, none}
 use mathlib.Core.Option as maybe
 use mathlib.Core.List.{IsPrefix}
@@ -29,6 +29,10 @@ FitsStage turn holder lent log j seen Out = (j ≡ holder) × (turn ≡ 1) × (l
 abbrev pub Reserves : {O E : Type 0} → Doing O E → ℕ → Type 0
 Reserves d n = (d.from ≤ n) × (n < d.to)
 
+-- the seat of this number, with these entries, was joined to that of the view d
+abbrev pub IsKin : {O E : Type 0} → Doing O E → ℕ × List E → Type 0
+IsKin d k = (i : ℕ) × (get_elem? d.kin i ≡ some k)
+
 -- what is true of one living view
 pub record Fits {O E : Type 0} (seat_of : E → ℕ) (o : O) (log : List E) (seats turn holder : ℕ) (lent : Bool) (j : ℕ) (d : Doing O E) : Type 0 where
   pub same_origin : d.origin ≡ Some o
@@ -41,6 +45,7 @@ pub record Fits {O E : Type 0} (seat_of : E → ℕ) (o : O) (log : List E) (sea
   pub current : d.alone ≡ true → d.seen ≡ log
   pub told : IsPrefix d.told log
   pub told_same : d.told_origin ≡ Some o
+  pub kin : (k : ℕ × List E) → IsKin d k → (k.0 < seats) × (k.0 ≢ d.number) × (Reserves d k.0 → ⊥) × (by_seat seat_of k.0 log ≡ k.1)
   pub no_clash : d.clash ≡ false
 
 -- what is true of two living views: their numbers differ, also from those kept back, and a seat that is alone has no other beside it
@@ -48,6 +53,7 @@ pub record Differ {O E : Type 0} (d e : Doing O E) : Type 0 where
   pub numbers : d.number ≢ e.number
   pub kept_back : (n : ℕ) → Reserves d n → n ≢ e.number
   pub both : (n : ℕ) → Reserves d n → Reserves e n → ⊥
+  pub kin : (k : ℕ × List E) → IsKin d k → (k.0 ≢ e.number) × (Reserves e k.0 → ⊥)
   pub not_alone : d.alone ≡ true → ⊥
 
 -- The rule of a turn
@@ -92,12 +98,13 @@ module _ {O E : Type 0} where
     to = seats;
     told = [];
     told_origin = Some (origin x);
+    kin = [];
     clash = false;
   }
 
   -- a view that was joined to another
   abbrev pub spent_view : Doing O E
-  spent_view = record { living = false; number = 0; origin = None; seen = []; mine = []; alone = false; counted = 0; stage = Away; from = 0; to = 0; told = []; told_origin = None; clash = false }
+  spent_view = record { living = false; number = 0; origin = None; seen = []; mine = []; alone = false; counted = 0; stage = Away; from = 0; to = 0; told = []; told_origin = None; kin = []; clash = false }
 
   abbrev pub staged : Stage → Doing O E → Doing O E
   staged stage d = record d { stage = stage }
@@ -108,11 +115,11 @@ module _ {O E : Type 0} where
 
   -- the seat that is split off, which takes the first number kept back, and keeps the others
   abbrev pub right_view : (E → ℕ) → Doing O E → Doing O E
-  right_view seat_of d = record d { number = d.from; mine = by_seat seat_of d.from d.seen; alone = false; from = d.from + 1 }
+  right_view seat_of d = record d { number = d.from; mine = by_seat seat_of d.from d.seen; alone = false; from = d.from + 1; kin = [] }
 
   -- two seats made one
   abbrev pub joined_view : Doing O E → Doing O E → Doing O E
-  joined_view d e = record d { seen = longer d.seen e.seen; told = shorter d.seen e.seen; told_origin = e.origin; alone = false; clash = d.alone || e.alone; from = d.to }
+  joined_view d e = record d { seen = longer d.seen e.seen; told = shorter d.seen e.seen; told_origin = e.origin; kin = (e.number, e.mine) ∷ (e.kin ++ d.kin); alone = false; clash = d.alone || e.alone; from = d.to }
 
   -- the view that goes on to the k-th seat of a new turn, which keeps back the numbers of the later ones
   abbrev pub dealer_view : {S : Type 0} → (S → O) → (S → List E) → (E → ℕ) → S → ℕ → ℕ → Doing O E
@@ -185,6 +192,6 @@ module _ {O E : Type 0} where
   abbrev pub IsSameWork : Doing O E → Doing O E → Type 0
   IsSameWork d e = (e.number ≡ d.number) × (e.origin ≡ d.origin) × (e.mine ≡ d.mine)
 
-  -- a seat that was joined to one of this origin, which has seen this list
-  abbrev pub WasJoined : Option O → List E → Sight O E → Type 0
-  WasJoined o seen s = (s.origin ≡ o) × IsPrefix s.seen seen × (s.alone ≡ false)
+  -- a seat that was joined to one of this origin, which has seen this list and knows of these seats
+  abbrev pub WasJoined : Option O → List E → List (ℕ × List E) → Sight O E → Type 0
+  WasJoined o seen kin s = (s.origin ≡ o) × IsPrefix s.seen seen × (s.alone ≡ false) × ((i : ℕ) × (get_elem? kin i ≡ some (s.number, s.mine)))

@@ -26,10 +26,6 @@ abbrev pub Meets : {S O E : Type 0} → (S → O) → (S → List E) → (E → 
 Meets origin list seat_of s x =
     (s.origin ≡ Some (origin x)) × IsPrefix s.seen (list x) × (by_seat seat_of s.number (list x) ≡ s.mine) × (s.alone ≡ true → list x ≡ s.seen)
 
--- the value has the seat's origin, and its list begins with all that the seat has seen. Where the seat is alone, the list is just that
-abbrev pub Reaches : {S O E : Type 0} → (S → O) → (S → List E) → Sight O E → S → Type 0
-Reaches origin list s x = (s.origin ≡ Some (origin x)) × IsPrefix s.seen (list x) × (s.alone ≡ true → list x ≡ s.seen)
-
 -- y is x with these entries added, all of the seat number n, and has the same origin
 abbrev pub Adds : {S O E : Type 0} → (S → O) → (S → List E) → (E → ℕ) → ℕ → S → List E → S → Type 0
 Adds origin list seat_of n x added y = (origin y ≡ origin x) × (list y ≡ list x ++ added) × All (λ e. seat_of e ≡ n) added

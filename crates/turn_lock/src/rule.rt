@@ -33,6 +33,8 @@ pub struct Doing<O, E> {
     pub told: LinkedList<E>,
     /// The origin of a seat that was joined to this one.
     pub told_origin: Option<O>,
+    /// The seats that were joined to this one, each by its number, with the entries that it made.
+    pub kin: LinkedList<(u64, LinkedList<E>)>,
     /// That one of two joined seats was alone, which never comes.
     pub clash: bool,
 }

@@ -123,7 +123,7 @@ pub(crate) fn join_all<S: Standing>(
     requires own { IsSeatOf top.now.table_id place.old × IsHolding place.old.me }
     requires seats { All (λ s. s.turn ≡ top.now.table_id) seats.items }
     ensures same { IsSameSeat place.old place.new × IsHolding place.new.me × IsSameWork place.old.me.0 place.new.me.0 }
-    ensures begins { IsPrefix place.old.me.0.seen place.new.me.0.seen × All (WasJoined place.old.me.0.origin place.new.me.0.seen) seats.items }
+    ensures begins { IsPrefix place.old.me.0.seen place.new.me.0.seen × All (WasJoined place.old.me.0.origin place.new.me.0.seen place.new.me.0.kin) seats.items }
     ensures alone { place.old.me.0.alone ≡ true → place.new.me.0 ≡ place.old.me.0 }
 {
     while let Some(other) = seats.pop() {

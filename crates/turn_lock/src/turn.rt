@@ -1,7 +1,7 @@
 ghost use Rattle.std.specs.Prelude.{◌≡◌, ℕ, ◌+◌, ◌<◌, ◌≤◌, true, false, List, [], ◌∷◌, ◌++◌, length, Some, All, IfOk, IfErr, MatchResult, slice_get};
 ghost use Rattle.std.specs.Fn.{FnOnceTakesAt, FnOnceReturnsAt};
 ghost use mathlib.Core.List.{IsPrefix};
-ghost use Rattle.turn_lock.specs.Seats.{Meets, Reaches, Adds, OnlyAdds, TakesChange, GivesChange, first_sight, sees, split_off, after_draw, longer};
+ghost use Rattle.turn_lock.specs.Seats.{Meets, Adds, OnlyAdds, TakesChange, GivesChange, first_sight, sees, split_off, after_draw, longer};
 
 use crate::rule::{Cut, Law, Opening};
 use crate::seat::Seat;
@@ -86,7 +86,7 @@ impl<S: Standing> Turn<S> {
     pub fn close<W: Wait>(self, rt: &W, mut seats: Vec<Seat<S::Origin, S::Entry>>) -> S
         requires some { 0 < length seats.items }
         requires own { All (λ s. s.turn ≡ self) seats.items }
-        ensures { All (λ s. Reaches S.origin S.list s result) seats.items }
+        ensures { All (λ s. Meets S.origin S.list S.seat_of s result) seats.items }
     {
         let Turn { table } = self;
         let Seat { number: _, badge } = seats.remove(0);

@@ -1,9 +1,9 @@
 use Rattle.std.proofs.Common.{refl, ap, sym, ◌∙◌, ◌≡◌, subst, get_or}
 use Rattle.std.specs.Prelude.{IsSome}
 use mathlib.Core.Option.{some-injective}
-use Rattle.turn_lock.specs.Seats.{Reaches}
-use Rattle.turn_lock.proofs.Turning.{closes}
-use Rattle.turn_lock.proofs.Shown.{all_given, reaches_first, reaches_others}
+use Rattle.turn_lock.specs.Seats.{Meets}
+use Rattle.turn_lock.proofs.Seating.{closes}
+use Rattle.turn_lock.proofs.Shown.{all_given, meets_first, meets_others}
 use Rattle.turn_lock.proofs.turn.Turn.close.Goals as goal
 
 pub unwrap-requires : goal.unwrap-requires
@@ -19,8 +19,8 @@ returns g c =
     let same : end.0 ≡ c.unwrap.result = cc (value_is, c.unwrap.ensures) in
     let took = ap (λ m. m.0) c.take_turn.ensures.1 in
     let work = c.join_all.ensures.same.2 in
-    let first = reaches_first g.S.Standing.origin g.S.Standing.list g.S.Standing.seat_of c.remove.result c.badge.inside.badge.table_id c.badge.inside.badge.views c.into_seat-place.result.me.0 c.take_turn.new.place.me.0 c.join_all.new.place.me.0 end.0 c.badge.view_is c.into_seat-place.ensures.2 took work c.join_all.ensures.begins.0 c.join_all.ensures.alone end.2 in
-    let others = reaches_others g.S.Standing.origin g.S.Standing.list g.S.Standing.seat_of c.remove.new.self.items c.take_turn.new.place.me.0 c.join_all.new.place.me.0 end.0 work c.join_all.ensures.begins.1 end.2 in
-    all_given (λ s. Reaches g.S.Standing.origin g.S.Standing.list s c.unwrap.result) c.args.seats.items c.remove.result c.remove.new.self.items c.requires.some c.remove.ensures.value c.remove.ensures.items
-    (subst (Reaches g.S.Standing.origin g.S.Standing.list c.remove.result) same first)
-    (λ k d l. subst (Reaches g.S.Standing.origin g.S.Standing.list (get_or c.remove.new.self.items k d)) same (others k d l))
+    let first = meets_first g.S.Standing.origin g.S.Standing.list g.S.Standing.seat_of c.remove.result c.badge.inside.badge.table_id c.badge.inside.badge.views c.into_seat-place.result.me.0 c.take_turn.new.place.me.0 c.join_all.new.place.me.0 end.0 c.badge.view_is c.into_seat-place.ensures.2 took work c.join_all.ensures.begins.0 c.join_all.ensures.alone end.2 in
+    let others = meets_others g.S.Standing.origin g.S.Standing.list g.S.Standing.seat_of c.remove.new.self.items c.take_turn.new.place.me.0 c.join_all.new.place.me.0 end.0 work c.join_all.ensures.begins.1 end.2 end.3 in
+    all_given (λ s. Meets g.S.Standing.origin g.S.Standing.list g.S.Standing.seat_of s c.unwrap.result) c.args.seats.items c.remove.result c.remove.new.self.items c.requires.some c.remove.ensures.value c.remove.ensures.items
+    (subst (Meets g.S.Standing.origin g.S.Standing.list g.S.Standing.seat_of c.remove.result) same first)
+    (λ k d l. subst (Meets g.S.Standing.origin g.S.Standing.list g.S.Standing.seat_of (get_or c.remove.new.self.items k d)) same (others k d l))
