@@ -1,7 +1,6 @@
 -- Each step of a turn keeps its rule.
-use Rattle.std.proofs.Common.{inr, inl, ◌⊎◌, ◌≡◌, ◌≢◌, ⊎_elim, ℕ, zero, suc, ◌+◌, ◌<◌, ◌≤◌, eqb, eq-eqb, ne_eqb, List, [], ◌∷◌, ◌++◌, length, get_or, set, Bool, true, false, ◌||◌, true≢false, Option, Some, refl, sym, ap, ◌∙◌, subst, arith}
+use Rattle.std.proofs.Common.{◌≡◌, ◌≢◌, ℕ, ◌<◌, eqb, eq-eqb, ne_eqb, List, [], ◌∷◌, ◌++◌, length, get_or, set, Bool, true, false, Option, Some, refl, sym, ap, ◌∙◌, subst, arith}
 use Rattle.std.proofs.lemmas.List.{append-nil}
-use Rattle.std.specs.Prelude.{MatchBool}
 use Rattle.std.specs.List.{All}
 use lib.Seq.{set-get_or}
 use mathlib.Core.Logic.{dite}
@@ -11,15 +10,15 @@ use mathlib.Core.List.{IsPrefix}
 use native.Mathlib.Decide.{ℕ_discrete}
 use lib.ListN.{get_elem?}
 use prog.Atomic.{either}
-use Rattle.atomic_table.specs.Table.{State, Me, step, keeps, takes, gives, stepped, put_back, rest, Allows, Splits, Joins, opening, Final, Seen}
-use Rattle.atomic_table.proofs.Lists.{at_set, at_longer, set_again, set_here, set_else}
+use Rattle.atomic_table.specs.Table.{State, Me, step, keeps, takes, gives, stepped, put_back, rest, Allows}
+use Rattle.atomic_table.proofs.Lists.{set_again, set_here}
 use Rattle.turn_lock.specs.declared.rule.Doing.{Doing}
 use Rattle.turn_lock.specs.declared.rule.Stage.{Stage}
 use Rattle.turn_lock.specs.declared.rule.Stage.TheVariants.{Away, Holds, Out}
-use Rattle.turn_lock.specs.Seats.{by_seat, Meets}
-use Rattle.turn_lock.specs.Rule.{Reserves, IsKin, AtHome, FitsStage, Fits, Differ, Kept, first_view, dealer_view, spent_view, staged, left_view, right_view, joined_view, no_turn, sight_of, took, looked, wrote, gave_back, drew, compared, after_try}
-use Rattle.turn_lock.proofs.Prefixes.{prefix_self, prefix_nil, prefix_grows, prefix_shorter, longer_either, shorter_either, by_seat-append, by_seat-prefix, by_seat-other, by_seat-below}
-use Rattle.turn_lock.proofs.Keeps.{fits_set, differ_set, fits_end, differ_end, refit, refit_same, away_stage, other_away, free_away, differ_as, at_less, holds_away, out_away, at_append, differ_two}
+use Rattle.turn_lock.specs.Seats.{by_seat}
+use Rattle.turn_lock.specs.Rule.{AtHome, FitsStage, Fits, Kept, staged, took, looked, wrote, gave_back, compared}
+use Rattle.turn_lock.proofs.Prefixes.{prefix_self, prefix_grows, prefix_shorter, by_seat-append, by_seat-other}
+use Rattle.turn_lock.proofs.Keeps.{fits_set, refit, refit_same, away_stage, other_away, free_away, differ_as, at_less, holds_away, out_away}
 
 module _ {S O E : Type 0} (origin : S → O) (list : S → List E) (seat_of : E → ℕ) where
   -- a step that changes no word, and the view only in what the rule does not read
