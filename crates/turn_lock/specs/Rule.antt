@@ -56,7 +56,7 @@ pub record Differ {O E : Type 0} (d e : Doing O E) : Type 0 where
   pub kin : (k : ℕ × List E) → IsKin d k → (k.0 ≢ e.number) × (Reserves e k.0 → ⊥)
   pub not_alone : d.alone ≡ true → ⊥
 
--- The rule of a turn
+-- The rule of a turn, of its words, the value's place and all views, for one origin and one stored list
 pub record Kept {S O E : Type 0} (origin : S → O) (list : S → List E) (seat_of : E → ℕ) (s : State (Option S) (Doing O E)) : Type 0 where
   pub o : O
   pub log : List E
@@ -106,6 +106,7 @@ module _ {O E : Type 0} where
   abbrev pub spent_view : Doing O E
   spent_view = record { living = false; number = 0; origin = None; seen = []; mine = []; alone = false; counted = 0; stage = Away; from = 0; to = 0; told = []; told_origin = None; kin = []; clash = false }
 
+  -- the same view, with its seat this far with the turn
   abbrev pub staged : Stage → Doing O E → Doing O E
   staged stage d = record d { stage = stage }
 
@@ -129,6 +130,7 @@ module _ {O E : Type 0} where
   abbrev pub sight_of : TableId → Doing O E → Sight O E
   sight_of turn d = record { turn = turn; number = d.number; origin = d.origin; seen = d.seen; mine = d.mine; alone = d.alone; counted = d.counted }
 
+  -- what a seat shows of its views, of which it has one
   abbrev pub sight : TableId → List (Doing O E) → Sight O E
   sight turn [] = sight_of turn spent_view
   sight turn (d ∷ _) = sight_of turn d
@@ -137,9 +139,11 @@ module _ {O E : Type 0} where
   abbrev pub IsAtRest : Doing O E → Type 0
   IsAtRest d = (d.living ≡ true) × (d.stage ≡ Away)
 
+  -- the one view of a seat of this number that lies with its holder
   abbrev pub Rests : ℕ → List (Doing O E) → Type 0
   Rests number views = (d : Doing O E) × (views ≡ d ∷ []) × IsAtRest d × (d.number ≡ number)
 
+-- what a seat of the base has: its view, and the slots that it has taken
 abbrev Sat : Type 0 → Type 0 → Type 0 → Type 0
 Sat S O E = Me (Option S) (Doing O E)
 
@@ -157,6 +161,7 @@ module _ {S O E : Type 0} where
   abbrev pub wrote : List E → (E → ℕ) → Step (Option S) → Sat S O E → ℕ → Sat S O E → Type 0
   wrote now seat_of s m n m' = m' ≡ (record m.0 { seen = now; mine = by_seat seat_of m.0.number now }, m.1)
 
+  -- the turn and the slot taken last were given back
   abbrev pub gave_back : Step (Option S) → Sat S O E → ℕ → Sat S O E → Type 0
   gave_back s m n m' = m' ≡ (staged Away m.0, rest m.1)
 
@@ -176,6 +181,7 @@ module _ {S O E : Type 0} where
   abbrev pub IsSeatOf : TableId → Seat (Option S) (Doing O E) → Type 0
   IsSeatOf z p = (p.table_id ≡ z) × (z.words ≡ 3) × (z.slots ≡ 1)
 
+  -- it is the same seat after a step
   abbrev pub IsSameSeat : Seat (Option S) (Doing O E) → Seat (Option S) (Doing O E) → Type 0
   IsSameSeat p q = (q.table_id ≡ p.table_id) × (q.id ≡ p.id)
 
