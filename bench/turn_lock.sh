@@ -111,7 +111,7 @@ fn by_four<R: Threads + Wait + Sync>(
 
 const ALONE: u64 = 20_000_000;
 
-const EACH: u64 = 1_000_000;
+const EACH: u64 = 5_000_000;
 
 fn main(rt: HostRuntime) -> io::Result<()> {
     let Ok((turn, seats)) = Turn::new(rt.alloc(), Nothing, 4) else {
@@ -146,7 +146,7 @@ use std::sync::Mutex;
 use std::time::Instant;
 
 const ALONE: u64 = 20_000_000;
-const EACH: u64 = 1_000_000;
+const EACH: u64 = 5_000_000;
 
 fn turns(lock: &Mutex<u64>, count: u64) {
     for _ in 0..count {

@@ -5,7 +5,8 @@ use Rattle.std.specs.List.{filter}
 use mathlib.Core.List.{IsPrefix}
 use denote.Ref.{MutBor}
 use denote.Param.Members.{Once}
-use Rattle.atomic_table.specs.Seated.{TableId}
+-- the name of a turn, and its code, passed on for the crates above
+pub use Rattle.atomic_table.specs.Seated.{TableId, table_id_coded}
 
 -- the entries of the seat number n, in their order
 abbrev pub by_seat : {E : Type 0} → (E → ℕ) → ℕ → List E → List E
