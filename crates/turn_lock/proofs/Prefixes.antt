@@ -1,0 +1,88 @@
+-- Beginnings of one list, and the entries of one seat in it.
+use Rattle.std.proofs.Common.{◌≡◌, ◌≢◌, ℕ, zero, suc, ◌<◌, ◌≤◌, eqb, eq-eqb, ne_eqb, List, [], ◌∷◌, ◌++◌, length, Bool, true, false, refl, ap, sym, ◌∙◌, arith, append_assoc, length-append, cond}
+use Rattle.std.proofs.lemmas.List.{append-nil}
+use Rattle.std.proofs.lemmas.List.Elements.{filter-append}
+use Rattle.std.proofs.Math.Dec.{ltb}
+use Rattle.std.specs.List.{All}
+use mathlib.Core.List.{IsPrefix}
+use Rattle.turn_lock.specs.Seats.{by_seat, longer}
+use Rattle.turn_lock.specs.Rule.{shorter}
+
+module _ {A : Type 0} where
+  pub prefix_self : (xs : List A) → IsPrefix xs xs
+  prefix_self xs = ([], append-nil xs)
+
+  pub prefix_nil : (xs : List A) → IsPrefix [] xs
+  prefix_nil xs = (xs, refl)
+
+  pub prefix_trans : (xs ys zs : List A) → IsPrefix xs ys → IsPrefix ys zs → IsPrefix xs zs
+  prefix_trans xs ys zs p q = (p.0 ++ q.0, sym (append_assoc xs p.0 q.0) ∙ (ap (λ w. w ++ q.0) p.1 ∙ q.1))
+
+  pub prefix_grows : (xs ys added zs : List A) → IsPrefix xs ys → zs ≡ ys ++ added → IsPrefix xs zs
+  prefix_grows xs ys added zs p e = prefix_trans xs ys zs p (added, sym e)
+
+  pub prefix_length : (xs ys : List A) → IsPrefix xs ys → length xs ≤ length ys
+  prefix_length xs ys p = omega (arith, sym (ap length p.1) ∙ length-append xs p.0)
+
+  -- of two beginnings of one list the shorter begins the longer
+  pub prefix_shorter : (xs ys zs : List A) → IsPrefix xs zs → IsPrefix ys zs → length xs ≤ length ys → IsPrefix xs ys
+  prefix_shorter [] ys zs p q le = (ys, refl)
+  prefix_shorter (x ∷ xs) [] zs p q le = absurd (omega arith)
+  prefix_shorter (x ∷ xs) (y ∷ ys) [] p q le = absurd (cc (p.1))
+  prefix_shorter (x ∷ xs) (y ∷ ys) (z ∷ zs) p q le =
+      let heads : x ≡ y = cc (p.1, q.1) in
+      let rest = prefix_shorter xs ys zs (p.0, cc (p.1)) (q.0, cc (q.1)) (omega arith) in
+      (rest.0, cc (heads, rest.1))
+
+  append_empty : (xs ys : List A) → xs ++ ys ≡ [] → xs ≡ []
+  append_empty [] ys e = refl
+  append_empty (x ∷ xs) ys e = absurd (cc)
+
+  by_length : (F : List A → Type 0) (xs ys : List A) → F xs → F ys → F (longer xs ys)
+  by_length F xs ys p q = pick (ltb (length xs) (length ys))
+    where
+      pick : (b : Bool) → F (cond b ys xs)
+      pick true = q
+      pick false = p
+
+  pub longer_either : (F : List A → Type 0) (xs ys : List A) → F xs → F ys → F (longer xs ys)
+  longer_either = by_length
+
+  pub shorter_either : (F : List A → Type 0) (xs ys : List A) → F xs → F ys → F (shorter xs ys)
+  shorter_either F xs ys p q = by_length_other (ltb (length xs) (length ys))
+    where
+      by_length_other : (b : Bool) → F (cond b xs ys)
+      by_length_other true = p
+      by_length_other false = q
+
+module _ {E : Type 0} (seat_of : E → ℕ) where
+  pub by_seat-append : (n : ℕ) (xs ys : List E) → by_seat seat_of n (xs ++ ys) ≡ by_seat seat_of n xs ++ by_seat seat_of n ys
+  by_seat-append n xs ys = filter-append (λ e. eqb (seat_of e) n) xs ys
+
+  -- a beginning of a list with no entry of n has none
+  pub by_seat-prefix : (n : ℕ) (xs ys : List E) → IsPrefix xs ys → by_seat seat_of n ys ≡ [] → by_seat seat_of n xs ≡ []
+  by_seat-prefix n xs ys p e = append_empty _ (by_seat seat_of n p.0) (sym (by_seat-append n xs p.0) ∙ (ap (by_seat seat_of n) p.1 ∙ e))
+
+  tail_all : (P : E → Type 0) (x : E) (xs : List E) → All P (x ∷ xs) → All P xs
+  tail_all P x xs h k d l = h (suc k) d (omega arith)
+
+  head_all : (P : E → Type 0) (x : E) (xs : List E) → All P (x ∷ xs) → P x
+  head_all P x xs h = h zero x (omega arith)
+
+  -- entries of n are all that they have of n
+  pub by_seat-own : (n : ℕ) (xs : List E) → All (λ e. seat_of e ≡ n) xs → by_seat seat_of n xs ≡ xs
+  by_seat-own n [] h = refl
+  by_seat-own n (x ∷ xs) h = rw (eq-eqb (seat_of x) n (head_all (λ e. seat_of e ≡ n) x xs h)) (ap (λ w. x ∷ w) (by_seat-own n xs (tail_all (λ e. seat_of e ≡ n) x xs h)))
+
+  -- and have none of another number
+  pub by_seat-other : (n m : ℕ) (xs : List E) → All (λ e. seat_of e ≡ n) xs → m ≢ n → by_seat seat_of m xs ≡ []
+  by_seat-other n m [] h apart = refl
+  by_seat-other n m (x ∷ xs) h apart = rw (ne_eqb (seat_of x) m (λ e. apart (sym e ∙ head_all (λ e. seat_of e ≡ n) x xs h))) (by_seat-other n m xs (tail_all (λ e. seat_of e ≡ n) x xs h) apart)
+
+  -- entries of numbers below `seats` have none of a number from there on
+  pub by_seat-below : (seats m : ℕ) (xs : List E) → All (λ e. seat_of e < seats) xs → seats ≤ m → by_seat seat_of m xs ≡ []
+  by_seat-below seats m [] h apart = refl
+  by_seat-below seats m (x ∷ xs) h apart =
+      let here : seat_of x < seats = head_all (λ e. seat_of e < seats) x xs h in
+      let other : seat_of x ≢ m = λ e. omega arith in
+      rw (ne_eqb (seat_of x) m other) (by_seat-below seats m xs (tail_all (λ e. seat_of e < seats) x xs h) apart)

@@ -1,0 +1,422 @@
+-- Each step by which seats come and go keeps the rule of a turn.
+use Rattle.std.proofs.Common.{inr, inl, ◌⊎◌, ◌≡◌, ◌≢◌, ⊎_elim, ℕ, zero, suc, ◌+◌, ◌<◌, ◌≤◌, eqb, eq-eqb, ne_eqb, List, [], ◌∷◌, ◌++◌, length, get_or, set, Bool, true, false, ◌||◌, true≢false, Option, Some, refl, sym, ap, ◌∙◌, subst, arith}
+use Rattle.std.specs.List.{All}
+use mathlib.Core.Logic.{dite}
+use mathlib.Core.Option.{some, none, some-injective, some-ne-none}
+use mathlib.Core.Option as maybe
+use mathlib.Core.List.{IsPrefix}
+use native.Mathlib.Decide.{ℕ_discrete}
+use lib.ListN.{get_elem?}
+use prog.Atomic.{either}
+use Rattle.atomic_table.specs.Table.{Me, step, keeps, stepped, Allows, Splits, Joins, opening, Final, Seen}
+use Rattle.atomic_table.proofs.Lists.{at_set, at_longer, set_here, set_else}
+use Rattle.turn_lock.specs.declared.rule.Doing.{Doing}
+use Rattle.turn_lock.specs.declared.rule.Stage.{Stage}
+use Rattle.turn_lock.specs.declared.rule.Stage.TheVariants.{Away, Holds, Out}
+use Rattle.turn_lock.specs.Seats.{by_seat, Meets}
+use Rattle.turn_lock.specs.Rule.{Reserves, IsKin, AtHome, FitsStage, Fits, Differ, Kept, first_view, dealer_view, spent_view, left_view, right_view, joined_view, no_turn, sight_of, drew, after_try}
+use Rattle.turn_lock.proofs.Prefixes.{prefix_self, prefix_nil, longer_either, shorter_either, by_seat-prefix, by_seat-below}
+use Rattle.turn_lock.proofs.Keeps.{fits_set, differ_set, fits_end, differ_end, refit_same, away_stage, differ_as, at_less, at_append, differ_two}
+
+module _ {S O E : Type 0} where
+  kept_views : (m me : Me (Option S) (Doing O E)) → after_try m me → (me.0.living ≡ m.0.living) × (me.0.stage ≡ m.0.stage)
+  kept_views m me tried =
+      ⊎_elim
+      (λ (same : me ≡ m). (ap (λ (x : Me (Option S) (Doing O E)). x.0.living) same, ap (λ (x : Me (Option S) (Doing O E)). x.0.stage) same))
+      (λ (t : (k : ℕ) × (me ≡ (record m.0 { alone = false; counted = k }, m.1)) × (m.0.counted ≤ k)). (ap (λ (x : Me (Option S) (Doing O E)). x.0.living) t.1, ap (λ (x : Me (Option S) (Doing O E)). x.0.stage) t.1))
+      tried
+
+module _ {S O E : Type 0} (origin : S → O) (list : S → List E) (seat_of : E → ℕ) where
+  -- a stage other than `Out` does not read what the seat has seen
+  reads_nothing : (turn holder : ℕ) (lent : Bool) (log : List E) (j : ℕ) (seen now : List E) (stage : Stage) → stage ≢ Out → FitsStage turn holder lent log j seen stage → FitsStage turn holder lent log j now stage
+  reads_nothing turn holder lent log j seen now Away apart f = tt
+  reads_nothing turn holder lent log j seen now Holds apart f = f
+  reads_nothing turn holder lent log j seen now Out apart f = absurd (apart refl)
+
+  -- a seat draws the next number, or sees how many are drawn
+  pub draws : (slots id old : ℕ) (me : Me (Option S) (Doing O E)) → me.0.living ≡ true → me.0.stage ≡ Away → old < 4294967295
+      → Allows (Kept origin list seat_of) slots id me 2 (λ n. either (eqb n old) (old + 1) n) (drew seat_of (step slots 2 old (old + 1) none) me)
+  draws slots id old me live away room s r _ at _ =
+      let x : ℕ = get_or s.words 2 0 in
+      let is : x ≡ r.seats = ap (λ ws. get_or ws 2 0) r.words in
+      let f = r.fits id me.0 at live in
+      let counts : me.0.counted ≤ r.seats = f.counts in
+      let number : me.0.number < r.seats = f.drawn in
+      let few : r.seats ≤ 4294967295 = r.few in
+      dite (ℕ_discrete x old)
+      (λ (hit : x ≡ old).
+      let w : Doing O E = record me.0 { alone = false; counted = x + 1; from = x; to = x + 1 } in
+      let now : r.seats ≡ old = sym is ∙ hit in
+      let none_yet : by_seat seat_of x r.log ≡ [] = r.undrawn x (omega arith) in
+      let none_seen : by_seat seat_of x me.0.seen ≡ [] = by_seat-prefix seat_of x me.0.seen r.log f.begins none_yet in
+      let kept : Kept origin list seat_of (stepped s 2 (old + 1) id me.1 w keeps) = record {
+        o = r.o;
+        log = r.log;
+        turn = r.turn;
+        seats = old + 1;
+        holder = r.holder;
+        lent = r.lent;
+        words = ap (λ (ws : List ℕ). set ws 2 (old + 1)) r.words;
+        one = r.one;
+        few = omega arith;
+        home = r.home;
+        free = r.free;
+        held = λ one. let h = r.held one in
+            (h.0, set_else s.views id r.holder w (λ (same : r.holder ≡ id). h.3 (let e : h.0 ≡ me.0 = some-injective h.0 me.0 (sym h.1 ∙ (ap (get_elem? s.views) same ∙ at)) in ap (λ (v : Doing O E). v.stage) e ∙ away)) ∙ h.1, h.2, h.3);
+        undrawn = λ n above. r.undrawn n (omega arith);
+        fits = fits_set (Fits seat_of r.o r.log (old + 1) r.turn r.holder r.lent) s.views id w
+            (λ _. record {
+              same_origin = f.same_origin;
+              begins = f.begins;
+              own = f.own;
+              drawn = omega arith;
+              counts = omega arith;
+              stage = f.stage;
+              kept_back = λ n k. let e : n ≡ x = (let a : x ≤ n = k.0 in let b : n < x + 1 = k.1 in omega arith) in
+                  (omega arith, (λ h. omega arith), subst (λ (m : ℕ). by_seat seat_of m r.log ≡ by_seat seat_of m me.0.seen) (sym e) (none_yet ∙ sym none_seen));
+              current = λ h. absurd (true≢false (sym h));
+              told = f.told;
+              told_same = f.told_same;
+              kin = λ k h. let b = f.kin k h in let below : k.0 < r.seats = b.0 in (omega arith, b.1, (λ v. (let a : x ≤ k.0 = v.0 in absurd (omega arith))), b.3);
+              no_clash = f.no_clash;
+            })
+            (λ j d apart there lives. let g = r.fits j d there lives in
+            refit_same seat_of r.o r.log r.seats (old + 1) r.turn r.turn r.holder r.holder r.lent r.lent j d g (omega arith) g.stage);
+        differ = differ_set Differ s.views id w
+            (λ j e apart there lives _.
+            let g = r.fits j e there lives in
+            let below : e.number < r.seats = g.drawn in
+            let one = r.differ id j me.0 e (λ h. apart (sym h)) at there live lives in
+            let two = r.differ j id e me.0 apart there at lives live in (
+              record {
+                numbers = one.numbers;
+                kept_back = λ n k h. (let a : x ≤ n = k.0 in let b : n ≡ e.number = h in omega arith);
+                both = λ n k q. (let a : x ≤ n = k.0 in let b : n < r.seats = (g.kept_back n q).0 in absurd (omega arith));
+                kin = one.kin;
+                not_alone = λ h. absurd (true≢false (sym h));
+              },
+              record {
+                numbers = two.numbers;
+                kept_back = two.kept_back;
+                both = λ n q k. (let a : x ≤ n = k.0 in let b : n < r.seats = (g.kept_back n q).0 in absurd (omega arith));
+                kin = λ k h. ((two.kin k h).0, (λ v. (let a : x ≤ k.0 = v.0 in let b : k.0 < r.seats = (g.kin k h).0 in omega arith)));
+                not_alone = two.not_alone;
+              },
+            ))
+            r.differ;
+      } in (
+        w,
+        keeps,
+        tt,
+        subst (λ (b : Bool). Kept origin list seat_of (stepped s 2 (either b (old + 1) x) id me.1 w keeps)) (sym (eq-eqb x old hit)) kept,
+        rw (eq-eqb x old hit) (refl, none_seen, omega arith),
+      ))
+      (λ (miss : x ≢ old).
+      let w : Doing O E = record me.0 { alone = false; counted = x } in
+      let kept : Kept origin list seat_of (stepped s 2 x id me.1 w keeps) = record {
+        o = r.o;
+        log = r.log;
+        turn = r.turn;
+        seats = r.seats;
+        holder = r.holder;
+        lent = r.lent;
+        words = ap (λ (ws : List ℕ). set ws 2 (get_or ws 2 0)) r.words;
+        one = r.one;
+        few = r.few;
+        home = r.home;
+        free = r.free;
+        held = λ one. let h = r.held one in
+            (h.0, set_else s.views id r.holder w (λ (same : r.holder ≡ id). h.3 (let e : h.0 ≡ me.0 = some-injective h.0 me.0 (sym h.1 ∙ (ap (get_elem? s.views) same ∙ at)) in ap (λ (v : Doing O E). v.stage) e ∙ away)) ∙ h.1, h.2, h.3);
+        undrawn = r.undrawn;
+        fits = fits_set (Fits seat_of r.o r.log r.seats r.turn r.holder r.lent) s.views id w
+            (λ _. record { same_origin = f.same_origin; begins = f.begins; own = f.own; drawn = f.drawn; counts = omega arith; stage = f.stage; kept_back = f.kept_back; current = λ h. absurd (true≢false (sym h)); told = f.told; told_same = f.told_same; kin = f.kin; no_clash = f.no_clash })
+            (λ j d apart there lives. r.fits j d there lives);
+        differ = differ_as s.views id me.0 w at live refl (λ _ h. h) (λ _ h. h) (λ h. absurd (true≢false (sym h))) r.differ;
+      } in (
+        w,
+        keeps,
+        tt,
+        subst (λ (b : Bool). Kept origin list seat_of (stepped s 2 (either b (old + 1) x) id me.1 w keeps)) (sym (ne_eqb x old miss)) kept,
+        rw (ne_eqb x old miss) (refl, omega arith, omega arith),
+      ))
+
+  -- the list of views while a seat is split off
+  pub splits : (id : ℕ) (d : Doing O E) → d.living ≡ true → d.stage ≡ Away → d.from < d.to → Splits (Kept origin list seat_of) id d (left_view d) (right_view seat_of d)
+  splits id d live away some_kept s r at =
+      let f = r.fits id d at live in
+      let l : Doing O E = left_view d in
+      let n : Doing O E = right_view seat_of d in
+      let vs : List (Doing O E) = set s.views id l in
+      let first = f.kept_back d.from (omega arith, some_kept) in
+      let old_fits : (j : ℕ) (e : Doing O E) → get_elem? vs j ≡ some e → e.living ≡ true → Fits seat_of r.o r.log r.seats r.turn r.holder r.lent j e =
+      fits_set (Fits seat_of r.o r.log r.seats r.turn r.holder r.lent) s.views id l
+      (λ _. record { same_origin = f.same_origin; begins = f.begins; own = f.own; drawn = f.drawn; counts = f.counts; stage = f.stage; kept_back = λ n k. (let a : d.to ≤ n = k.0 in let b : n < d.to = k.1 in absurd (omega arith)); current = λ h. absurd (true≢false (sym h)); told = f.told; told_same = f.told_same; kin = λ k h. (let b = f.kin k h in (b.0, b.1, (λ v. (let x : d.to ≤ k.0 = v.0 in let y : k.0 < d.to = v.1 in omega arith)), b.3)); no_clash = f.no_clash })
+      (λ j e _ there lives. r.fits j e there lives) in
+      let old_differ : (i j : ℕ) (x y : Doing O E) → i ≢ j → get_elem? vs i ≡ some x → get_elem? vs j ≡ some y → x.living ≡ true → y.living ≡ true → Differ x y =
+      differ_as s.views id d l at live refl (λ n k. (let a : d.to ≤ n = k.0 in let b : n < d.to = k.1 in absurd (omega arith))) (λ _ h. h) (λ h. absurd (true≢false (sym h))) r.differ in
+      record {
+        o = r.o;
+        log = r.log;
+        turn = r.turn;
+        seats = r.seats;
+        holder = r.holder;
+        lent = r.lent;
+        words = r.words;
+        one = r.one;
+        few = r.few;
+        home = r.home;
+        free = r.free;
+        held = λ one. let h = r.held one in
+            let apart : r.holder ≢ id = λ same. h.3 (let e : h.0 ≡ d = some-injective h.0 d (sym h.1 ∙ (ap (get_elem? s.views) same ∙ at)) in ap (λ (v : Doing O E). v.stage) e ∙ away) in
+            (h.0, at_longer vs (n ∷ []) r.holder h.0 (set_else s.views id r.holder l apart ∙ h.1), h.2, h.3);
+        undrawn = r.undrawn;
+        fits = fits_end (Fits seat_of r.o r.log r.seats r.turn r.holder r.lent) vs n
+            record {
+              same_origin = f.same_origin;
+              begins = f.begins;
+              own = first.2;
+              drawn = first.0;
+              counts = f.counts;
+              stage = away_stage r.turn r.holder r.lent r.log (length vs) d.seen d.stage away;
+              kept_back = λ m k. let a : d.from + 1 ≤ m = k.0 in let b = f.kept_back m (omega arith, k.1) in (b.0, (λ h. omega arith), b.2);
+              current = λ h. absurd (true≢false (sym h));
+              told = f.told;
+              told_same = f.told_same;
+              kin = λ k h. absurd (some-ne-none k (sym h.1));
+              no_clash = f.no_clash;
+            }
+            old_fits;
+        differ = differ_end Differ vs n
+            (λ j e there lives.
+            ⊎_elim
+            (λ (t : (j ≡ id) × (l ≡ e)). subst (λ (v : Doing O E). Differ n v × Differ v n) t.1 (
+              record {
+                numbers = λ h. first.1 h;
+                kept_back = λ m k h. (let a : d.from + 1 ≤ m = k.0 in (f.kept_back m (omega arith, k.1)).1 h);
+                both = λ m k q. (let a : d.to ≤ m = q.0 in let b : m < d.to = q.1 in omega arith);
+                kin = λ k h. absurd (some-ne-none k (sym h.1));
+                not_alone = λ h. absurd (true≢false (sym h));
+              },
+              record {
+                numbers = λ h. first.1 (sym h);
+                kept_back = λ m k h. (let a : d.to ≤ m = k.0 in let b : m < d.to = k.1 in omega arith);
+                both = λ m k q. (let a : d.to ≤ m = k.0 in let b : m < d.to = k.1 in omega arith);
+                kin = λ k h. ((λ q. (f.kin k h).2 (let e' : k.0 ≡ d.from = q in (omega arith, omega arith))), (λ v. (f.kin k h).2 (let a : d.from + 1 ≤ k.0 = v.0 in (omega arith, v.1))));
+                not_alone = λ h. absurd (true≢false (sym h));
+              },
+            ))
+            (λ (t : (j ≢ id) × (get_elem? s.views j ≡ some e)).
+            let one = r.differ id j d e (λ h. t.0 (sym h)) at t.1 live lives in
+            let two = r.differ j id e d t.0 t.1 at lives live in (
+              record {
+                numbers = one.kept_back d.from (omega arith, some_kept);
+                kept_back = λ m k. (let a : d.from + 1 ≤ m = k.0 in one.kept_back m (omega arith, k.1));
+                both = λ m k. (let a : d.from + 1 ≤ m = k.0 in one.both m (omega arith, k.1));
+                kin = λ k h. absurd (some-ne-none k (sym h.1));
+                not_alone = λ h. absurd (true≢false (sym h));
+              },
+              record {
+                numbers = λ h. one.kept_back d.from (omega arith, some_kept) (sym h);
+                kept_back = λ m k h. two.both m k (let e' : m ≡ d.from = h in (omega arith, omega arith));
+                both = λ m k q. two.both m k (let a : d.from + 1 ≤ m = q.0 in (omega arith, q.1));
+                kin = λ k h. ((λ q. (two.kin k h).1 (let e' : k.0 ≡ d.from = q in (omega arith, omega arith))), (λ v. (two.kin k h).1 (let a : d.from + 1 ≤ k.0 = v.0 in (omega arith, v.1))));
+                not_alone = two.not_alone;
+              },
+            ))
+            (at_set s.views id j l e there))
+            old_differ;
+      }
+
+  -- either of two is true where both are not
+  neither : (a b : Bool) → (a ≡ true → ⊥) → (b ≡ true → ⊥) → (a || b) ≡ false
+  neither true b p q = absurd (p refl)
+  neither false true p q = absurd (q refl)
+  neither false false p q = refl
+
+  -- who was joined to two seats that are now one
+  kin_joined : (d e : Doing O E) (k : ℕ × List E) → IsKin (joined_view d e) k → (k ≡ (e.number, e.mine)) ⊎ (IsKin e k ⊎ IsKin d k)
+  kin_joined d e k h = at_first h.0 h.1
+    where
+      at_first : (i : ℕ) → get_elem? ((e.number, e.mine) ∷ (e.kin ++ d.kin)) i ≡ some k → (k ≡ (e.number, e.mine)) ⊎ (IsKin e k ⊎ IsKin d k)
+      at_first zero at = inl (sym (some-injective (e.number, e.mine) k at))
+      at_first (suc i) at = inr (at_append e.kin d.kin i k at)
+
+  -- a seat takes in another, which is spent
+  pub joins : (id : ℕ) (d : Doing O E) (other : ℕ) (e : Doing O E) → d.living ≡ true → d.stage ≢ Out → e.living ≡ true → e.stage ≡ Away → Joins (Kept origin list seat_of) id d other e (joined_view d e) spent_view
+  joins id d other e live not_out live_e away s r at apart there =
+      let f = r.fits id d at live in
+      let both : Doing O E = joined_view d e in
+      let vs : List (Doing O E) = set s.views id both in
+      let at_e : get_elem? s.views other ≡ some e = sym (set_else s.views id other both apart) ∙ there in
+      let g = r.fits other e at_e live_e in
+      let one = r.differ id other d e (λ h. apart (sym h)) at at_e live live_e in
+      let two = r.differ other id e d apart at_e at live_e live in
+      let unreserved : (n : ℕ) → Reserves both n → ⊥ = λ n k. (let a : d.to ≤ n = k.0 in let b : n < d.to = k.1 in omega arith) in
+      let vs_fits : (j : ℕ) (v : Doing O E) → get_elem? vs j ≡ some v → v.living ≡ true → Fits seat_of r.o r.log r.seats r.turn r.holder r.lent j v =
+      fits_set (Fits seat_of r.o r.log r.seats r.turn r.holder r.lent) s.views id both
+      (λ _. record {
+        same_origin = f.same_origin;
+        begins = longer_either (λ l. IsPrefix l r.log) d.seen e.seen f.begins g.begins;
+        own = f.own;
+        drawn = f.drawn;
+        counts = f.counts;
+        stage = reads_nothing r.turn r.holder r.lent r.log id d.seen both.seen d.stage not_out f.stage;
+        kept_back = λ n k. (let a : d.to ≤ n = k.0 in let b : n < d.to = k.1 in absurd (omega arith));
+        current = λ h. absurd (true≢false (sym h));
+        told = shorter_either (λ l. IsPrefix l r.log) d.seen e.seen f.begins g.begins;
+        told_same = g.same_origin;
+        kin = λ k h.
+            ⊎_elim
+            (λ (t : k ≡ (e.number, e.mine)). subst (λ (c : ℕ × List E). (c.0 < r.seats) × (c.0 ≢ d.number) × (Reserves both c.0 → ⊥) × (by_seat seat_of c.0 r.log ≡ c.1)) (sym t) (g.drawn, two.numbers, unreserved e.number, g.own))
+            (λ (t : IsKin e k ⊎ IsKin d k).
+            ⊎_elim
+            (λ (u : IsKin e k). let b = g.kin k u in (b.0, (two.kin k u).0, unreserved k.0, b.3))
+            (λ (u : IsKin d k). let b = f.kin k u in (b.0, b.1, unreserved k.0, b.3))
+            t)
+            (kin_joined d e k h);
+        no_clash = neither d.alone e.alone one.not_alone two.not_alone;
+      })
+      (λ j v _ in_it lives. r.fits j v in_it lives) in
+      record {
+        o = r.o;
+        log = r.log;
+        turn = r.turn;
+        seats = r.seats;
+        holder = r.holder;
+        lent = r.lent;
+        words = r.words;
+        one = r.one;
+        few = r.few;
+        home = r.home;
+        free = r.free;
+        held = λ taken.
+            let h = r.held taken in
+            let not_other : r.holder ≢ other = λ same. h.3 (let e' : h.0 ≡ e = some-injective h.0 e (sym h.1 ∙ (ap (get_elem? s.views) same ∙ at_e)) in ap (λ (v : Doing O E). v.stage) e' ∙ away) in
+            dite (ℕ_discrete r.holder id)
+            (λ (same : r.holder ≡ id).
+            let e' : h.0 ≡ d = some-injective h.0 d (sym h.1 ∙ (ap (get_elem? s.views) same ∙ at)) in (
+              both,
+              set_else vs other r.holder spent_view not_other ∙ (ap (get_elem? vs) same ∙ set_here s.views id both (at_less s.views id d at)),
+              live,
+              λ k. h.3 (ap (λ (v : Doing O E). v.stage) e' ∙ k),
+            ))
+            (λ (else : r.holder ≢ id). (h.0, set_else vs other r.holder spent_view not_other ∙ (set_else s.views id r.holder both else ∙ h.1), h.2, h.3));
+        undrawn = r.undrawn;
+        fits = fits_set (Fits seat_of r.o r.log r.seats r.turn r.holder r.lent) vs other spent_view (λ lives. absurd (true≢false (sym lives))) (λ j v _ in_it lives. vs_fits j v in_it lives);
+        differ = differ_two Differ s.views id other both spent_view (λ lives. true≢false (sym lives))
+            (λ j v not_me not_other in_it lives _.
+            let mine = r.differ id j d v (λ h. not_me (sym h)) at in_it live lives in
+            let theirs = r.differ j id v d not_me in_it at lives live in
+            let its = r.differ other j e v (λ h. not_other (sym h)) at_e in_it live_e lives in
+            let to_it = r.differ j other v e not_other in_it at_e lives live_e in (
+              record {
+                numbers = mine.numbers;
+                kept_back = λ n k. absurd (unreserved n k);
+                both = λ n k. absurd (unreserved n k);
+                kin = λ k h.
+                    ⊎_elim
+                    (λ (t : k ≡ (e.number, e.mine)). subst (λ (c : ℕ × List E). (c.0 ≢ v.number) × (Reserves v c.0 → ⊥)) (sym t) (its.numbers, λ q. to_it.kept_back e.number q refl))
+                    (λ (t : IsKin e k ⊎ IsKin d k). ⊎_elim (λ (u : IsKin e k). its.kin k u) (λ (u : IsKin d k). mine.kin k u) t)
+                    (kin_joined d e k h);
+                not_alone = λ h. absurd (true≢false (sym h));
+              },
+              record {
+                numbers = theirs.numbers;
+                kept_back = theirs.kept_back;
+                both = λ n q k. absurd (unreserved n k);
+                kin = λ k h. ((theirs.kin k h).0, unreserved k.0);
+                not_alone = theirs.not_alone;
+              },
+            ))
+            r.differ;
+      }
+
+  -- a new turn over x, of some seats
+  pub opens : (x : S) (seats : ℕ) → 0 < seats → seats ≤ 4294967295 → All (λ e. seat_of e < seats) (list x)
+      → Kept origin list seat_of (opening (0 ∷ length (list x) ∷ seats ∷ []) (Some x ∷ []) (first_view origin list seat_of x seats))
+  opens x seats some_seat few below = record {
+    o = origin x;
+    log = list x;
+    turn = 0;
+    seats = seats;
+    holder = 0;
+    lent = false;
+    words = refl;
+    one = omega arith;
+    few = few;
+    home = (x, refl, refl, refl);
+    free = λ _. refl;
+    held = λ h. absurd (omega arith);
+    undrawn = λ n above. by_seat-below seat_of seats n (list x) below above;
+    fits = only;
+    differ = λ i j d e apart at_i at_j _ _. absurd (apart (first i d at_i ∙ sym (first j e at_j)));
+  }
+    where
+      v : Doing O E
+      v = first_view origin list seat_of x seats
+
+      first : (i : ℕ) (d : Doing O E) → get_elem? (first_view origin list seat_of x seats ∷ []) i ≡ some d → i ≡ 0
+      first zero d at = refl
+      first (suc i) d at = absurd (some-ne-none d (sym at))
+
+      only : (j : ℕ) (d : Doing O E) → get_elem? (first_view origin list seat_of x seats ∷ []) j ≡ some d → d.living ≡ true → Fits seat_of (origin x) (list x) seats 0 0 false j d
+      only zero d at live = subst (Fits seat_of (origin x) (list x) seats 0 0 false 0) (some-injective (first_view origin list seat_of x seats) d at) record {
+        same_origin = refl;
+        begins = prefix_self (list x);
+        own = refl;
+        drawn = some_seat;
+        counts = omega arith;
+        stage = tt;
+        kept_back = λ n k. let a : 1 ≤ n = k.0 in (k.1, (λ h. (let z : n ≡ 0 = h in omega arith)), refl);
+        current = λ _. refl;
+        told = prefix_nil (list x);
+        told_same = refl;
+        kin = λ k h. absurd (some-ne-none k (sym h.1));
+        no_clash = refl;
+      }
+      only (suc j) d at live = absurd (some-ne-none d (sym at))
+
+  pub opens_as : (x y : S) (seats n m len : ℕ) (slots : List (Option S)) → slots ≡ Some x ∷ [] → y ≡ x → n ≡ seats → m ≡ seats → len ≡ length (list x) → 0 < seats → seats ≤ 4294967295 → All (λ e. seat_of e < seats) (list x)
+      → Kept origin list seat_of (opening (0 ∷ len ∷ m ∷ []) slots (first_view origin list seat_of y n))
+  opens_as x y seats n m len slots slots_are same n_is m_is len_is some_seat few below =
+      subst (λ (t : List ℕ × List (Option S) × Doing O E). Kept origin list seat_of (opening t.0 t.1 t.2))
+      (λ i. (0 ∷ sym len_is i ∷ sym m_is i ∷ [], sym slots_are i, first_view origin list seat_of (sym same i) (sym n_is i)))
+      (opens x seats some_seat few below)
+
+  -- at the end, with the turn held by a seat
+  pub closes : (id : ℕ) (d : Doing O E) (ws : List ℕ) (xs : List (Option S)) → d.living ≡ true → d.stage ≡ Holds → Final (Seen (Kept origin list seat_of) id d) ws xs
+      → (y : S) × (get_elem? xs 0 ≡ some (Some y)) × Meets origin list seat_of (sight_of no_turn d) y × ((k : ℕ × List E) → IsKin d k → by_seat seat_of k.0 (list y) ≡ k.1)
+  closes id d ws xs live holding final =
+      let s = final.0 in
+      let r = final.1.0 in
+      let f = r.fits id d final.1.1 live in
+      let mine : (id ≡ r.holder) × (r.turn ≡ 1) × (r.lent ≡ false) = subst (λ (t : Stage). FitsStage r.turn r.holder r.lent r.log id d.seen t) holding f.stage in
+      let home : AtHome origin list r.o r.log false s.homes = subst (λ (b : Bool). AtHome origin list r.o r.log b s.homes) mine.2 r.home in (
+        home.0,
+        final.4 0 (Some home.0) (ap (λ (hs : List (maybe.Option (Option S))). get_elem? hs 0) home.1),
+        (
+          f.same_origin ∙ ap Some (sym home.2),
+          subst (λ (l : List E). IsPrefix d.seen l) (sym home.3) f.begins,
+          ap (by_seat seat_of d.number) home.3 ∙ f.own,
+          λ alone. home.3 ∙ sym (f.current alone),
+        ),
+        λ k h. ap (by_seat seat_of k.0) home.3 ∙ (f.kin k h).3,
+      )
+
+  pub draws_as : (slots id old : ℕ) (m me : Me (Option S) (Doing O E)) → after_try m me → m.0.living ≡ true → m.0.stage ≡ Away → old < 4294967295
+      → Allows (Kept origin list seat_of) slots id me 2 (λ n. either (eqb n old) (old + 1) n) (drew seat_of (step slots 2 old (old + 1) none) me)
+  draws_as slots id old m me tried live away room =
+      let kept = kept_views m me tried in
+      draws slots id old me (kept.0 ∙ live) (kept.1 ∙ away) room
+
+  -- a seat that has just drawn n may be split
+  pub splits_as : (id n : ℕ) (d e : Doing O E) → e ≡ record d { alone = false; counted = n + 1; from = n; to = n + 1 } → d.living ≡ true → d.stage ≡ Away → Splits (Kept origin list seat_of) id e (left_view e) (right_view seat_of e)
+  splits_as id n d e is live away =
+      subst (λ (v : Doing O E). Splits (Kept origin list seat_of) id v (left_view v) (right_view seat_of v)) (sym is)
+      (splits id record d { alone = false; counted = n + 1; from = n; to = n + 1 } live away (omega arith))
+
+  -- while the seats of a new turn are dealt
+  pub splits_dealer : (id : ℕ) (x : S) (seats k : ℕ) (m : Me (Option S) (Doing O E)) → m ≡ (dealer_view origin list seat_of x seats k, []) → k + 1 < seats → Splits (Kept origin list seat_of) id m.0 (left_view m.0) (right_view seat_of m.0)
+  splits_dealer id x seats k m is more =
+      subst (λ (v : Me (Option S) (Doing O E)). Splits (Kept origin list seat_of) id v.0 (left_view v.0) (right_view seat_of v.0)) (sym is)
+      (splits id (dealer_view origin list seat_of x seats k) refl refl more)

@@ -1,0 +1,69 @@
+-- What the holder of a seat knows, and what it may do.
+use Rattle.std.specs.Prelude.{◌≡◌, ℕ, ◌+◌, ◌==◌, List, ◌++◌, [], length, Bool, true, false, Option, Some, All, if◌then◌else◌}
+use Rattle.std.proofs.Math.Dec.{ltb}
+use Rattle.std.specs.List.{filter}
+use mathlib.Core.List.{IsPrefix}
+use denote.Ref.{MutBor}
+use denote.Param.Members.{Once}
+-- the name of a turn, and its code, passed on for the crates above
+pub use Rattle.atomic_table.specs.Seated.{TableId, table_id_coded}
+
+-- the entries of the seat number n, in their order
+abbrev pub by_seat : {E : Type 0} → (E → ℕ) → ℕ → List E → List E
+by_seat seat_of n entries = filter (λ e. seat_of e == n) entries
+
+-- What a seat shows: its turn, its number, its origin, the entries that it has seen and those that it made, whether it is the only seat, and how many seat numbers it has seen drawn
+pub record Sight (O E : Type 0) : Type 0 where
+  pub turn : TableId
+  pub number : ℕ
+  pub origin : Option O
+  pub seen : List E
+  pub mine : List E
+  pub alone : Bool
+  pub counted : ℕ
+
+-- the value has the seat's origin, its list begins with all that the seat has seen, and of the seat's number it has just the seat's own entries. Where the seat is alone, the list is what it has seen
+abbrev pub Meets : {S O E : Type 0} → (S → O) → (S → List E) → (E → ℕ) → Sight O E → S → Type 0
+Meets origin list seat_of s x =
+    (s.origin ≡ Some (origin x)) × IsPrefix s.seen (list x) × (by_seat seat_of s.number (list x) ≡ s.mine) × (s.alone ≡ true → list x ≡ s.seen)
+
+-- y is x with these entries added, all of the seat number n, and has the same origin
+abbrev pub Adds : {S O E : Type 0} → (S → O) → (S → List E) → (E → ℕ) → ℕ → S → List E → S → Type 0
+Adds origin list seat_of n x added y = (origin y ≡ origin x) × (list y ≡ list x ++ added) × All (λ e. seat_of e ≡ n) added
+
+-- a change that only appends entries of the seat number n
+abbrev pub OnlyAdds : {S O E : Type 0} → (S → O) → (S → List E) → (E → ℕ) → ℕ → S → S → Type 0
+OnlyAdds {S} {O} {E} origin list seat_of n x y = (added : List E) × Adds origin list seat_of n x added y
+
+-- f may be called at a `&mut` to x, and at the seat number n
+abbrev pub TakesChange : {F S R : Type 0} → Once F (MutBor S × (ℕ × Unit {0})) (R × (MutBor S × Unit {0})) → F → S → ℕ → Type 0
+TakesChange {F} {S} g f x n = (p : MutBor S) → p.now ≡ x → g.pre f (p, (n, tt))
+
+-- called at a `&mut` to x, and at the seat number n, f may give r and leave y
+pub record GivesChange {F S R : Type 0} (g : Once F (MutBor S × (ℕ × Unit {0})) (R × (MutBor S × Unit {0}))) (f : F) (x : S) (n : ℕ) (r : R) (y : S) : Type 0 where
+  pub shown : MutBor S
+  pub shows : shown.now ≡ x
+  pub left : MutBor S
+  pub met : g.post f (shown, (n, tt)) (r, (left, tt))
+  pub leaves : left.now ≡ y
+
+-- what the k-th seat of a new turn over x shows, where the turn has this many seats
+abbrev pub first_sight : {S O E : Type 0} → (S → O) → (S → List E) → (E → ℕ) → TableId → S → ℕ → ℕ → Sight O E
+first_sight origin list seat_of turn x seats k =
+    record { turn = turn; number = k; origin = Some (origin x); seen = list x; mine = by_seat seat_of k (list x); alone = seats == 1; counted = seats }
+
+-- what a seat shows once it has seen this list, in which its own entries are these
+abbrev pub sees : {O E : Type 0} → Sight O E → List E → List E → Sight O E
+sees s list mine = record s { seen = list; mine = mine }
+
+-- the seat of this number, split off s when it had seen this many numbers drawn: it has seen what s has, and made nothing
+abbrev pub split_off : {O E : Type 0} → Sight O E → ℕ → Sight O E
+split_off s number = record s { number = number; mine = []; alone = false; counted = number + 1 }
+
+-- what a seat shows after it has drawn, or tried to
+abbrev pub after_draw : {O E : Type 0} → Sight O E → ℕ → Sight O E
+after_draw s counted = record s { alone = false; counted = counted }
+
+-- the longer of two lists
+abbrev pub longer : {E : Type 0} → List E → List E → List E
+longer xs ys = if ltb (length xs) (length ys) then ys else xs
