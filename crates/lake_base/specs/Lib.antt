@@ -1,4 +1,5 @@
 pub mod Entry
+pub mod KeyMap
 pub mod Maps
 pub mod Names
 pub mod Outside

@@ -14,6 +14,7 @@
 pub mod changes;
 pub mod digest;
 pub mod entry;
+pub mod key_map;
 pub mod names;
 pub mod outside;
 pub mod pairs;
@@ -24,6 +25,7 @@ pub mod text;
 pub use changes::Changes;
 pub use digest::Digest;
 pub use entry::{Change, Entry, Place};
+pub use key_map::KeyMap;
 pub use names::{NameFault, Path, RefName, RepoName};
 pub use outside::{Clock, Failed, NoMemory, Sink, Source, Trouble};
 pub use pairs::Pairs;
