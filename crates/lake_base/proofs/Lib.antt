@@ -1,2 +1,4 @@
 pub mod Applied
 pub mod Ascending
+pub mod Hexes
+pub mod PairLists

@@ -28,6 +28,6 @@ pub use entry::{Change, Entry, Place};
 pub use key_map::KeyMap;
 pub use names::{NameFault, Path, RefName, RepoName};
 pub use outside::{Clock, Failed, NoMemory, Sink, Source, Trouble};
-pub use pairs::Pairs;
+pub use pairs::{Pairs, PairsFault};
 pub use sequence::Sequence;
 pub use text::Text;
