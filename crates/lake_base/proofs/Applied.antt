@@ -38,7 +38,7 @@ pub applied_ascends : (cs : List (List ℕ × Change)) (es : List (List ℕ × O
 applied_ascends [] es h = h
 applied_ascends (c ∷ cs) es h = applied_ascends cs (one c.0 c.1 es) (one_ascends c.0 c.1 es h)
 
-less_more : {X : Type 0} (a p : List ℕ) (es : List (List ℕ × X)) → byte_order a p ≡ Less → T (below_all byte_order p es) → T (below_all byte_order a es)
+pub less_more : {X : Type 0} (a p : List ℕ) (es : List (List ℕ × X)) → byte_order a p ≡ Less → T (below_all byte_order p es) → T (below_all byte_order a es)
 less_more a p [] lt h = tt
 less_more a p (e ∷ es) lt h =
     both _ _ (subst (λ r. T (is_lt r)) (sym (nat_list_cmp_total.trans a p e.0 lt (less _ (first _ _ h)))) tt) (less_more a p es lt (second _ _ h))

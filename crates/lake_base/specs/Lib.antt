@@ -4,3 +4,5 @@ pub mod Maps
 pub mod Names
 pub mod Outside
 pub mod Pairs
+pub mod Reading
+pub mod Spelling

@@ -14,20 +14,24 @@
 pub mod changes;
 pub mod digest;
 pub mod entry;
+pub mod fields;
 pub mod key_map;
 pub mod names;
 pub mod outside;
 pub mod pairs;
 mod places;
 pub mod sequence;
+pub mod spelling;
 pub mod text;
 
 pub use changes::Changes;
 pub use digest::Digest;
 pub use entry::{Change, Entry, Place};
+pub use fields::EntryFault;
 pub use key_map::KeyMap;
 pub use names::{NameFault, Path, RefName, RepoName};
 pub use outside::{Clock, Failed, NoMemory, Sink, Source, Trouble};
 pub use pairs::{Pairs, PairsFault};
 pub use sequence::Sequence;
+pub use spelling::{entry_bytes, entry_read};
 pub use text::Text;

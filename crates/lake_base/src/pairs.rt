@@ -66,6 +66,14 @@ impl Pairs {
         }
     }
 
+    /// The metadata of these pairs. It takes no memory.
+    pub fn of(pairs: Vec<(Text, Text)>) -> Pairs
+        requires { ArePairs pairs.items }
+        ensures { result ≡ pairs.items }
+    {
+        Pairs { pairs }
+    }
+
     /// The pairs, in order of their keys. It takes no memory.
     pub fn as_slice(&self) -> &[(Text, Text)]
         ensures pairs { result.now ≡ self.now }

@@ -63,6 +63,14 @@ impl Text {
         self.text.as_bytes()
     }
 
+    /// It as a string. It takes no memory.
+    pub fn as_str(&self) -> &str
+        ensures bytes { result.now ≡ self.now }
+        ensures utf8 { is_utf8 self.now ≡ true }
+    {
+        self.text.as_str()
+    }
+
     /// An equal text.
     pub fn copy(&self, alloc: Global) -> Result<Text, NoMemory>
         ensures { IfOk result (λ copy. copy ≡ self.now) }
