@@ -66,7 +66,7 @@ module _ {X : Type 0} where
   tail_ascends e es h = second _ _ h
 
   -- a key below all keys is below the one at a place
-  below_at : (k : List ℕ) (es : List (List ℕ × X)) (i : ℕ) (d : List ℕ × X) → T (below_all byte_order k es) → i < length es → byte_order k (get_or es i d).0 ≡ Less
+  pub below_at : (k : List ℕ) (es : List (List ℕ × X)) (i : ℕ) (d : List ℕ × X) → T (below_all byte_order k es) → i < length es → byte_order k (get_or es i d).0 ≡ Less
   below_at k [] i d h lt = absurd (omega arith)
   below_at k (e ∷ es) zero d h lt = less _ (first _ _ h)
   below_at k (e ∷ es) (suc i) d h lt = below_at k es i d (second _ _ h) (omega arith)

@@ -2,6 +2,9 @@ pub mod Applied
 pub mod Ascending
 pub mod EntryLaws
 pub mod FieldLaws
+pub mod Fronts
 pub mod Hexes
+pub mod Listed
+pub mod Paging
 pub mod PairLists
 pub mod PairsLoop

@@ -1,5 +1,6 @@
 pub mod Entry
 pub mod KeyMap
+pub mod Listing
 pub mod Maps
 pub mod Names
 pub mod Outside
