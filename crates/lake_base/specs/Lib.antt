@@ -1,3 +1,4 @@
+pub mod Commit
 pub mod Entry
 pub mod KeyMap
 pub mod Listing
@@ -6,4 +7,5 @@ pub mod Names
 pub mod Outside
 pub mod Pairs
 pub mod Reading
+pub mod Settings
 pub mod Spelling

@@ -12,6 +12,7 @@
 #![tactic(auto)]
 
 pub mod changes;
+pub mod commit;
 pub mod digest;
 pub mod entry;
 pub mod fields;
@@ -22,10 +23,12 @@ pub mod outside;
 pub mod pairs;
 mod places;
 pub mod sequence;
+pub mod settings;
 pub mod spelling;
 pub mod text;
 
 pub use changes::Changes;
+pub use commit::{About, CommitId, CommitRecord, ResetWhat, Strategy};
 pub use digest::Digest;
 pub use entry::{Change, Entry, Place};
 pub use fields::EntryFault;
@@ -35,5 +38,6 @@ pub use names::{NameFault, Path, RefName, RepoName};
 pub use outside::{Clock, Failed, NoMemory, Sink, Source, Trouble};
 pub use pairs::{Pairs, PairsFault};
 pub use sequence::Sequence;
+pub use settings::{BranchDays, Deny, HookRule, HookRules, Note, Protection, Rules};
 pub use spelling::{entry_bytes, entry_read};
 pub use text::Text;
