@@ -1,26 +1,31 @@
 -- What a search finds in a list whose keys ascend, and what an edit at that place does.
-use Rattle.std.proofs.Common.{◌≡◌, ℕ, zero, suc, ◌-◌, ◌<◌, ◌≤◌, ◌&&◌, Bool, true, false, cond, T, List, [], ◌∷◌, length, get_or, set, Some, None, Ok, Err, Result, MatchResult, sym, ap, subst, refl, ◌∙◌, arith}
+use Rattle.std.proofs.Common.{◌≡◌, ℕ, zero, suc, ◌-◌, ◌<◌, ◌≤◌, ◌&&◌, Bool, true, false, cond, T, List, [], ◌∷◌, length, get_or, set, Some, None, Ok, Err, Result, MatchResult, sym, ap, subst, refl, ◌⊎◌, inl, inr, ◌∙◌, arith, ◌++◌, drop, take}
 use Rattle.std.specs.Bool.{OnTrue, ◌==◌}
-use Rattle.std.specs.List.{insert, slice_get}
+use Rattle.std.specs.List.{insert, slice_get, AllWithin, AllByRecursion}
 use Rattle.std.specs.List.Sorted.{IsSearchInRange, IsBinarySearchResult, IsNonDecreasingBy}
 use Rattle.std.specs.Ordering.{ordering_index, ordering_reverse, is_lt, is_eq}
 use Rattle.std.specs.declared.cmp.Ordering.{Ordering}
 use Rattle.std.specs.declared.cmp.Ordering.TheVariants.{Less, Equal, Greater}
 use Rattle.std.proofs.lemmas.Cmp.{nat_list_cmp_total}
-use Rattle.std.specs.FinMap.{find, put, entries-from_sorted, from_sorted, entries-insert, same_entries_map, slice_cmp-IsAntisymmetric, nat_cmp-IsAntisymmetric, insert as map_insert, empty, len, len-entries, len-empty}
+use Rattle.std.specs.FinMap.{find, put, entries-from_sorted, entries_sorted, from_sorted, entries, entries-insert, same_entries_map, slice_cmp-IsAntisymmetric, nat_cmp-IsAntisymmetric, insert as map_insert, empty, len, len-entries, len-empty}
 use Rattle.std.specs.FinMap.Entries.{below_all, by_order, is_sorted-put}
+use Rattle.std.proofs.lemmas.List.{get_or_default}
 use Rattle.std.proofs.lemmas.Option.{get_or_from_slice_get, slice_get_within}
-use Rattle.lake_base.specs.Maps.{byte_order, Ascend, IsAt, IsGap}
+use Rattle.lake_base.specs.Maps.{byte_order, ByteMap, Ascend, IsAt, IsGap, IsParted}
 
-first : (a b : Bool) → T (a && b) → T a
+pub first : (a b : Bool) → T (a && b) → T a
 first true b h = tt
 first false b h = h
 
-second : (a b : Bool) → T (a && b) → T b
+pub second : (a b : Bool) → T (a && b) → T b
 second true b h = h
 second false b h = absurd h
 
-less : (o : Ordering) → T (is_lt o) → o ≡ Less
+pub both : (a b : Bool) → T a → T b → T (a && b)
+both true b h k = k
+both false b h k = h
+
+pub less : (o : Ordering) → T (is_lt o) → o ≡ Less
 less Less h = refl
 less Equal h = absurd h
 less Greater h = absurd h
@@ -48,6 +53,11 @@ zero_is_less Less h = refl
 zero_is_less Equal h = absurd (omega (arith, h))
 zero_is_less Greater h = absurd (omega (arith, h))
 
+two_is_greater : (o : Ordering) → 2 ≤ ordering_index o → o ≡ Greater
+two_is_greater Less h = absurd (omega (arith, h))
+two_is_greater Equal h = absurd (omega (arith, h))
+two_is_greater Greater h = refl
+
 module _ {X : Type 0} where
   pub head_below : (e : List ℕ × X) (es : List (List ℕ × X)) → Ascend (e ∷ es) → T (below_all byte_order e.0 es)
   head_below e es h = first _ _ h
@@ -56,7 +66,7 @@ module _ {X : Type 0} where
   tail_ascends e es h = second _ _ h
 
   -- a key below all keys is below the one at a place
-  below_at : (k : List ℕ) (es : List (List ℕ × X)) (i : ℕ) (d : List ℕ × X) → T (below_all byte_order k es) → i < length es → byte_order k (get_or es i d).0 ≡ Less
+  pub below_at : (k : List ℕ) (es : List (List ℕ × X)) (i : ℕ) (d : List ℕ × X) → T (below_all byte_order k es) → i < length es → byte_order k (get_or es i d).0 ≡ Less
   below_at k [] i d h lt = absurd (omega arith)
   below_at k (e ∷ es) zero d h lt = less _ (first _ _ h)
   below_at k (e ∷ es) (suc i) d h lt = below_at k es i d (second _ _ h) (omega arith)
@@ -91,6 +101,17 @@ module _ {X : Type 0} where
   tested_gap es k x h last Equal e true is = cc
   tested_gap es k x h last Greater e true is = cc
   tested_gap es k x h last o e false is = tt
+
+  -- where all before are below and the key there is above
+  pub greater_gap : (es : List (List ℕ × X)) (k : List ℕ) (at : ℕ) (x : List ℕ × X) → Ascend es → at < length es → AllWithin (λ item. byte_order item.0 k ≡ Less) es 0 at → x ≡ get_or es at x → byte_order x.0 k ≡ Greater → IsGap es k at
+  greater_gap es k at x h lt below is gt = record {
+    within = omega (arith, lt);
+    before = below;
+    from = λ i d low high.
+        let here : get_or es at d ≡ x = get_or_default es at d x lt ∙ sym is in
+        let two : ordering_index (byte_order (get_or es at d).0 k) ≡ 2 = ap (λ y. ordering_index (byte_order y.0 k)) here ∙ ap ordering_index gt in
+        two_is_greater _ (omega (arith, rising es k h at i d low high, two));
+  }
 
   pub no_gap : (es : List (List ℕ × X)) (k : List ℕ) → length es ≡ 0 → IsGap es k (length es)
   no_gap es k e = record { within = omega arith; before = λ j d low high. absurd (omega arith); from = λ j d low high. absurd (omega arith) }
@@ -163,3 +184,62 @@ module _ {X : Type 0} where
 
   pub map_none : from_sorted {K = List ℕ} {X = X} {R = byte_order} [] ≡ empty
   map_none = same_entries_map _ _ (entries-from_sorted byte_order [] tt ∙ sym (nothing _ (sym (len-entries empty) ∙ len-empty byte_order X)))
+
+  -- ---- parts
+
+  all_above : (p : List ℕ) (es : List (List ℕ × X)) → T (below_all byte_order p es) → AllByRecursion (λ e. byte_order p e.0 ≡ Less) es
+  all_above p [] h = tt
+  all_above p (e ∷ es) h = (less _ (first _ _ h), all_above p es (second _ _ h))
+
+  gap_above : (p : List ℕ) (es : List (List ℕ × X)) → AllWithin (λ item. byte_order item.0 p ≡ Greater) es 0 (length es) → AllByRecursion (λ e. byte_order p e.0 ≡ Less) es
+  gap_above p [] h = tt
+  gap_above p (e ∷ es) h = (turned e.0 p Greater (h 0 e (omega arith) (omega arith)), gap_above p es (λ i d low high. h (suc i) d (omega arith) (omega arith)))
+
+  parted_cons : (e : List ℕ × X) (es low high : List (List ℕ × X)) (p : List ℕ) → byte_order e.0 p ≡ Less → IsParted es p low high → IsParted (e ∷ es) p (e ∷ low) high
+  parted_cons e es low high p lt parts = record {
+    lower = (lt, parts.lower);
+    higher = parts.higher;
+    whole = elim parts.whole as (λ _. (e ∷ es ≡ e ∷ low ++ high) ⊎ ((x : X) × (e ∷ es ≡ e ∷ low ++ (p, x) ∷ high))) [
+      | inl is ↦ inl (ap (λ l. e ∷ l) is)
+      | inr is ↦ inr (is.0, ap (λ l. e ∷ l) is.1)
+    ];
+  }
+
+  pub parted_at : (es : List (List ℕ × X)) (p : List ℕ) (at : ℕ) → Ascend es → IsAt es p at → IsParted es p (take at es) (drop (suc at) es)
+  parted_at [] p at h is = absurd (omega (arith, is.within))
+  parted_at (e ∷ es) p zero h is =
+      let same = same_key e.0 p (is.same e) in
+      record {
+        lower = tt;
+        higher = all_above p es (subst (λ k. T (below_all byte_order k es)) same (head_below e es h));
+        whole = inr (e.1, ap (λ k. (k, e.1) ∷ es) same);
+      }
+  parted_at (e ∷ es) p (suc at) h is =
+      let same = same_key _ p (is.same e) in
+      let lt : byte_order e.0 p ≡ Less = subst (λ q. byte_order e.0 q ≡ Less) same (below_at e.0 es at e (head_below e es h) (omega (arith, is.within))) in
+      parted_cons e es _ _ p lt (parted_at es p at (tail_ascends e es h) (record { within = omega (arith, is.within); same = λ d. is.same d }))
+
+  pub parted_gap : (es : List (List ℕ × X)) (p : List ℕ) (at : ℕ) → IsGap es p at → IsParted es p (take at es) (drop at es)
+  parted_gap [] p zero gap = record { lower = tt; higher = tt; whole = inl refl }
+  parted_gap [] p (suc at) gap = absurd (omega (arith, gap.within))
+  parted_gap (e ∷ es) p zero gap = record { lower = tt; higher = gap_above p (e ∷ es) (λ i d low high. gap.from i d low high); whole = inl refl }
+  parted_gap (e ∷ es) p (suc at) gap = parted_cons e es _ _ p (gap.before 0 e (omega arith) (omega arith)) (parted_gap es p at (gap_tail e es p at gap))
+
+  ascends_back : (low high : List (List ℕ × X)) → Ascend (low ++ high) → Ascend high
+  ascends_back [] high h = h
+  ascends_back (e ∷ low) high h = ascends_back low high (tail_ascends e (low ++ high) h)
+
+  pub high_ascends : (es low high : List (List ℕ × X)) (p : List ℕ) → Ascend es → IsParted es p low high → Ascend high
+  high_ascends es low high p h parts = elim parts.whole as (λ _. Ascend high) [
+    | inl is ↦ ascends_back low high (subst Ascend is h)
+    | inr is ↦ tail_ascends (p, is.0) high (ascends_back low ((p, is.0) ∷ high) (subst Ascend is.1 h))
+  ]
+
+  pub ascends_drop : (i : ℕ) (es : List (List ℕ × X)) → Ascend es → Ascend (drop i es)
+  ascends_drop zero es h = h
+  ascends_drop (suc i) [] h = h
+  ascends_drop (suc i) (e ∷ es) h = ascends_drop i es (tail_ascends e es h)
+
+  -- a map is that of its own list
+  pub same_again : (m : ByteMap X) → from_sorted {R = byte_order} (entries m) ≡ m
+  same_again m = same_entries_map _ _ (entries-from_sorted byte_order (entries m) (entries_sorted m))

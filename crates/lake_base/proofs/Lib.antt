@@ -1,2 +1,11 @@
-pub mod Moments
+pub mod Applied
 pub mod Ascending
+pub mod EntryLaws
+pub mod FieldLaws
+pub mod Fronts
+pub mod Hexes
+pub mod Listed
+pub mod Moments
+pub mod Paging
+pub mod PairLists
+pub mod PairsLoop

@@ -1,9 +1,15 @@
 pub mod Body
 pub mod Clocks
+pub mod Commit
 pub mod Digest
 pub mod Entry
-pub mod Memory
+pub mod KeyMap
+pub mod Listing
 pub mod Maps
+pub mod Memory
 pub mod Names
 pub mod Outside
 pub mod Pairs
+pub mod Reading
+pub mod Settings
+pub mod Spelling

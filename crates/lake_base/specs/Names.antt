@@ -1,6 +1,7 @@
 -- Which bytes are texts, paths and names, and the first fault of those that aren't.
-use Rattle.std.specs.Prelude.{◌≡◌, ◌==◌, ◌&&◌, ◌||◌, ◌+◌, ℕ, Bool, not, nat_lt, nat_le, if◌then◌else◌, List, length, drop, slice_index, position, Option, Some, None, option_map, Result, Ok, Err}
+use Rattle.std.specs.Prelude.{is_none, take, min, ◌≡◌, ◌==◌, ◌&&◌, ◌||◌, ◌+◌, ℕ, Bool, not, nat_lt, nat_le, if◌then◌else◌, List, length, drop, slice_index, position, Option, Some, None, option_map, Result, Ok, Err}
 use Rattle.std.specs.Str.{is_utf8}
+use Rattle.std.specs.Option.{option_or}
 use Rattle.lake_base.specs.declared.names.TheConstants.{PATH_LIMIT}
 use Rattle.lake_base.specs.declared.names.NameFault.{NameFault}
 use Rattle.lake_base.specs.declared.names.NameFault.TheVariants.{Empty, TooShort, TooLong, NotUtf8, BadByte, NoMemory}
@@ -68,3 +69,19 @@ ref_fault bytes =
     if length bytes == 0 then Some Empty
     else if nat_lt 255 (length bytes) then Some TooLong
     else bad_byte begins_ref continues_ref bytes
+
+-- a lower-case hex digit
+abbrev pub is_hex : ℕ → Bool
+is_hex byte = is_digit byte || (nat_le 97 byte && nat_le byte 102)
+
+-- the first of these bytes that is no lower-case hex digit
+abbrev pub stray_hex : List ℕ → Option ℕ
+stray_hex bytes = position (λ byte. not (is_hex byte)) bytes
+
+-- a name that could be taken for the id of a commit: 64 lower-case hex digits
+abbrev pub is_like_id : List ℕ → Bool
+is_like_id name = (length name == 64) && is_none (stray_hex name)
+
+-- where a text stops being 64 lower-case hex digits: a stray byte among the first 64, a shorter text's end, or place 64
+abbrev pub digest_fault : List ℕ → Option ℕ
+digest_fault text = option_or (stray_hex (take 64 text)) (if length text == 64 then None else Some (min 64 (length text)))

@@ -13,23 +13,35 @@
 
 pub mod clocks;
 pub mod changes;
+pub mod commit;
 pub mod digest;
 pub mod entry;
 pub mod memory;
+pub mod fields;
+pub mod key_map;
+pub mod listing;
 pub mod names;
 pub mod outside;
 pub mod pairs;
 mod places;
 pub mod sequence;
+pub mod settings;
+pub mod spelling;
 pub mod text;
 
 pub use clocks::{FixedClock, ScriptClock};
 pub use changes::Changes;
+pub use commit::{About, CommitId, CommitRecord, ResetWhat, Strategy};
 pub use digest::Digest;
 pub use entry::{Change, Entry, Place};
 pub use memory::{MemorySink, MemorySource};
+pub use fields::EntryFault;
+pub use key_map::KeyMap;
+pub use listing::{Item, Page, PageQuery};
 pub use names::{NameFault, Path, RefName, RepoName};
 pub use outside::{Clock, Failed, NoMemory, Sink, Source, Trouble};
-pub use pairs::Pairs;
+pub use pairs::{Pairs, PairsFault};
 pub use sequence::Sequence;
 pub use text::{Text, is_utf8};
+pub use settings::{BranchDays, Deny, HookRule, HookRules, Note, Protection, Rules};
+pub use spelling::{entry_bytes, entry_read};

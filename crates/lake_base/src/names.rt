@@ -1,6 +1,6 @@
 //! Paths, and the names of repositories, branches and tags.
 ghost use Rattle.std.specs.Prelude.{◌≡◌, ◌+◌, ◌<◌, not, length, position, IfOk, None};
-ghost use Rattle.lake_base.specs.Names.{Answers, path_fault, repo_fault, ref_fault, bad_byte, begins_repo, continues_repo, begins_ref, continues_ref};
+ghost use Rattle.lake_base.specs.Names.{Answers, path_fault, repo_fault, ref_fault, bad_byte, begins_repo, continues_repo, begins_ref, continues_ref, is_hex, stray_hex, is_like_id};
 
 use crate::outside::NoMemory;
 use crate::text::utf8;
@@ -102,6 +102,20 @@ fn bad_ref_byte(bytes: &[u8]) -> Option<NameFault>
         None => None,
         Some(at) => Some(NameFault::BadByte(at + 1)),
     }
+}
+
+// Whether the byte is a lower-case hex digit.
+fn is_hex(byte: u8) -> bool
+    ensures { result ≡ is_hex byte }
+{
+    byte.is_ascii_digit() || matches!(byte, b'a'..=b'f')
+}
+
+// The first byte that isn't one.
+pub(crate) fn stray_hex_byte(bytes: &[u8]) -> Option<usize>
+    ensures { result ≡ stray_hex bytes.now }
+{
+    bytes.iter().position(|byte| !is_hex(*byte))
 }
 
 /// A path: UTF-8 of 1 to 1,024 bytes. Contracts see its bytes.
@@ -250,6 +264,13 @@ impl RefName {
             Ok(bytes) => Ok(RefName { bytes }),
             Err(_) => Err(NameFault::NoMemory),
         }
+    }
+
+    /// Whether it could be taken for the id of a commit: 64 lower-case hex digits. It takes no memory.
+    pub fn like_id(&self) -> bool
+        ensures { result ≡ is_like_id self.now }
+    {
+        self.bytes.as_slice().len() == 64 && stray_hex_byte(self.bytes.as_slice()).is_none()
     }
 
     /// Its bytes. It takes no memory.

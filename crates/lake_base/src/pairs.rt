@@ -1,11 +1,42 @@
 //! Metadata: pairs of a key and a value.
-ghost use Rattle.std.specs.Prelude.{◌≡◌, [], IfOk};
-ghost use Rattle.lake_base.specs.Pairs.{ArePairs};
+ghost use Rattle.std.specs.Prelude.{◌≡◌, [], IfOk, OnErr, MatchResult};
+ghost use Rattle.std.specs.FinMap.{put};
+ghost use Rattle.lake_base.specs.Maps.{byte_order, Ascend, IsAt, IsGap};
+ghost use Rattle.lake_base.specs.Pairs.{IsPair, ArePairs, pair_fault, room_fault, Sets};
+ghost use Rattle.lake_base.specs.declared.pairs.PairsFault.TheVariants.{NoMemory as pairs_no_memory};
 
 use crate::outside::NoMemory;
 use crate::text::Text;
-use std::alloc::Global;
+use std::alloc::{AllocFailed, Global};
+use std::cmp::Ordering;
 use std::marker::Model;
+use std::mem;
+use thiserror::Error;
+
+/// Why a pair can't be set.
+#[derive(Clone, Copy, Debug, PartialEq, Eq, Error)]
+pub enum PairsFault {
+    /// The key hasn't 1 to 128 bytes.
+    #[error("the key has no bytes or too many")]
+    Key,
+    /// The value has more than 1,024 bytes.
+    #[error("the value is too long")]
+    Value,
+    /// The key is new, and there are 64 pairs.
+    #[error("there are 64 pairs")]
+    Full,
+    /// No memory was left.
+    #[error("out of memory")]
+    NoMemory,
+}
+
+impl<T: Drop> From<AllocFailed<T>> for PairsFault {
+    ghost from_gives = { λ _ e. e ≡ pairs_no_memory };
+
+    fn from(_: AllocFailed<T>) -> Self {
+        PairsFault::NoMemory
+    }
+}
 
 /// The metadata of an object or a commit: at most 64 pairs, keys strictly ascending as bytes, each key
 /// of 1 to 128 bytes and each value of at most 1,024. Contracts see the list.
@@ -35,12 +66,34 @@ impl Pairs {
         }
     }
 
+    /// The metadata of these pairs. It takes no memory.
+    pub fn of(pairs: Vec<(Text, Text)>) -> Pairs
+        requires { ArePairs pairs.items }
+        ensures { result ≡ pairs.items }
+    {
+        Pairs { pairs }
+    }
+
     /// The pairs, in order of their keys. It takes no memory.
     pub fn as_slice(&self) -> &[(Text, Text)]
         ensures pairs { result.now ≡ self.now }
         ensures valid { ArePairs self.now }
     {
         self.pairs.as_slice()
+    }
+
+    /// Puts the value at the key. Each fault comes exactly where it is the first, in the order of the enum.
+    pub fn set(&mut self, key: Text, value: Text) -> Result<(), PairsFault>
+        ensures set { Sets result (pair_fault key value self.old) (self.new ≡ put byte_order key value self.old) }
+        ensures unchanged { OnErr result (self.new ≡ self.old) }
+    {
+        if key.as_slice().is_empty() || key.as_slice().len() > 128 {
+            return Err(PairsFault::Key);
+        }
+        if value.as_slice().len() > 1024 {
+            return Err(PairsFault::Value);
+        }
+        put_pair(&mut self.pairs, key, value)
     }
 
     /// Equal pairs.
@@ -61,4 +114,42 @@ fn copied(alloc: Global, pairs: &[(Text, Text)]) -> Result<Vec<(Text, Text)>, No
         copy.push((key.copy(alloc)?, value.copy(alloc)?))?;
     }
     Ok(copy)
+}
+
+// Where the key is, or where it would go.
+fn place(pairs: &[(Text, Text)], key: &Text) -> Result<usize, usize>
+    requires { Ascend pairs.now }
+    ensures { MatchResult result (IsAt pairs.now key.now) (IsGap pairs.now key.now) }
+{
+    for (at, pair) in pairs.iter().enumerate() {
+        match pair.0.as_slice().cmp(key.as_slice()) {
+            Ordering::Less => {}
+            Ordering::Equal => return Ok(at),
+            Ordering::Greater => return Err(at),
+        }
+    }
+    Err(pairs.len())
+}
+
+// Puts a pair within the limits of one.
+fn put_pair(pairs: &mut Vec<(Text, Text)>, key: Text, value: Text) -> Result<(), PairsFault>
+    requires pairs { ArePairs pairs.old.items }
+    requires pair { IsPair (key, value) }
+    ensures set { Sets result (room_fault key pairs.old.items) (pairs.new.items ≡ put byte_order key value pairs.old.items) }
+    ensures unchanged { OnErr result (pairs.new.items ≡ pairs.old.items) }
+    ensures pairs { ArePairs pairs.new.items }
+{
+    match place(pairs.as_slice(), &key) {
+        Ok(at) => {
+            let _old = mem::replace(&mut pairs[at], (key, value));
+            Ok(())
+        }
+        Err(at) => {
+            if pairs.as_slice().len() >= 64 {
+                return Err(PairsFault::Full);
+            }
+            pairs.insert(at, (key, value))?;
+            Ok(())
+        }
+    }
 }

@@ -38,6 +38,21 @@ pub(crate) fn place<T>(items: &[(Path, T)], path: &Path) -> Result<usize, usize>
     items.binary_search_by(|item| compared(&item.0, path))
 }
 
+// The same, looked for from the front.
+pub(crate) fn walk_to<T>(items: &[(Path, T)], path: &Path) -> Result<usize, usize>
+    requires { Ascend items.now }
+    ensures { MatchResult result (IsAt items.now path.now) (IsGap items.now path.now) }
+{
+    for (at, item) in items.iter().enumerate() {
+        match compared(&item.0, path) {
+            Ordering::Less => {}
+            Ordering::Equal => return Ok(at),
+            Ordering::Greater => return Err(at),
+        }
+    }
+    Err(items.len())
+}
+
 // The value at the path.
 pub(crate) fn value_at<'a, T>(items: &'a [(Path, T)], path: &Path) -> Option<&'a T>
     requires { Ascend items.now }

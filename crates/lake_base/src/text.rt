@@ -70,9 +70,10 @@ impl Text {
         self.text.as_bytes()
     }
 
-    /// Its characters. It takes no memory.
+    /// It as a string. It takes no memory.
     pub fn as_str(&self) -> &str
-        ensures { result.now ≡ self.now }
+        ensures bytes { result.now ≡ self.now }
+        ensures utf8 { is_utf8 self.now ≡ true }
     {
         self.text.as_str()
     }

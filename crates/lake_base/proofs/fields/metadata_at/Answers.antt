@@ -1,0 +1,5 @@
+use Rattle.lake_base.proofs.PairsLoop.{are_pairs}
+use Rattle.lake_base.proofs.fields.metadata_at.Goals as goal
+
+pub of-requires : goal.of-requires
+of-requires c = are_pairs c.in_ok-count.count c.in_ok-count.rest.now c.in_ok-pairs.pairs.items c.in_ok-pairs.rest.now c.if-count-gt64.false c.in_ok-pairs.ensures

@@ -1,0 +1,119 @@
+-- Listings: the items of a key map under a prefix and a delimiter, and their pages.
+use Rattle.std.specs.Prelude.{◌≡◌, ◌<◌, ◌≤◌, ◌||◌, not, true, false, ℕ, zero, suc, Bool, List, [], ◌∷◌, ◌++◌, length, map, take, drop, filter, Option, Some, None, option_map, nat_eq, nat_lt, if◌then◌else◌}
+use Rattle.std.specs.List.{starts_with, AllByRecursion}
+use Rattle.std.specs.Ordering.{is_lt, is_gt}
+use Rattle.std.specs.declared.cmp.Ordering.TheVariants.{Less}
+use Rattle.std.specs.FinMap.{empty, insert, entries}
+use Rattle.lake_base.specs.Entry.{Object}
+use Rattle.lake_base.specs.KeyMap.{Objects}
+use Rattle.lake_base.specs.Maps.{ByteMap, byte_order, Ascend}
+use Rattle.lake_base.specs.declared.listing.Item.{Item}
+use Rattle.lake_base.specs.declared.listing.Item.TheVariants as item
+use Rattle.lake_base.specs.declared.listing.PageQuery.{PageQuery}
+
+-- the bytes up to and including the first delimiter, where there is one
+abbrev pub through : List ℕ → List ℕ → Option (List ℕ)
+through delimiter [] = None
+through delimiter (byte ∷ bytes) =
+    if starts_with nat_eq (byte ∷ bytes) delimiter then Some delimiter
+    else option_map (λ front. byte ∷ front) (through delimiter bytes)
+
+-- a key up to and including the first delimiter after the prefix, where the delimiter isn't empty and occurs there
+abbrev pub common_prefix : List ℕ → List ℕ → List ℕ → Option (List ℕ)
+common_prefix prefix [] key = None
+common_prefix prefix (byte ∷ bytes) key = option_map (λ front. prefix ++ front) (through (byte ∷ bytes) (drop (length prefix) key))
+
+-- the common prefix, or else the key with its entry
+abbrev pub item_from : Option (List ℕ) → List ℕ → Object → Item
+item_from None key entry = item.Object key entry
+item_from (Some text) key entry = item.Prefix text
+
+-- the item of a key that begins with the prefix
+abbrev pub item_of : List ℕ → List ℕ → List ℕ → Object → Item
+item_of prefix delimiter key entry = item_from (common_prefix prefix delimiter key) key entry
+
+abbrev pub item_name : Item → List ℕ
+item_name (item.Object path entry) = path
+item_name (item.Prefix text) = text
+
+-- the items of the keys that begin with the prefix, by name
+abbrev pub listed : List ℕ → List ℕ → List (List ℕ × Object) → ByteMap Item
+listed prefix delimiter [] = empty
+listed prefix delimiter (e ∷ es) =
+    if starts_with nat_eq e.0 prefix
+    then insert (listed prefix delimiter es) (item_name (item_of prefix delimiter e.0 e.1)) (item_of prefix delimiter e.0 e.1)
+    else listed prefix delimiter es
+
+-- the items in byte order, each once
+abbrev pub items_of : PageQuery → List (List ℕ × Object) → List (List ℕ × Item)
+items_of query es = entries (listed query.prefix query.delimiter es)
+
+-- of them, those above `after`
+abbrev pub above : List ℕ → List (List ℕ × Item) → List (List ℕ × Item)
+above after items = filter (λ i. is_lt (byte_order after i.0)) items
+
+-- the items that a sorted list of entries still gives
+abbrev pub still : PageQuery → List (List ℕ × Object) → List Item
+still query es = map (λ i. i.1) (above query.after (items_of query es))
+
+abbrev pub items_above : PageQuery → Objects → List Item
+items_above query objects = still query (entries objects)
+
+-- a page is the first of them, so many
+abbrev pub page_items : PageQuery → Objects → List Item
+page_items query objects = take query.amount (items_above query objects)
+
+-- whether one is left
+abbrev pub has_more : PageQuery → Objects → Bool
+has_more query objects = nat_lt query.amount (length (items_above query objects))
+
+-- the name of the last item
+abbrev pub last_name : List Item → List ℕ
+last_name [] = []
+last_name (i ∷ []) = item_name i
+last_name (i ∷ j ∷ items) = last_name (j ∷ items)
+
+-- the query for what comes after these items
+abbrev pub after_page : PageQuery → List Item → PageQuery
+after_page query items = record { prefix = query.prefix; after = last_name items; amount = query.amount; delimiter = query.delimiter }
+
+-- the items of at most so many pages, each taken after the last item of the one before
+abbrev pub pages : ℕ → PageQuery → Objects → List Item
+pages zero query objects = []
+pages (suc n) query objects =
+    page_items query objects ++ (if has_more query objects then pages n (after_page query (page_items query objects)) objects else [])
+
+-- entries from which a page goes on: in order, above `after`, and none below the prefix
+pub record IsRest (query : PageQuery) (es : List (List ℕ × Object)) : Type 0 where
+  pub ascend : Ascend es
+  pub later : AllByRecursion (λ e. byte_order query.after e.0 ≡ Less) es
+  pub from : AllByRecursion (λ e. is_gt (byte_order query.prefix e.0) ≡ false) es
+
+-- one more entry was visited: its item, if it is above `after`, is appended
+pub record Visits (query : PageQuery) (old new : List Item) (es left : List (List ℕ × Object)) : Type 0 where
+  pub same : new ++ still query left ≡ old ++ still query es
+  pub room : length new ≤ query.amount
+  pub rest : IsRest query left
+  pub shorter : length left < length es
+
+-- the page is full, and an item is left
+pub record IsFull (query : PageQuery) (items : List Item) (es : List (List ℕ × Object)) : Type 0 where
+  pub full : length items ≡ query.amount
+  pub left : 0 < length (still query es)
+
+-- whether a path is up to `after`, or below the prefix
+abbrev pub is_before : PageQuery → List ℕ → Bool
+is_before query path = not (is_lt (byte_order query.after path)) || is_lt (byte_order path query.prefix)
+
+-- the first entry begins with a name
+abbrev pub IsFirst : List (List ℕ × Object) → List ℕ → Type 0
+IsFirst [] name = ⊥
+IsFirst (e ∷ es) name = starts_with nat_eq e.0 name ≡ true
+
+-- what is left after a run of entries that begin with a name
+pub record IsPast (es : List (List ℕ × Object)) (name : List ℕ) (left : List (List ℕ × Object)) : Type 0 where
+  pub run : List (List ℕ × Object)
+  pub some : 0 < length run
+  pub whole : es ≡ run ++ left
+  pub begin : AllByRecursion (λ e. starts_with nat_eq e.0 name ≡ true) run
+  pub others : AllByRecursion (λ e. starts_with nat_eq e.0 name ≡ false) left

@@ -1,0 +1,125 @@
+//! Commits, what is said of one, and the plain choices of merges and resets.
+ghost use Rattle.std.specs.Prelude.{◌≡◌, IfOk};
+
+use crate::digest::Digest;
+use crate::names::Path;
+use crate::outside::NoMemory;
+use crate::pairs::Pairs;
+use crate::sequence::Sequence;
+use crate::text::Text;
+use std::alloc::Global;
+use std::marker::Model;
+
+/// A commit is known by the SHA-256 of its bytes.
+pub type CommitId = Digest;
+
+/// A commit: of generation 1 and more, with at most two parents, a committer of 1 to 128 bytes and a message
+/// of at most 65,536. Contracts see its fields.
+#[derive(Debug, Drop)]
+pub struct CommitRecord {
+    /// The metarange of its map.
+    pub meta_range: Digest,
+    pub generation: u64,
+    /// Seconds since 1970.
+    pub date: u64,
+    pub parents: Sequence<Digest>,
+    pub committer: Text,
+    pub message: Text,
+    pub metadata: Pairs,
+}
+
+impl Model for CommitRecord {
+    ghost use Rattle.lake_base.specs.Commit.{Commit, IsCommit};
+
+    ghost Value = { Commit };
+
+    ghost view = { λ c. record { meta_range = c.meta_range; generation = c.generation; date = c.date; parents = c.parents; committer = c.committer; message = c.message; metadata = c.metadata } };
+
+    ghost invariant = { λ c. IsCommit c.generation c.parents c.committer c.message };
+}
+
+/// What is said of a commit that is to be made, within the limits of one. Contracts see its fields.
+#[derive(Debug, Drop)]
+pub struct About {
+    pub committer: Text,
+    pub message: Text,
+    pub metadata: Pairs,
+    /// Seconds since 1970.
+    pub date: u64,
+}
+
+impl Model for About {
+    ghost use Rattle.lake_base.specs.Commit.{Remark, IsRemark};
+
+    ghost Value = { Remark };
+
+    ghost view = { λ about. record { committer = about.committer; message = about.message; metadata = about.metadata; date = about.date } };
+
+    ghost invariant = { λ about. IsRemark about.committer about.message };
+}
+
+/// What a merge does at a path that conflicts.
+#[derive(Clone, Copy, Debug, PartialEq, Eq)]
+pub enum Strategy {
+    /// The merge is refused.
+    Refuse,
+    /// The source's value is taken.
+    SourceWins,
+    /// The destination's value stays.
+    DestWins,
+}
+
+/// Which staged changes a reset drops.
+#[derive(Debug, Drop)]
+pub enum ResetWhat {
+    All,
+    /// That of one path.
+    Object(Path),
+    /// Those of the paths that begin with this, which may be empty.
+    Prefix(Text),
+}
+
+impl CommitRecord {
+    /// An equal commit.
+    pub fn copy(&self, alloc: Global) -> Result<CommitRecord, NoMemory>
+        ensures { IfOk result (λ copy. copy ≡ self.now) }
+    {
+        let parents = Vec::from_slice(alloc, self.parents.as_slice())?;
+        Ok(CommitRecord {
+            meta_range: self.meta_range,
+            generation: self.generation,
+            date: self.date,
+            parents: Sequence::of(parents),
+            committer: self.committer.copy(alloc)?,
+            message: self.message.copy(alloc)?,
+            metadata: self.metadata.copy(alloc)?,
+        })
+    }
+}
+
+impl About {
+    /// An equal one.
+    pub fn copy(&self, alloc: Global) -> Result<About, NoMemory>
+        ensures { IfOk result (λ copy. copy ≡ self.now) }
+    {
+        Ok(About {
+            committer: self.committer.copy(alloc)?,
+            message: self.message.copy(alloc)?,
+            metadata: self.metadata.copy(alloc)?,
+            date: self.date,
+        })
+    }
+}
+
+impl ResetWhat {
+    /// An equal one.
+    pub fn copy(&self, alloc: Global) -> Result<ResetWhat, NoMemory>
+        ensures { IfOk result (λ copy. copy ≡ self.now) }
+    {
+        match self {
+            ResetWhat::All => Ok(ResetWhat::All),
+            ResetWhat::Object(path) => Ok(ResetWhat::Object(path.copy(alloc)?)),
+            ResetWhat::Prefix(prefix) => Ok(ResetWhat::Prefix(prefix.copy(alloc)?)),
+        }
+    }
+}

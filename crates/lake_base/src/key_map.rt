@@ -1,0 +1,164 @@
+//! Key maps: what stands at which path.
+ghost use Rattle.std.specs.Prelude.{◌≡◌, ◌++◌, ℕ, List, OnOk, IfOk, option_copied};
+ghost use Rattle.std.specs.Option.{option_or};
+ghost use Rattle.std.specs.FinMap as map;
+ghost use Rattle.lake_base.specs.Maps.{Ascend, IsParted};
+ghost use Rattle.lake_base.specs.KeyMap.{Objects, Edits, apply, over, said, left_by};
+
+use crate::changes::Changes;
+use crate::entry::{Change, Entry};
+use crate::names::Path;
+use crate::outside::NoMemory;
+use crate::places::{value_at, walk_to};
+use std::alloc::Global;
+use std::marker::Model;
+
+/// The entries at paths, at most one at each. Contracts see the finite map from path to entry.
+#[derive(Debug, Drop)]
+pub struct KeyMap {
+    // In order of path.
+    entries: Vec<(Path, Entry)>,
+}
+
+impl Model for KeyMap {
+    ghost use Rattle.std.specs.FinMap as map;
+    ghost use Rattle.std.specs.Coded.{coded_list, coded_ℕ};
+    ghost use Rattle.lake_base.specs.Maps.{ByteMap, Ascend};
+    ghost use Rattle.lake_base.specs.Entry.{Object};
+    ghost use Rattle.lake_base.specs.contracts.entry.Entry.{the_row};
+
+    ghost Value = { ByteMap Object };
+
+    ghost coded = { map.code (coded_list coded_ℕ) the_row.coded };
+
+    ghost view = { λ a. map.from_sorted a.entries.items };
+
+    ghost invariant = { λ a. Ascend a.entries.items };
+}
+
+impl KeyMap {
+    /// Nothing. It takes no memory.
+    pub fn new(alloc: Global) -> KeyMap
+        ensures { result ≡ map.empty }
+    {
+        KeyMap {
+            entries: Vec::new(alloc),
+        }
+    }
+
+    /// The entry at the path, by a search. It takes no memory.
+    pub fn get(&self, path: &Path) -> Option<&Entry>
+        ensures { option_copied result ≡ map.get self.now path.now }
+    {
+        value_at(self.entries.as_slice(), path)
+    }
+
+    /// How many paths there are. It takes no memory.
+    pub fn len(&self) -> usize
+        ensures { result ≡ map.len self.now }
+    {
+        self.as_slice().len()
+    }
+
+    /// The entries in order of path. It takes no memory.
+    pub fn as_slice(&self) -> &[(Path, Entry)]
+        ensures { result.now ≡ map.entries self.now }
+    {
+        self.entries.as_slice()
+    }
+
+    /// What the changes say at their paths, and this map elsewhere.
+    pub fn apply(&self, alloc: Global, changes: &Changes) -> Result<KeyMap, NoMemory>
+        ensures { IfOk result (λ map. map ≡ apply changes.now self.now) }
+    {
+        let entries = merged(alloc, self.entries.as_slice(), changes.as_slice())?;
+        Ok(KeyMap { entries })
+    }
+
+    /// An equal map.
+    pub fn copy(&self, alloc: Global) -> Result<KeyMap, NoMemory>
+        ensures { IfOk result (λ copy. copy ≡ self.now) }
+    {
+        let mut entries = Vec::new(alloc);
+        append(alloc, &mut entries, self.entries.as_slice())?;
+        Ok(KeyMap { entries })
+    }
+}
+
+/// What changes say at their paths and a map elsewhere, and what new changes say at theirs and old ones
+/// elsewhere. Changes over changes are applied as one after the other. (A law: it does nothing.)
+pub fn laws_of_changes()
+    ensures applied { (changes : Edits) (old : Objects) (path : List ℕ)
+        → map.get (apply changes old) path ≡ said (map.get changes path) (map.get old path) }
+    ensures over { (new old : Edits) (path : List ℕ)
+        → map.get (over new old) path ≡ option_or (map.get new path) (map.get old path) }
+    ensures in_turn { (new old : Edits) (under : Objects)
+        → apply (over new old) under ≡ apply new (apply old under) }
+    ensures together { (a b c : Edits) → over (over a b) c ≡ over a (over b c) }
+{}
+
+// The entries after the changes: one merge of the two lists.
+fn merged(
+    alloc: Global,
+    entries: &[(Path, Entry)],
+    changes: &[(Path, Change)],
+) -> Result<Vec<(Path, Entry)>, NoMemory>
+    requires entries { Ascend entries.now }
+    requires changes { Ascend changes.now }
+    ensures ascend { IfOk result (λ merged. Ascend merged.items) }
+    ensures applied { IfOk result (λ merged. map.from_sorted merged.items ≡ apply (map.from_sorted changes.now) (map.from_sorted entries.now)) }
+{
+    let mut merged = Vec::new(alloc);
+    let mut rest = entries;
+    for (path, change) in changes {
+        let (low, high) = parts(rest, path);
+        append(alloc, &mut merged, low)?;
+        add(alloc, &mut merged, path, change)?;
+        rest = high;
+    }
+    append(alloc, &mut merged, rest)?;
+    Ok(merged)
+}
+
+// The entries below the path, and those above it.
+fn parts<'a>(
+    entries: &'a [(Path, Entry)],
+    path: &Path,
+) -> (&'a [(Path, Entry)], &'a [(Path, Entry)])
+    requires { Ascend entries.now }
+    ensures { IsParted entries.now path.now result.0.now result.1.now }
+{
+    match walk_to(entries, path) {
+        Ok(at) => (entries.split_at(at).0, entries.split_at(at + 1).1),
+        Err(at) => entries.split_at(at),
+    }
+}
+
+// Appends equal entries.
+fn append(
+    alloc: Global,
+    merged: &mut Vec<(Path, Entry)>,
+    entries: &[(Path, Entry)],
+) -> Result<(), NoMemory>
+    ensures { OnOk result (merged.new.items ≡ merged.old.items ++ entries.now) }
+{
+    for (path, entry) in entries {
+        merged.push((path.copy(alloc)?, entry.copy(alloc)?))?;
+    }
+    Ok(())
+}
+
+// Appends what the change puts at the path.
+fn add(
+    alloc: Global,
+    merged: &mut Vec<(Path, Entry)>,
+    path: &Path,
+    change: &Change,
+) -> Result<(), NoMemory>
+    ensures { OnOk result (merged.new.items ≡ merged.old.items ++ left_by path.now change.now) }
+{
+    if let Change::Put(entry) = change {
+        merged.push((path.copy(alloc)?, entry.copy(alloc)?))?;
+    }
+    Ok(())
+}

@@ -1,0 +1,224 @@
+//! The settings of a repository: retention, protection and hooks.
+ghost use Rattle.std.specs.Prelude.{◌≡◌, IfOk};
+
+use crate::names::RefName;
+use crate::outside::NoMemory;
+use crate::sequence::Sequence;
+use crate::text::Text;
+use std::alloc::Global;
+use std::marker::Model;
+
+/// For how many days a branch keeps what it has left behind: 1 to 36,500.
+#[derive(Debug, Drop)]
+pub struct BranchDays {
+    pub branch: RefName,
+    pub days: u32,
+}
+
+/// Retention: 1 to 36,500 days, and at most 256 branches with days of their own, of which the first rule of
+/// a name counts. Contracts see its fields.
+#[derive(Debug, Drop)]
+pub struct Rules {
+    pub default_days: u32,
+    pub branches: Sequence<BranchDays>,
+}
+
+impl Model for Rules {
+    ghost use Rattle.lake_base.specs.Settings.{Retention, IsRetention};
+
+    ghost Value = { Retention };
+
+    ghost view = { λ rules. record { default_days = rules.default_days; branches = rules.branches } };
+
+    ghost invariant = { λ rules. IsRetention rules.default_days rules.branches };
+}
+
+/// The patterns of protected branches, at most 256. A pattern has 1 to 255 bytes of `[A-Za-z0-9_*-]`; `*`
+/// stands for any bytes. Contracts see the list.
+#[derive(Debug, Drop)]
+pub struct Protection {
+    pub patterns: Sequence<Text>,
+}
+
+impl Model for Protection {
+    ghost use Rattle.std.specs.Prelude.{List, ℕ};
+    ghost use Rattle.lake_base.specs.Settings.{IsProtection};
+
+    ghost Value = { List (List ℕ) };
+
+    ghost view = { λ protection. protection.patterns };
+
+    ghost invariant = { λ protection. IsProtection protection.patterns };
+}
+
+/// What a hook rule denies.
+#[derive(Debug, Drop)]
+pub enum Deny {
+    /// A commit whose metadata lacks this key, of 1 to 128 bytes.
+    RequireMeta(Text),
+    /// A changed path that begins with this, of 1 to 1,024 bytes.
+    DenyPrefix(Text),
+    /// An entry that is put with a greater size, in bytes.
+    MaxSize(u64),
+    /// More changed paths than this.
+    MaxChanges(u64),
+}
+
+/// A rule that is asked for the branches that match its pattern.
+#[derive(Debug, Drop)]
+pub struct HookRule {
+    pub branch: Text,
+    pub deny: Deny,
+}
+
+/// At most 256 hook rules. Contracts see the list.
+#[derive(Debug, Drop)]
+pub struct HookRules {
+    pub rules: Sequence<HookRule>,
+}
+
+impl Model for HookRules {
+    ghost use Rattle.std.specs.Prelude.{List};
+    ghost use Rattle.lake_base.specs.declared.settings.HookRule.{HookRule as Rule};
+    ghost use Rattle.lake_base.specs.contracts.settings.HookRule.{the_row};
+    ghost use Rattle.std.specs.Coded.{coded_list};
+
+    ghost Value = { List Rule };
+
+    ghost coded = { coded_list the_row.coded };
+
+    ghost use Rattle.lake_base.specs.Settings.{AreHooks};
+
+    ghost view = { λ hooks. hooks.rules };
+
+    ghost invariant = { λ hooks. AreHooks hooks.rules };
+}
+
+/// One of the three settings.
+#[derive(Debug, Drop)]
+pub enum Note {
+    Retention(Rules),
+    Protection(Protection),
+    Hooks(HookRules),
+}
+
+impl BranchDays {
+    /// An equal rule.
+    pub fn copy(&self, alloc: Global) -> Result<BranchDays, NoMemory>
+        ensures { IfOk result (λ copy. copy ≡ self.now) }
+    {
+        Ok(BranchDays {
+            branch: self.branch.copy(alloc)?,
+            days: self.days,
+        })
+    }
+}
+
+impl Rules {
+    /// Equal rules.
+    pub fn copy(&self, alloc: Global) -> Result<Rules, NoMemory>
+        ensures { IfOk result (λ copy. copy ≡ self.now) }
+    {
+        let branches = copied_days(alloc, self.branches.as_slice())?;
+        Ok(Rules {
+            default_days: self.default_days,
+            branches: Sequence::of(branches),
+        })
+    }
+}
+
+impl Protection {
+    /// Equal patterns.
+    pub fn copy(&self, alloc: Global) -> Result<Protection, NoMemory>
+        ensures { IfOk result (λ copy. copy ≡ self.now) }
+    {
+        let patterns = copied_texts(alloc, self.patterns.as_slice())?;
+        Ok(Protection {
+            patterns: Sequence::of(patterns),
+        })
+    }
+}
+
+impl Deny {
+    /// An equal one.
+    pub fn copy(&self, alloc: Global) -> Result<Deny, NoMemory>
+        ensures { IfOk result (λ copy. copy ≡ self.now) }
+    {
+        match self {
+            Deny::RequireMeta(key) => Ok(Deny::RequireMeta(key.copy(alloc)?)),
+            Deny::DenyPrefix(prefix) => Ok(Deny::DenyPrefix(prefix.copy(alloc)?)),
+            Deny::MaxSize(bytes) => Ok(Deny::MaxSize(*bytes)),
+            Deny::MaxChanges(count) => Ok(Deny::MaxChanges(*count)),
+        }
+    }
+}
+
+impl HookRule {
+    /// An equal rule.
+    pub fn copy(&self, alloc: Global) -> Result<HookRule, NoMemory>
+        ensures { IfOk result (λ copy. copy ≡ self.now) }
+    {
+        Ok(HookRule {
+            branch: self.branch.copy(alloc)?,
+            deny: self.deny.copy(alloc)?,
+        })
+    }
+}
+
+impl HookRules {
+    /// Equal rules.
+    pub fn copy(&self, alloc: Global) -> Result<HookRules, NoMemory>
+        ensures { IfOk result (λ copy. copy ≡ self.now) }
+    {
+        let rules = copied_hooks(alloc, self.rules.as_slice())?;
+        Ok(HookRules {
+            rules: Sequence::of(rules),
+        })
+    }
+}
+
+impl Note {
+    /// An equal setting.
+    pub fn copy(&self, alloc: Global) -> Result<Note, NoMemory>
+        ensures { IfOk result (λ copy. copy ≡ self.now) }
+    {
+        match self {
+            Note::Retention(rules) => Ok(Note::Retention(rules.copy(alloc)?)),
+            Note::Protection(protection) => Ok(Note::Protection(protection.copy(alloc)?)),
+            Note::Hooks(hooks) => Ok(Note::Hooks(hooks.copy(alloc)?)),
+        }
+    }
+}
+
+// The same days.
+fn copied_days(alloc: Global, days: &[BranchDays]) -> Result<Vec<BranchDays>, NoMemory>
+    ensures { IfOk result (λ copy. copy.items ≡ days.now) }
+{
+    let mut copy = Vec::with_capacity(alloc, days.len())?;
+    for rule in days {
+        copy.push(rule.copy(alloc)?)?;
+    }
+    Ok(copy)
+}
+
+// The same texts.
+fn copied_texts(alloc: Global, texts: &[Text]) -> Result<Vec<Text>, NoMemory>
+    ensures { IfOk result (λ copy. copy.items ≡ texts.now) }
+{
+    let mut copy = Vec::with_capacity(alloc, texts.len())?;
+    for text in texts {
+        copy.push(text.copy(alloc)?)?;
+    }
+    Ok(copy)
+}
+
+// The same hook rules.
+fn copied_hooks(alloc: Global, rules: &[HookRule]) -> Result<Vec<HookRule>, NoMemory>
+    ensures { IfOk result (λ copy. copy.items ≡ rules.now) }
+{
+    let mut copy = Vec::with_capacity(alloc, rules.len())?;
+    for rule in rules {
+        copy.push(rule.copy(alloc)?)?;
+    }
+    Ok(copy)
+}
