@@ -11,15 +11,15 @@
 //! exactly what breaks the stated limits; an object of the outside fails only with a count that rose.
 #![tactic(auto)]
 
-pub mod clocks;
 pub mod changes;
+pub mod clocks;
 pub mod commit;
 pub mod digest;
 pub mod entry;
-pub mod memory;
 pub mod fields;
 pub mod key_map;
 pub mod listing;
+pub mod memory;
 pub mod names;
 pub mod outside;
 pub mod pairs;
@@ -29,19 +29,19 @@ pub mod settings;
 pub mod spelling;
 pub mod text;
 
-pub use clocks::{FixedClock, ScriptClock};
 pub use changes::Changes;
+pub use clocks::{FixedClock, ScriptClock};
 pub use commit::{About, CommitId, CommitRecord, ResetWhat, Strategy};
 pub use digest::Digest;
 pub use entry::{Change, Entry, Place};
-pub use memory::{MemorySink, MemorySource};
 pub use fields::EntryFault;
 pub use key_map::KeyMap;
 pub use listing::{Item, Page, PageQuery};
+pub use memory::{MemorySink, MemorySource};
 pub use names::{NameFault, Path, RefName, RepoName};
 pub use outside::{Clock, Failed, NoMemory, Sink, Source, Trouble};
 pub use pairs::{Pairs, PairsFault};
 pub use sequence::Sequence;
-pub use text::{Text, is_utf8};
 pub use settings::{BranchDays, Deny, HookRule, HookRules, Note, Protection, Rules};
 pub use spelling::{entry_bytes, entry_read};
+pub use text::{Text, is_utf8};
