@@ -8,7 +8,7 @@ here=$(cd "$(dirname "$0")/.." && pwd)
 there=${1:-/tmp/turn_lock_bench}
 mkdir -p "$there/crates/cost/src"
 cp "$here/HANDLES" "$there/HANDLES"
-rm -rf "$there/crates/turn_lock"
+rm -rf "$there/crates/turn_lock/src" "$there/crates/turn_lock/specs" "$there/crates/turn_lock/proofs"
 mkdir -p "$there/crates/turn_lock"
 cp -r "$here/crates/turn_lock/src" "$here/crates/turn_lock/specs" "$here/crates/turn_lock/proofs" "$there/crates/turn_lock/"
 cat > "$there/crates.txt" <<'END'
@@ -177,8 +177,7 @@ END
 rustc -O -o "$there/mutex" "$there/mutex.rs"
 cd "$there/crates/cost"
 rt run >"$there/first.log" 2>&1 || { cat "$there/first.log"; exit 1; }
-program=$(ls -t out/cost 2>/dev/null | head -1)
 for _ in 1 2 3; do
-    if [ -n "$program" ]; then "out/cost"; else rt run 2>/dev/null | grep '^turn'; fi
+    rt run 2>/dev/null | grep '^turn'
     "$there/mutex"
 done
