@@ -27,6 +27,8 @@ mod places;
 pub mod sequence;
 pub mod settings;
 pub mod spelling;
+#[cfg(test)]
+mod tests;
 pub mod text;
 
 pub use changes::Changes;

@@ -1,6 +1,7 @@
 //! What holds of every history and every state. Each law is the contract of a function that does nothing.
-ghost use Rattle.std.specs.Prelude.{List};
+ghost use Rattle.std.specs.Prelude.{◌≡◌, List};
 ghost use Rattle.lake_model.specs.declared.history.HistoryEntry.{HistoryEntry};
+ghost use Rattle.lake_model.specs.declared.history.TheConstants.{HISTORY_LIMIT};
 ghost use Rattle.lake_model.specs.State.{State, fresh};
 ghost use Rattle.lake_model.specs.After.{after, replay};
 ghost use Rattle.lake_model.specs.Legal.{Allows, IsLegal, IsSound, given};
@@ -16,4 +17,9 @@ pub fn soundness_stays()
 /// The numbers that a legal history gives out rise, so none is given out twice.
 pub fn numbers_rise()
     ensures { (state : State) (entries : List HistoryEntry) → IsLegal state entries → IsStrictlySortedBy nat_cmp (given entries) }
+{}
+
+/// The limit that the definitions cite is the profile's.
+pub fn limit_is_pinned()
+    ensures { HISTORY_LIMIT ≡ 4194304 }
 {}

@@ -1,17 +1,16 @@
 -- How a batch goes on over one chunk and the next.
-use Rattle.std.proofs.Common.{◌≡◌, ◌<◌, ◌+◌, ◌⊎◌, length, get_or, drop, take-append-drop, inl, inr, ⊎_elim, ◌==◌, ◌&&◌, ℕ, Bool, true, false, MatchBool, List, [], ◌∷◌, ◌++◌, take, Option, Some, None, IsSome, IfSome, Result, Ok, Err, OnOk, refl, sym, ◌∙◌, ap, subst, append_assoc}
+use Rattle.std.proofs.Common.{◌≡◌, ◌<◌, ◌+◌, length, get_or, drop, take-append-drop, inl, inr, ◌&&◌, ℕ, Bool, true, false, MatchBool, List, [], ◌∷◌, ◌++◌, take, Option, Some, None, IfSome, Result, Ok, Err, OnOk, refl, sym, ◌∙◌, ap, subst, append_assoc}
 use Rattle.std.proofs.lemmas.Bool.{false≢true}
 use Rattle.std.proofs.lemmas.List.{append-nil, take_more}
-use Rattle.std.specs.List.{All, AllByRecursion}
-use Rattle.std.specs.Str.Lines.{strip_carriage_return}
+use Rattle.std.specs.List.{AllByRecursion}
 use Rattle.lake_base.specs.declared.outside.Failed.{Failed}
 use Rattle.lake_program.specs.declared.words.Timing.{Timing}
 use Rattle.lake_program.specs.declared.words.Timing.TheVariants.{Clock, At}
-use Rattle.lake_program.specs.Batch.{Lake, Shown, turn, batch, before}
-use Rattle.lake_program.specs.Front.{IsFront, WantsMemory, AsStated}
+use Rattle.lake_program.specs.Batch.{Served, batch, before}
+use Rattle.lake_program.specs.Front.{IsPrefix, AsStated}
 use Rattle.lake_program.specs.Text.{out_of_memory}
 use Rattle.lake_program.specs.Feeding.{Progress, Moments, Holds, CutsLines, stated, Went, Stuck, Cut, Comes, Feeds}
-use Rattle.lake_program.proofs.Fronts.{front_of_self, front_trans, front_after, front_more, front_of_append, as_stated_after, as_stated_more}
+use Rattle.lake_program.proofs.Fronts.{front_after, front_more, as_stated_after}
 
 and_assoc : (a b c : Bool) → ((a && b) && c) ≡ (a && (b && c))
 and_assoc true b c = refl
@@ -21,8 +20,8 @@ and_true : (a : Bool) → a ≡ (a && true)
 and_true true = refl
 and_true false = refl
 
-before_before : (a b : List ℕ) (d e : Bool) (s : Shown) → before a d (before b e s) ≡ before (a ++ b) (d && e) s
-before_before a b d e s = λ i. record { text = sym (append_assoc a b s.text) i; done = sym (and_assoc d e s.done) i; lake = s.lake }
+before_before : (a b : List ℕ) (d e : Bool) (s : Served) → before a d (before b e s) ≡ before (a ++ b) (d && e) s
+before_before a b d e s = λ i. record { text = sym (append_assoc a b s.text) i; done = sym (and_assoc d e s.done) i; lake = s.lake; left = s.left }
 
 -- moments that follow one another
 pub moments_none : (timing : Timing) (readings : Option (List ℕ)) → Moments timing readings readings []
@@ -73,13 +72,13 @@ module _ (old : Progress) (line first second m n out more_out : List ℕ) where
   stuck_then : (mid : Progress) (next : List ℕ) → Went old line first m out mid next → Stuck mid next second n more_out → Stuck old line (first ++ second) (m ++ n) (out ++ more_out)
   stuck_then mid next v s = record {
     front = out ++ s.front;
-    so_far = λ lines more later cuts. subst (λ (t : Shown). IsFront (out ++ s.front) t.text) (sym (passed mid next v lines more later cuts)) (front_after out s.front _ (s.so_far lines more later cuts));
-    text = subst (λ l. IsFront l (out ++ more_out)) (sym (append_assoc out s.front out_of_memory)) (front_after out _ more_out s.text);
+    so_far = λ lines more later cuts. subst (λ (t : Served). IsPrefix (out ++ s.front) t.text) (sym (passed mid next v lines more later cuts)) (front_after out s.front _ (s.so_far lines more later cuts));
+    text = subst (λ l. IsPrefix l (out ++ more_out)) (sym (append_assoc out s.front out_of_memory)) (front_after out _ more_out s.text);
   }
 
   cut_then : (mid : Progress) (next : List ℕ) → Went old line first m out mid next → Cut mid next second n more_out → Cut old line (first ++ second) (m ++ n) (out ++ more_out)
   cut_then mid next v c lines more later cuts =
-      subst (λ (t : Shown). AsStated (out ++ more_out) t.text) (sym (passed mid next v lines more later cuts)) (as_stated_after out more_out _ (c lines more later cuts))
+      subst (λ (t : Served). AsStated (out ++ more_out) t.text) (sym (passed mid next v lines more later cuts)) (as_stated_after out more_out _ (c lines more later cuts))
 
   -- what is stated of both chunks is stated of the first, with the second behind it
   pub regrouped : (lines : List ℕ → List (List ℕ)) (more later : List ℕ) → stated old line (first ++ second) (m ++ n) (out ++ more_out) lines more later ≡ stated old line first m out lines (second ++ more) (n ++ later)
@@ -91,7 +90,7 @@ module _ (old : Progress) (line first second m n out more_out : List ℕ) where
   stays_stuck : Stuck old line first m out → Stuck old line (first ++ second) (m ++ n) (out ++ more_out)
   stays_stuck s = record {
     front = s.front;
-    so_far = λ lines more later cuts. subst (λ (t : Shown). IsFront s.front t.text) (sym (regrouped lines more later)) (s.so_far lines (second ++ more) (n ++ later) cuts);
+    so_far = λ lines more later cuts. subst (λ (t : Served). IsPrefix s.front t.text) (sym (regrouped lines more later)) (s.so_far lines (second ++ more) (n ++ later) cuts);
     text = front_more _ out more_out s.text;
   }
 

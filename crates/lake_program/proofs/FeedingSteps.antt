@@ -1,18 +1,17 @@
 -- One byte of a batch, and the end of it.
-use Rattle.std.proofs.Common.{◌≡◌, ◌⊎◌, inl, inr, ⊎_elim, ◌==◌, ◌&&◌, ℕ, zero, suc, Bool, true, false, MatchBool, cond, nat_lt, List, [], ◌∷◌, ◌++◌, length, take, Option, Some, None, IsSome, IfSome, Result, Ok, Err, OnOk, refl, sym, ◌∙◌, ap, subst, append_assoc}
-use Rattle.std.proofs.lemmas.List.{append-nil, take_all}
+use Rattle.std.proofs.Common.{◌≡◌, inl, inr, ◌&&◌, ℕ, zero, suc, Bool, true, false, MatchBool, List, [], ◌∷◌, ◌++◌, take, Option, Result, Ok, Err, refl, sym, ◌∙◌, ap, subst, append_assoc}
+use Rattle.std.proofs.lemmas.List.{append-nil}
 use Rattle.std.proofs.lemmas.List.Elements.{All-nil, All-append, All-cons}
-use Rattle.std.specs.List.{All, AllByRecursion}
 use Rattle.std.specs.Str.Lines.{strip_carriage_return}
 use Rattle.lake_base.specs.declared.outside.Failed.{Failed}
 use Rattle.lake_program.specs.declared.words.Timing.{Timing}
-use Rattle.lake_program.specs.Batch.{Lake, Shown, turn, batch, before}
-use Rattle.lake_program.specs.Front.{IsFront, WantsMemory, AsStated}
+use Rattle.lake_program.specs.Batch.{Served, turn, batch, before}
+use Rattle.lake_program.specs.Front.{IsPrefix}
 use Rattle.lake_program.specs.Text.{out_of_memory}
-use Rattle.lake_program.specs.Feeding.{Progress, Moments, InLine, line_room, Holds, CutsLines, stated, Went, Stuck, Cut, Comes, Feeds, Answers, Serves, Turns}
-use Rattle.lake_program.proofs.Fronts.{front_of_self, front_trans, front_after, front_more, front_of_append, as_stated_after, as_stated_more}
+use Rattle.lake_program.specs.Feeding.{Progress, InLine, line_room, Holds, CutsLines, stated, Went, Stuck, Comes, Feeds, Answers, Serves, Turns}
+use Rattle.lake_program.proofs.Fronts.{front_more}
 use Rattle.lake_program.proofs.FeedingLaws.{moments_none, wrote_none}
-use Rattle.lake_program.proofs.LongLines.{turn_ended, turn_last}
+use Rattle.lake_program.proofs.LongLines.{turn_ended}
 
 -- the same but for the line under way
 abbrev pub with_line : Progress → List ℕ → Progress
@@ -56,11 +55,11 @@ feeds_byte timing readings written now byte here = record {
 -- a line feed, at which the line that is kept was served
 module _ (timing : Timing) (r0 r1 w0 w1 : Option (List ℕ)) (old new : Progress) where
   turned : (line kept moments out : List ℕ) → Holds line kept → (lines : List ℕ → List (List ℕ)) (more later : List ℕ) → CutsLines lines
-      → stated old line (10 ∷ []) moments out lines more later ≡ (let t = turn (strip_carriage_return kept) (moments ++ later) old.lake in before t.0.text t.0.done (batch (lines more) t.1 t.0.lake))
+      → stated old line (10 ∷ []) moments out lines more later ≡ (let t = turn (strip_carriage_return kept) (moments ++ later) old.lake in before t.text t.done (batch (lines more) t.left t.lake))
   turned line kept moments out holds lines more later cuts =
       ap (λ (l : List ℕ). batch (lines l) (moments ++ later) old.lake) (append_assoc line (10 ∷ []) more)
       ∙ ap (λ (l : List (List ℕ)). batch l (moments ++ later) old.lake) (cuts line more holds.in_line)
-      ∙ ap (λ (t : Shown × List ℕ). before t.0.text t.0.done (batch (lines more) t.1 t.0.lake)) (sym (ap (λ (l : List ℕ). turn (strip_carriage_return l) (moments ++ later) old.lake) holds.front ∙ turn_ended line (moments ++ later) old.lake))
+      ∙ ap (λ (t : Served). before t.text t.done (batch (lines more) t.left t.lake)) (sym (ap (λ (l : List ℕ). turn (strip_carriage_return l) (moments ++ later) old.lake) holds.front ∙ turn_ended line (moments ++ later) old.lake))
 
   line_comes : (line moments out : List ℕ) (result : Result (Unit {0}) Failed) → Holds line old.line → Answers (strip_carriage_return old.line) moments out old new result
       → Comes old line (10 ∷ []) moments out (with_line new []) result
@@ -74,12 +73,12 @@ module _ (timing : Timing) (r0 r1 w0 w1 : Option (List ℕ)) (old new : Progress
           record {
             done = went.0;
             all_done = went.1;
-            each = λ lines more later cuts. turned line old.line moments out holds lines more later cuts ∙ ap (λ (t : Shown × List ℕ). before t.0.text t.0.done (batch (lines more) t.1 t.0.lake)) (went.2 later);
+            each = λ lines more later cuts. turned line old.line moments out holds lines more later cuts ∙ ap (λ (t : Served). before t.text t.done (batch (lines more) t.left t.lake)) (went.2 later);
           },
         )
       ] answers
   line_comes line moments out (Err failed) holds (inl cut) =
-      λ lines more later cuts. inl (subst (λ (t : Shown). IsFront out t.text) (sym (turned line old.line moments out holds lines more later cuts)) (front_more out _ _ (cut later)))
+      λ lines more later cuts. inl (subst (λ (t : Served). IsPrefix out t.text) (sym (turned line old.line moments out holds lines more later cuts)) (front_more out _ _ (cut later)))
   line_comes line moments out (Err failed) holds (inr cut) = λ lines more later cuts. inr (record { front = []; so_far = (_, refl); text = inr cut })
 
   pub feeds_line : (result : Result (Unit {0}) Failed) → Serves timing r0 r1 w0 w1 old new (strip_carriage_return old.line) result → Feeds timing r0 r1 w0 w1 old (with_line new []) (10 ∷ []) result

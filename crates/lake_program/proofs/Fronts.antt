@@ -1,23 +1,23 @@
 -- Fronts of what is written.
-use Rattle.std.proofs.Common.{◌≡◌, ◌⊎◌, inl, inr, ⊎_elim, ℕ, List, [], ◌∷◌, ◌++◌, refl, sym, ◌∙◌, ap, subst, append_assoc}
+use Rattle.std.proofs.Common.{inl, inr, ⊎_elim, ℕ, List, [], ◌++◌, refl, sym, ◌∙◌, ap, subst, append_assoc}
 use Rattle.std.proofs.lemmas.List.{append-nil}
-use Rattle.lake_program.specs.Front.{IsFront, WantsMemory, AsStated}
+use Rattle.lake_program.specs.Front.{IsPrefix, AsStated}
 use Rattle.lake_program.specs.Text.{out_of_memory}
 
-pub front_of_self : (xs : List ℕ) → IsFront xs xs
+pub front_of_self : (xs : List ℕ) → IsPrefix xs xs
 front_of_self xs = ([], append-nil xs)
 
-pub front_of_append : (xs ys : List ℕ) → IsFront xs (xs ++ ys)
+pub front_of_append : (xs ys : List ℕ) → IsPrefix xs (xs ++ ys)
 front_of_append xs ys = (ys, refl)
 
-pub front_trans : (a b c : List ℕ) → IsFront a b → IsFront b c → IsFront a c
+pub front_trans : (a b c : List ℕ) → IsPrefix a b → IsPrefix b c → IsPrefix a c
 front_trans a b c f g = (f.0 ++ g.0, sym (append_assoc a f.0 g.0) ∙ ap (λ (l : List ℕ). l ++ g.0) f.1 ∙ g.1)
 
 -- behind the same front
-pub front_after : (front a b : List ℕ) → IsFront a b → IsFront (front ++ a) (front ++ b)
+pub front_after : (front a b : List ℕ) → IsPrefix a b → IsPrefix (front ++ a) (front ++ b)
 front_after front a b f = (f.0, append_assoc front a f.0 ∙ ap (λ (l : List ℕ). front ++ l) f.1)
 
-pub front_more : (a b more : List ℕ) → IsFront a b → IsFront a (b ++ more)
+pub front_more : (a b more : List ℕ) → IsPrefix a b → IsPrefix a (b ++ more)
 front_more a b more f = front_trans a b (b ++ more) f (front_of_append b more)
 
 -- what is written next stands behind what is stated first
@@ -27,8 +27,8 @@ as_stated_after front out stated (inr w) = inr (record {
   front = front ++ w.front;
   so_far = front_after front w.front stated w.so_far;
   text = ⊎_elim
-      (λ whole. inl (subst (λ l. IsFront l (front ++ out)) (sym (append_assoc front w.front out_of_memory)) (front_after front _ _ whole)))
-      (λ part. inr (subst (λ l. IsFront (front ++ out) l) (sym (append_assoc front w.front out_of_memory)) (front_after front _ _ part)))
+      (λ whole. inl (subst (λ l. IsPrefix l (front ++ out)) (sym (append_assoc front w.front out_of_memory)) (front_after front _ _ whole)))
+      (λ part. inr (subst (λ l. IsPrefix (front ++ out) l) (sym (append_assoc front w.front out_of_memory)) (front_after front _ _ part)))
       w.text;
 })
 

@@ -1,5 +1,5 @@
 -- How a batch ends.
-use Rattle.std.proofs.Common.{◌≡◌, ◌<◌, ◌≤◌, ◌⊎◌, inl, inr, ◌&&◌, ◌==◌, ℕ, zero, suc, Bool, true, false, MatchBool, cond, nat_le, nat_lt, List, [], ◌∷◌, ◌++◌, length, take, Option, Some, None, IfSome, Result, Ok, Err, OnOk, OnErr, MatchResult, refl, sym, ◌∙◌, ap, subst, arith, append_assoc}
+use Rattle.std.proofs.Common.{◌≡◌, ◌<◌, ◌≤◌, inl, inr, ◌&&◌, ℕ, Bool, true, false, MatchBool, cond, nat_le, nat_lt, List, [], ◌∷◌, ◌++◌, length, take, Option, Some, IfSome, Result, Ok, Err, OnOk, OnErr, refl, sym, ◌∙◌, ap, subst, arith, append_assoc}
 use Rattle.std.proofs.lemmas.Bool.Decides.{nat_tests}
 use Rattle.std.proofs.lemmas.List.{append-nil, take_all}
 use Rattle.std.proofs.lemmas.List.Elements.{All-nil}
@@ -8,15 +8,14 @@ use Rattle.std.specs.List.{All}
 use Rattle.std.specs.Str.Lines.{lines}
 use Rattle.lake_base.specs.declared.outside.Failed.{Failed}
 use Rattle.lake_program.specs.declared.words.Timing.{Timing}
-use Rattle.lake_program.specs.declared.batch.End.{End}
-use Rattle.lake_program.specs.Batch.{Lake, Shown, does, turn, before, batch, batch_of, cut_off, ended_lines, fresh_lake}
-use Rattle.lake_program.specs.Front.{IsFront, WantsMemory, AsStated}
+use Rattle.lake_program.specs.Batch.{Lake, Served, leaving, does, turn, before, batch, batch_of, cut_off, ended_lines, fresh_lake}
+use Rattle.lake_program.specs.Front.{IsPrefix, AsStated}
 use Rattle.lake_program.specs.Text.{out_of_memory, too_long}
-use Rattle.lake_program.specs.Feeding.{Progress, Moments, InLine, line_room, Holds, CutsLines, stated, Went, Stuck, Cut, Comes, Feeds, Turns, Answers, Serves}
-use Rattle.lake_program.specs.Reading.{Part, Ends}
+use Rattle.lake_program.specs.Feeding.{Progress, InLine, line_room, Holds, stated, Went, Stuck, Cut, Comes, Feeds, Turns, Answers, Serves}
+use Rattle.lake_program.specs.Reading.{Part}
 use Rattle.lake_program.specs.Outcome.{start, IsWhole, Outcome}
 use Rattle.lake_program.specs.Status.{status_of, Ended}
-use Rattle.lake_program.proofs.Fronts.{front_of_self, front_of_append, front_after, front_more, as_stated_more}
+use Rattle.lake_program.proofs.Fronts.{front_of_self, front_after, front_more, as_stated_more}
 use Rattle.lake_program.proofs.LineLemmas.{lines_cut, lines_last, ended_cut, ended_last}
 use Rattle.lake_program.proofs.LongLines.{turn_last}
 use Rattle.lake_program.proofs.FeedingLaws.{moments_none, moments_then, wrote_none, wrote_then}
@@ -30,7 +29,7 @@ comes_cut : (old : Progress) (line chunk m out : List ℕ) (new : Progress) → 
 comes_cut old line chunk m out new comes lines more later cuts =
     elim new.starved as (λ b. MatchBool b (Stuck old line chunk m out) ((next : List ℕ) × Holds next new.line × Went old line chunk m out new next) → AsStated out (stated old line chunk m out lines more later).text) [
       | true ↦ λ s. inr (record { front = s.front; so_far = s.so_far lines more later cuts; text = inl s.text })
-      | false ↦ λ v. inl (subst (λ (t : Shown). IsFront out t.text) (sym (v.2.each lines more later cuts)) (_, refl))
+      | false ↦ λ v. inl (subst (λ (t : Served). IsPrefix out t.text) (sym (v.2.each lines more later cuts)) (_, refl))
     ] comes
 
 within_limit : (limit : ℕ) (input moments : List ℕ) → nat_le (length input) limit ≡ true → batch_of limit input moments ≡ batch (lines input) moments fresh_lake
@@ -49,15 +48,15 @@ gt_test : (m n : ℕ) → n < m → nat_le m n ≡ false
 gt_test m n lt = grind (arith, nat_tests)
 
 -- what is stated of a part that was fed is stated of the whole
-as_stated_of : (limit : ℕ) (input fed m out : List ℕ) → IsFront fed (take limit input) → Cut start [] fed m out → (later : List ℕ) → AsStated out (batch_of limit input (m ++ later)).text
+as_stated_of : (limit : ℕ) (input fed m out : List ℕ) → IsPrefix fed (take limit input) → Cut start [] fed m out → (later : List ℕ) → AsStated out (batch_of limit input (m ++ later)).text
 as_stated_of limit input fed m out front cut later =
     elim (nat_le (length input) limit) as (λ b. nat_le (length input) limit ≡ b → AsStated out (batch_of limit input (m ++ later)).text) [
       | true ↦ λ is.
           let whole : fed ++ front.0 ≡ input = front.1 ∙ take_all limit input (short_input limit input is) in
-          subst (λ (t : Shown). AsStated out t.text) (ap (λ (l : List ℕ). batch (lines l) (m ++ later) fresh_lake) whole ∙ sym (within_limit limit input (m ++ later) is)) (cut lines front.0 later lines_cut)
+          subst (λ (t : Served). AsStated out t.text) (ap (λ (l : List ℕ). batch (lines l) (m ++ later) fresh_lake) whole ∙ sym (within_limit limit input (m ++ later) is)) (cut lines front.0 later lines_cut)
       | false ↦ λ is.
-          subst (λ (t : Shown). AsStated out t.text) (sym (beyond_limit limit input (m ++ later) is))
-          (as_stated_more out _ too_long (subst (λ (t : Shown). AsStated out t.text) (ap (λ (l : List ℕ). batch (ended_lines l) (m ++ later) fresh_lake) front.1) (cut ended_lines front.0 later ended_cut)))
+          subst (λ (t : Served). AsStated out t.text) (sym (beyond_limit limit input (m ++ later) is))
+          (as_stated_more out _ too_long (subst (λ (t : Served). AsStated out t.text) (ap (λ (l : List ℕ). batch (ended_lines l) (m ++ later) fresh_lake) front.1) (cut ended_lines front.0 later ended_cut)))
     ] refl
 
 -- the source or the sink failed
@@ -77,7 +76,7 @@ outcome_part timing limit r0 r1 w0 w1 input new result status failed part = reco
 }
 
 -- the last line, which nothing ends, and an empty one that is no line
-last_turn : (next moments : List ℕ) (lake : Lake) → All InLine next → batch (lines next) moments lake ≡ (let t = turn next moments lake in before t.0.text t.0.done (does t.0.lake []))
+last_turn : (next moments : List ℕ) (lake : Lake) → All InLine next → batch (lines next) moments lake ≡ (let t = turn next moments lake in before t.text t.done (leaving t.left (does t.lake [])))
 last_turn [] moments lake in_line = refl
 last_turn (byte ∷ next) moments lake in_line = ap (λ (l : List (List ℕ)). batch l moments lake) (lines_last (byte ∷ next) in_line ∙ some)
   where
@@ -103,29 +102,29 @@ module _ (timing : Timing) (limit : ℕ) (r0 r1 r2 w0 w1 w2 : Option (List ℕ))
 
   module _ (next : List ℕ) (holds : Holds next new.line) (v : Went start [] input a.moments a.out new next) where
     -- the last line's turn, from what is kept of it
-    last_is : (n later : List ℕ) → batch_of limit input ((a.moments ++ n) ++ later) ≡ (let t = turn new.line (n ++ later) new.lake in before a.out v.done (before t.0.text t.0.done (does t.0.lake [])))
+    last_is : (n later : List ℕ) → batch_of limit input ((a.moments ++ n) ++ later) ≡ (let t = turn new.line (n ++ later) new.lake in before a.out v.done (before t.text t.done (leaving t.left (does t.lake []))))
     last_is n later =
         regroup n later ∙ v.each lines [] (n ++ later) lines_cut
         ∙ ap (λ (l : List ℕ). before a.out v.done (batch (lines l) (n ++ later) new.lake)) (append-nil next)
         ∙ ap (before a.out v.done) (last_turn next (n ++ later) new.lake holds.in_line)
-        ∙ ap (λ (t : Shown × List ℕ). before a.out v.done (before t.0.text t.0.done (does t.0.lake []))) (sym (ap (λ (l : List ℕ). turn l (n ++ later) new.lake) holds.front ∙ turn_last next (n ++ later) new.lake))
+        ∙ ap (λ (t : Served). before a.out v.done (before t.text t.done (leaving t.left (does t.lake [])))) (sym (ap (λ (l : List ℕ). turn l (n ++ later) new.lake) holds.front ∙ turn_last next (n ++ later) new.lake))
 
     went_stated : (n out : List ℕ) (result : Result (Unit {0}) Failed) → Answers new.line n out new final result → (later : List ℕ) → AsStated (a.out ++ out) (batch_of limit input ((a.moments ++ n) ++ later)).text
     went_stated n out (Ok u) answers later =
         elim final.starved as (λ b. MatchBool b (out ≡ out_of_memory) ((d : Bool) × (final.done ≡ (new.done && d)) × Turns new.line n out d new.lake final.lake) → AsStated (a.out ++ out) (batch_of limit input ((a.moments ++ n) ++ later)).text) [
           | true ↦ λ is. inr (record {
             front = a.out;
-            so_far = subst (λ (s : Shown). IsFront a.out s.text) (sym (last_is n later)) (_, refl);
-            text = inl (subst (λ (o : List ℕ). IsFront (a.out ++ out_of_memory) (a.out ++ o)) (sym is) (front_of_self (a.out ++ out_of_memory)));
+            so_far = subst (λ (s : Served). IsPrefix a.out s.text) (sym (last_is n later)) (_, refl);
+            text = inl (subst (λ (o : List ℕ). IsPrefix (a.out ++ out_of_memory) (a.out ++ o)) (sym is) (front_of_self (a.out ++ out_of_memory)));
           })
-          | false ↦ λ went. inl (subst (λ (s : Shown). IsFront (a.out ++ out) s.text) (sym (last_is n later ∙ ap (λ (t : Shown × List ℕ). before a.out v.done (before t.0.text t.0.done (does t.0.lake []))) (went.2 later)))
+          | false ↦ λ went. inl (subst (λ (s : Served). IsPrefix (a.out ++ out) s.text) (sym (last_is n later ∙ ap (λ (t : Served). before a.out v.done (before t.text t.done (leaving t.left (does t.lake [])))) (went.2 later)))
               ([], append_assoc a.out out []))
         ] answers
     went_stated n out (Err failed) (inl cut) later =
-        inl (subst (λ (s : Shown). IsFront (a.out ++ out) s.text) (sym (last_is n later)) (front_after a.out out _ (front_more out _ [] (cut later))))
+        inl (subst (λ (s : Served). IsPrefix (a.out ++ out) s.text) (sym (last_is n later)) (front_after a.out out _ (front_more out _ [] (cut later))))
     went_stated n out (Err failed) (inr cut) later = inr (record {
       front = a.out;
-      so_far = subst (λ (s : Shown). IsFront a.out s.text) (sym (last_is n later)) (_, refl);
+      so_far = subst (λ (s : Served). IsPrefix a.out s.text) (sym (last_is n later)) (_, refl);
       text = inr (front_after a.out out out_of_memory cut);
     })
 
@@ -135,10 +134,11 @@ module _ (timing : Timing) (limit : ℕ) (r0 r1 r2 w0 w1 w2 : Option (List ℕ))
         elim final.starved as (λ b. final.starved ≡ b → MatchBool b (out ≡ out_of_memory) ((d : Bool) × (final.done ≡ (new.done && d)) × Turns new.line n out d new.lake final.lake) → IsWhole limit input (a.moments ++ n) (a.out ++ out) status) [
           | true ↦ λ starved wants. absurd (omega (arith, low, is ∙ ap (λ b. status_of b final.done) starved))
           | false ↦ λ plenty went.
-              let shown = ap (batch_of limit input) (sym (append-nil (a.moments ++ n))) ∙ last_is n [] ∙ ap (λ (t : Shown × List ℕ). before a.out v.done (before t.0.text t.0.done (does t.0.lake []))) (went.2 []) in
+              let shown = ap (batch_of limit input) (sym (append-nil (a.moments ++ n))) ∙ last_is n [] ∙ ap (λ (t : Served). before a.out v.done (before t.text t.done (leaving t.left (does t.lake [])))) (went.2 []) in
               record {
-                text = sym (ap (λ (s : Shown). s.text) shown ∙ ap (λ (l : List ℕ). a.out ++ l) (append-nil out));
-                done = is ∙ ap (λ b. status_of b final.done) plenty ∙ ap (λ b. cond b 0 1) (all_done v.done went.0 final.done new.done v.all_done went.1 ∙ sym (ap (λ (s : Shown). s.done) shown));
+                text = sym (ap (λ (s : Served). s.text) shown ∙ ap (λ (l : List ℕ). a.out ++ l) (append-nil out));
+                done = is ∙ ap (λ b. status_of b final.done) plenty ∙ ap (λ b. cond b 0 1) (all_done v.done went.0 final.done new.done v.all_done went.1 ∙ sym (ap (λ (s : Served). s.done) shown));
+                just = λ later. ap (λ (s : Served). s.left) (last_is n later ∙ ap (λ (t : Served). before a.out v.done (before t.text t.done (leaving t.left (does t.lake [])))) (went.2 later));
               }
         ] refl answers
       where
@@ -153,7 +153,7 @@ module _ (timing : Timing) (limit : ℕ) (r0 r1 r2 w0 w1 w2 : Option (List ℕ))
   stuck_stated : (n out : List ℕ) → Stuck start [] input a.moments a.out → (later : List ℕ) → AsStated (a.out ++ out) (batch_of limit input ((a.moments ++ n) ++ later)).text
   stuck_stated n out s later = inr (record {
     front = s.front;
-    so_far = subst (λ (t : Shown). IsFront s.front t.text) (sym (regroup n later)) (s.so_far lines [] (n ++ later) lines_cut);
+    so_far = subst (λ (t : Served). IsPrefix s.front t.text) (sym (regroup n later)) (s.so_far lines [] (n ++ later) lines_cut);
     text = inl (front_more _ a.out out s.text);
   })
 
@@ -184,23 +184,23 @@ module _ (timing : Timing) (limit : ℕ) (r0 r1 w0 w1 w2 : Option (List ℕ)) (i
       ∙ ap (λ (l : List ℕ). cut_off (batch (ended_lines l) (a.moments ++ later) fresh_lake)) (sym (append-nil (take limit input)))
 
   after_lines : (next : List ℕ) → Holds next new.line → (v : Went start [] (take limit input) a.moments a.out new next) → (later : List ℕ)
-      → batch_of limit input (a.moments ++ later) ≡ cut_off (before a.out v.done (does new.lake []))
+      → batch_of limit input (a.moments ++ later) ≡ cut_off (before a.out v.done (leaving later (does new.lake [])))
   after_lines next holds v later =
       cut_is later ∙ ap cut_off (v.each ended_lines [] later ended_cut
       ∙ ap (λ (l : List ℕ). before a.out v.done (batch (ended_lines l) later new.lake)) (append-nil next)
       ∙ ap (λ (l : List (List ℕ)). before a.out v.done (batch l later new.lake)) (ended_last next holds.in_line))
 
-  cut_stated : (out : List ℕ) → IsFront out too_long → Comes start [] (take limit input) a.moments a.out new (Ok tt) → (later : List ℕ) → AsStated (a.out ++ out) (batch_of limit input (a.moments ++ later)).text
+  cut_stated : (out : List ℕ) → IsPrefix out too_long → Comes start [] (take limit input) a.moments a.out new (Ok tt) → (later : List ℕ) → AsStated (a.out ++ out) (batch_of limit input (a.moments ++ later)).text
   cut_stated out front comes later =
       elim new.starved as (λ b. MatchBool b (Stuck start [] (take limit input) a.moments a.out) ((next : List ℕ) × Holds next new.line × Went start [] (take limit input) a.moments a.out new next)
       → AsStated (a.out ++ out) (batch_of limit input (a.moments ++ later)).text) [
         | true ↦ λ s. inr (record {
           front = s.front;
-          so_far = subst (λ (t : Shown). IsFront s.front t.text) (sym (cut_is later)) (front_more s.front _ too_long (s.so_far ended_lines [] later ended_cut));
+          so_far = subst (λ (t : Served). IsPrefix s.front t.text) (sym (cut_is later)) (front_more s.front _ too_long (s.so_far ended_lines [] later ended_cut));
           text = inl (front_more _ a.out out s.text);
         })
-        | false ↦ λ v. inl (subst (λ (t : Shown). IsFront (a.out ++ out) t.text) (sym (after_lines v.0 v.1 v.2 later))
-            (subst (λ (l : List ℕ). IsFront (a.out ++ out) (l ++ too_long)) (sym (append-nil a.out)) (front_after a.out out too_long front)))
+        | false ↦ λ v. inl (subst (λ (t : Served). IsPrefix (a.out ++ out) t.text) (sym (after_lines v.0 v.1 v.2 later))
+            (subst (λ (l : List ℕ). IsPrefix (a.out ++ out) (l ++ too_long)) (sym (append-nil a.out)) (front_after a.out out too_long front)))
       ] comes
 
   pub outcome_too_long : (result : Result (Unit {0}) Failed) → Ended new.starved false result status
@@ -217,8 +217,9 @@ module _ (timing : Timing) (limit : ℕ) (r0 r1 w0 w1 w2 : Option (List ℕ)) (i
           | false ↦ λ fed v.
               let shown = ap (batch_of limit input) (sym (append-nil a.moments)) ∙ after_lines v.0 v.1 v.2 [] in
               record {
-                text = sym (ap (λ (s : Shown). s.text) shown ∙ ap (λ (l : List ℕ). l ++ too_long) (append-nil a.out));
-                done = is ∙ ap (λ b. status_of b false) fed ∙ sym (ap (λ (s : Shown). cond s.done 0 1) shown);
+                text = sym (ap (λ (s : Served). s.text) shown ∙ ap (λ (l : List ℕ). l ++ too_long) (append-nil a.out));
+                done = is ∙ ap (λ b. status_of b false) fed ∙ sym (ap (λ (s : Served). cond s.done 0 1) shown);
+                just = λ later. ap (λ (s : Served). s.left) (after_lines v.0 v.1 v.2 later);
               }
         ] refl (a.went [] holds_start refl);
   }

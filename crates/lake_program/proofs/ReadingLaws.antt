@@ -1,14 +1,13 @@
 -- How the source of a batch is read, piece by piece.
-use Rattle.std.proofs.Common.{◌≡◌, ◌<◌, ◌≤◌, ◌+◌, ◌-◌, ℕ, List, [], ◌∷◌, ◌++◌, length, take, drop, Option, Some, None, IfSome, Result, Ok, Err, refl, sym, ◌∙◌, ap, subst, arith, append_assoc, take-append-drop, length-append, length-take, length-drop}
-use Rattle.std.proofs.lemmas.List.{take-take, take_all}
+use Rattle.std.proofs.Common.{◌≡◌, ◌<◌, ◌≤◌, ◌+◌, ◌-◌, ℕ, List, [], ◌++◌, length, take, drop, Option, Some, None, IfSome, Result, Ok, Err, refl, sym, ◌∙◌, ap, subst, arith, append_assoc, take-append-drop, length-append, length-take}
+use Rattle.std.proofs.lemmas.List.{take-take}
 use Rattle.std.proofs.Math.Seq.{take-append-add}
 use Rattle.lake_base.specs.Outside.{Reads}
 use Rattle.lake_base.specs.declared.outside.Failed.{Failed}
 use Rattle.lake_program.specs.declared.words.Timing.{Timing}
-use Rattle.lake_program.specs.Front.{IsFront}
+use Rattle.lake_program.specs.Front.{IsPrefix}
 use Rattle.lake_program.specs.Feeding.{Progress, Feeds}
-use Rattle.lake_program.specs.Reading.{Reached, Part, Ends}
-use Rattle.lake_program.proofs.Fronts.{front_of_self}
+use Rattle.lake_program.specs.Reading.{Reached, Part}
 use Rattle.lake_program.proofs.FeedingLaws.{feeds_none, feeds_then}
 
 pub told_then : (told : Option (List ℕ)) (P Q : List ℕ → Type 0) → ((bytes : List ℕ) → P bytes → Q bytes) → IfSome told P → IfSome told Q
@@ -20,7 +19,7 @@ reached_start timing readings written None now = tt
 reached_start timing readings written (Some input) now = record { fed = []; left = input; rest = refl; whole = refl; count = refl; feeds = feeds_none timing readings written now }
 
 -- what is fed within the limit is a front of what the limit allows
-front_within : (limit : ℕ) (fed left input : List ℕ) → fed ++ left ≡ input → length fed ≤ limit → IsFront fed (take limit input)
+front_within : (limit : ℕ) (fed left input : List ℕ) → fed ++ left ≡ input → length fed ≤ limit → IsPrefix fed (take limit input)
 front_within limit fed left input whole within =
     let count : length fed + (limit - length fed) ≡ limit = omega arith in
     (take (limit - length fed) left, sym (take-append-add fed left (limit - length fed)) ∙ ap (λ n. take n (fed ++ left)) count ∙ ap (take limit) whole)

@@ -1,11 +1,11 @@
 -- The statuses of a run, and what they tell.
-use Rattle.std.proofs.Common.{◌≡◌, ◌≢◌, ◌<◌, ◌≤◌, ◌++◌, ℕ, cond, List, Option, Some, None, IfSome, refl, sym, ◌∙◌, ap, subst, arith}
+use Rattle.std.proofs.Common.{◌≡◌, ◌≢◌, ◌<◌, ◌≤◌, ◌++◌, ℕ, cond, List, Option, Some, IfSome, refl, sym, ◌∙◌, ap, subst, arith}
 use Rattle.std.proofs.lemmas.Bool.Decides.{nat_tests}
 use Rattle.lake_base.specs.Outside.{Rose, Quiet}
 use Rattle.lake_program.specs.declared.words.Timing.{Timing}
 use Rattle.lake_program.specs.declared.batch.End.{End}
 use Rattle.lake_program.specs.declared.batch.End.TheVariants.{Source, TooLong, SourceFailed, SinkFailed}
-use Rattle.lake_program.specs.Batch.{batch_of}
+use Rattle.lake_program.specs.Batch.{batch_of, TakesJust}
 use Rattle.lake_program.specs.Feeding.{Moments}
 use Rattle.lake_program.specs.Outcome.{Outcome}
 use Rattle.lake_program.specs.Status.{IsBatchStatus}
@@ -32,7 +32,7 @@ pub for_timing : (found : Option Timing) (timing : Timing) → found ≡ Some ti
 for_timing found timing is P p = subst (λ (o : Option Timing). IfSome o P) (sym is) p
 
 pub whole_batch : (timing : Timing) (limit : ℕ) (r0 r1 w0 w1 : Option (List ℕ)) (input : List ℕ) (status : ℕ) → status < 2 → Outcome timing limit r0 r1 w0 w1 input status
-    → IfSome w0 (λ before. (moments : List ℕ) × Moments timing r0 r1 moments × (w1 ≡ Some (before ++ (batch_of limit input moments).text)) × (status ≡ cond (batch_of limit input moments).done 0 1))
+    → IfSome w0 (λ before. (moments : List ℕ) × Moments timing r0 r1 moments × TakesJust limit input moments × (w1 ≡ Some (before ++ (batch_of limit input moments).text)) × (status ≡ cond (batch_of limit input moments).done 0 1))
 whole_batch timing limit r0 r1 w0 w1 input status low o =
     let whole = o.whole low in
-    told_then w0 (λ before. w1 ≡ Some (before ++ o.out)) _ (λ before wrote. (o.moments, o.took, wrote ∙ ap (λ (t : List ℕ). Some (before ++ t)) whole.text, whole.done)) o.wrote
+    told_then w0 (λ before. w1 ≡ Some (before ++ o.out)) _ (λ before wrote. (o.moments, o.took, whole.just, wrote ∙ ap (λ (t : List ℕ). Some (before ++ t)) whole.text, whole.done)) o.wrote

@@ -1,18 +1,18 @@
 -- What a line shows, and what is written of it.
-use Rattle.std.proofs.Common.{◌≡◌, inl, inr, ◌&&◌, ℕ, Bool, true, false, MatchBool, List, [], ◌++◌, Option, Some, None, IfSome, Result, Ok, Err, OnOk, OnErr, refl, sym, ◌∙◌, subst}
+use Rattle.std.proofs.Common.{◌≡◌, inl, inr, ◌&&◌, ℕ, Bool, true, MatchBool, List, [], ◌++◌, Option, Some, None, IfSome, Result, Ok, Err, OnOk, OnErr, refl, sym, ◌∙◌, subst}
 use Rattle.lake_base.specs.declared.outside.Failed.{Failed}
 use Rattle.lake_program.specs.declared.words.Timing.{Timing}
-use Rattle.lake_program.specs.Batch.{Lake, Shown, turn}
-use Rattle.lake_program.specs.Front.{IsFront}
+use Rattle.lake_program.specs.Batch.{Served}
+use Rattle.lake_program.specs.Front.{IsPrefix}
 use Rattle.lake_program.specs.Text.{out_of_memory}
-use Rattle.lake_program.specs.Feeding.{Progress, Moments, Turns, Answers, Serves}
+use Rattle.lake_program.specs.Feeding.{Progress, Moments, Turns, Serves}
 
 -- what a failed write leaves
 abbrev pub WroteFront : List ℕ → Option (List ℕ) → Option (List ℕ) → Type 0
-WroteFront text before after = IfSome before (λ written. (out : List ℕ) × IsFront out text × (after ≡ Some (written ++ out)))
+WroteFront text before after = IfSome before (λ written. (out : List ℕ) × IsPrefix out text × (after ≡ Some (written ++ out)))
 
 -- some front was written, also where the sink doesn't tell
-pub front_written : (text : List ℕ) (before after : Option (List ℕ)) → WroteFront text before after → (out : List ℕ) × IsFront out text × IfSome before (λ written. after ≡ Some (written ++ out))
+pub front_written : (text : List ℕ) (before after : Option (List ℕ)) → WroteFront text before after → (out : List ℕ) × IsPrefix out text × IfSome before (λ written. after ≡ Some (written ++ out))
 front_written text None after wrote = ([], (text, refl), tt)
 front_written text (Some written) after wrote = wrote
 
@@ -35,7 +35,7 @@ module _ (timing : Timing) (r0 r1 w0 w1 : Option (List ℕ)) (old new : Progress
         out = part.0;
         took = took;
         wrote = part.2;
-        went = λ fed. inl (λ later. subst (λ (t : Shown × List ℕ). IsFront part.0 t.0.text) (sym (turns later)) part.1);
+        went = λ fed. inl (λ later. subst (λ (t : Served). IsPrefix part.0 t.text) (sym (turns later)) part.1);
         stays = λ was. tt;
       }
 
@@ -57,6 +57,6 @@ module _ (timing : Timing) (r0 r1 w0 w1 : Option (List ℕ)) (old new : Progress
         out = part.0;
         took = took;
         wrote = part.2;
-        went = λ fed. inr (subst (λ t. IsFront part.0 t) is part.1);
+        went = λ fed. inr (subst (λ t. IsPrefix part.0 t) is part.1);
         stays = λ was. tt;
       }

@@ -1,5 +1,5 @@
 -- The path of a URI, by what its reader answers.
-use Rattle.std.proofs.Common.{◌≡◌, ◌≢◌, ℕ, Bool, true, cond, List, length, drop, nat_eq, Option, Some, None, Result, Err, refl, ◌∙◌, ap}
+use Rattle.std.proofs.Common.{◌≡◌, ◌≢◌, ℕ, true, cond, List, length, drop, nat_eq, Option, Some, None, Err, refl, ◌∙◌, ap}
 use Rattle.std.specs.List.{starts_with}
 use Rattle.lake_base.specs.Names.{Answers, path_fault}
 use Rattle.lake_base.specs.declared.names.NameFault.{NameFault}

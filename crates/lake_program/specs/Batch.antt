@@ -1,16 +1,14 @@
 -- What a batch of lines comes to on the one-thread lake.
-use Rattle.std.specs.Prelude.{ℕ, ◌+◌, ◌-◌, ◌==◌, ◌&&◌, Bool, true, false, nat_le, if◌then◌else◌, List, [], ◌∷◌, ◌++◌, length, map, take, drop, slice_index, Option, Some, None, option_and_then, Result, Ok, Err, codes}
+use Rattle.std.specs.Prelude.{◌≡◌, ℕ, ◌+◌, ◌-◌, ◌==◌, ◌&&◌, Bool, true, false, nat_le, if◌then◌else◌, List, [], ◌∷◌, ◌++◌, length, map, take, drop, slice_index, Option, Some, None, option_and_then, Result, Ok, Err}
 use Rattle.std.specs.List.{slice_split}
 use Rattle.std.specs.Str.Lines.{lines, strip_carriage_return}
 use Rattle.std.specs.FinMap.{empty, get, insert}
 use Rattle.lake_base.specs.Digest.{sha256}
 use Rattle.lake_base.specs.Entry.{Object}
-use Rattle.lake_base.specs.declared.digest.Digest.{Digest}
 use Rattle.lake_base.specs.declared.entry.Place.TheVariants.{Own}
 use Rattle.lake_base.specs.declared.entry.Change.TheVariants.{Put}
 use Rattle.block_store.specs.Blocks.{Objects}
 use Rattle.lake_model.specs.declared.first.TheConstants.{FIRST_REPO, FIRST_BRANCH}
-use Rattle.lake_model.specs.declared.history.By.{By}
 use Rattle.lake_program.specs.declared.session.TheConstants.{CONTENT_TYPE}
 use Rattle.lake_model.specs.declared.history.HistoryEntry.{HistoryEntry}
 use Rattle.lake_model.specs.declared.history.EntryKind.{EntryKind}
@@ -40,7 +38,7 @@ now lake = replay fresh lake.history
 abbrev pub fresh_lake : Lake
 fresh_lake = record { history = []; objects = empty; calls = 0 }
 
--- what was shown of some lines, whether each was done, and the lake after them
+-- what was shown of a request, whether it was done, and the lake after it
 pub record Shown : Type 0 where
   pub text : List ℕ
   pub done : Bool
@@ -131,35 +129,50 @@ abbrev pub serve : Request → ℕ → Lake → Shown
 serve (Upload path text) moment lake = takes path text moment (ticket_reply (now lake) FIRST_REPO.now FIRST_BRANCH.now) lake
 serve (Cat path) moment lake = looks path (look_reply (now lake) FIRST_REPO.now FIRST_BRANCH.now path) lake
 
--- what a line comes to, and the moments that are left for the next requests
-abbrev pub asked : Option Request → List ℕ → Lake → Shown × List ℕ
-asked (Some request) moments lake = (serve request (slice_index moments 0) (begun lake), drop 1 moments)
-asked None moments lake = (refuses lake not_built, moments)
+-- what was shown of some lines, whether each was done, the lake after them, and the moments that are left for the next requests
+pub record Served : Type 0 where
+  pub text : List ℕ
+  pub done : Bool
+  pub lake : Lake
+  pub left : List ℕ
 
-abbrev pub turn : List ℕ → List ℕ → Lake → Shown × List ℕ
-turn line moments lake = if is_skipped line then (does lake [], moments) else asked (request_of line) moments lake
+-- these moments are left
+abbrev pub leaving : List ℕ → Shown → Served
+leaving moments shown = record { text = shown.text; done = shown.done; lake = shown.lake; left = moments }
+
+-- what a line comes to; a request takes the next moment
+abbrev pub asked : Option Request → List ℕ → Lake → Served
+asked (Some request) moments lake = leaving (drop 1 moments) (serve request (slice_index moments 0) (begun lake))
+asked None moments lake = leaving moments (refuses lake not_built)
+
+abbrev pub turn : List ℕ → List ℕ → Lake → Served
+turn line moments lake = if is_skipped line then leaving moments (does lake []) else asked (request_of line) moments lake
 
 -- what was shown, and then what came after it
-abbrev pub before : List ℕ → Bool → Shown → Shown
-before text done next = record { text = text ++ next.text; done = done && next.done; lake = next.lake }
+abbrev pub before : List ℕ → Bool → Served → Served
+before text done next = record { text = text ++ next.text; done = done && next.done; lake = next.lake; left = next.left }
 
--- What the lines come to, one after the other; each request takes the next moment.
-abbrev pub batch : List (List ℕ) → List ℕ → Lake → Shown
-batch [] moments lake = does lake []
+-- What the lines come to, one after the other.
+abbrev pub batch : List (List ℕ) → List ℕ → Lake → Served
+batch [] moments lake = leaving moments (does lake [])
 batch (line ∷ lines) moments lake =
-    let shown = turn line moments lake in
-    before shown.0.text shown.0.done (batch lines shown.1 shown.0.lake)
+    let served = turn line moments lake in
+    before served.text served.done (batch lines served.left served.lake)
 
 -- the lines that ended: what stands before a line feed, without one carriage return at its end
 abbrev pub ended_lines : List ℕ → List (List ℕ)
 ended_lines bytes = let parts = slice_split (λ byte. byte == 10) bytes in map strip_carriage_return (take (length parts - 1) parts)
 
 -- it is shown that the batch is too long
-abbrev pub cut_off : Shown → Shown
-cut_off shown = record { text = shown.text ++ too_long; done = false; lake = shown.lake }
+abbrev pub cut_off : Served → Served
+cut_off served = record { text = served.text ++ too_long; done = false; lake = served.lake; left = served.left }
 
 -- What a whole batch comes to. Where its source gives more than the limit, the lines that ended within that are served.
-abbrev pub batch_of : ℕ → List ℕ → List ℕ → Shown
+abbrev pub batch_of : ℕ → List ℕ → List ℕ → Served
 batch_of limit input moments =
     if nat_le (length input) limit then batch (lines input) moments fresh_lake
     else cut_off (batch (ended_lines (take limit input)) moments fresh_lake)
+
+-- The requests of the batch took just these moments, one each, whatever moments come later.
+abbrev pub TakesJust : ℕ → List ℕ → List ℕ → Type 0
+TakesJust limit input moments = (later : List ℕ) → (batch_of limit input (moments ++ later)).left ≡ later

@@ -1,13 +1,13 @@
 -- How a batch goes on, byte by byte.
-use Rattle.std.specs.Prelude.{◌≡◌, ◌⊎◌, ◌+◌, ◌==◌, ◌&&◌, ℕ, Bool, true, false, MatchBool, List, [], ◌∷◌, ◌++◌, take, Option, Some, IsSome, IfSome, Result, Ok, Err, OnOk}
+use Rattle.std.specs.Prelude.{◌≡◌, ◌⊎◌, ◌+◌, ◌==◌, ◌&&◌, ℕ, Bool, true, false, MatchBool, List, ◌∷◌, ◌++◌, take, Option, Some, IsSome, IfSome, Result, Ok, Err, OnOk}
 use Rattle.std.specs.List.{All, AllByRecursion}
 use Rattle.std.specs.Str.Lines.{strip_carriage_return}
 use Rattle.lake_base.specs.declared.outside.Failed.{Failed}
 use Rattle.lake_program.specs.declared.words.Timing.{Timing}
 use Rattle.lake_program.specs.declared.words.Timing.TheVariants.{Clock, At}
 use Rattle.lake_program.specs.declared.word.TheConstants.{LINE_LIMIT}
-use Rattle.lake_program.specs.Batch.{Lake, Shown, turn, batch, before}
-use Rattle.lake_program.specs.Front.{IsFront, AsStated}
+use Rattle.lake_program.specs.Batch.{Lake, Served, turn, batch, before}
+use Rattle.lake_program.specs.Front.{IsPrefix, AsStated}
 use Rattle.lake_program.specs.Text.{out_of_memory}
 
 -- what a batch has come to: its lake, whether each line was done, whether memory was wanting, and the line under way
@@ -40,7 +40,7 @@ CutsLines lines = (line bytes : List ℕ) → All InLine line → lines (line ++
 
 module _ (old : Progress) (line chunk moments out : List ℕ) where
   -- what is stated of the line under way, the chunk and what comes after it
-  abbrev pub stated : (List ℕ → List (List ℕ)) → List ℕ → List ℕ → Shown
+  abbrev pub stated : (List ℕ → List (List ℕ)) → List ℕ → List ℕ → Served
   stated lines more later = batch (lines (line ++ chunk ++ more)) (moments ++ later) old.lake
 
   -- The stated text begins with what was written, and goes on from the new progress.
@@ -52,8 +52,8 @@ module _ (old : Progress) (line chunk moments out : List ℕ) where
   -- It was as stated up to a line that found no memory, whose text follows.
   pub record Stuck : Type 0 where
     pub front : List ℕ
-    pub so_far : (lines : List ℕ → List (List ℕ)) (more later : List ℕ) → CutsLines lines → IsFront front (stated lines more later).text
-    pub text : IsFront (front ++ out_of_memory) out
+    pub so_far : (lines : List ℕ → List (List ℕ)) (more later : List ℕ) → CutsLines lines → IsPrefix front (stated lines more later).text
+    pub text : IsPrefix (front ++ out_of_memory) out
 
   -- Writing failed.
   abbrev pub Cut : Type 0
@@ -74,11 +74,11 @@ pub record Feeds (timing : Timing) (earlier later written_before written_after :
 
 -- what a line comes to, the same whatever moments come later
 abbrev pub Turns : List ℕ → List ℕ → List ℕ → Bool → Lake → Lake → Type 0
-Turns line moments out done old new = (later : List ℕ) → turn line (moments ++ later) old ≡ (record { text = out; done = done; lake = new }, later)
+Turns line moments out done old new = (later : List ℕ) → turn line (moments ++ later) old ≡ record { text = out; done = done; lake = new; left = later }
 
 -- what was written of a line where writing failed: a front of what it shows, or of the text of want of memory
 abbrev pub IsCutTurn : List ℕ → List ℕ → List ℕ → Lake → Type 0
-IsCutTurn line moments out old = ((later : List ℕ) → IsFront out (turn line (moments ++ later) old).0.text) ⊎ IsFront out out_of_memory
+IsCutTurn line moments out old = ((later : List ℕ) → IsPrefix out (turn line (moments ++ later) old).text) ⊎ IsPrefix out out_of_memory
 
 abbrev pub Answers : List ℕ → List ℕ → List ℕ → Progress → Progress → Result (Unit {0}) Failed → Type 0
 Answers line moments out old new (Ok _) =

@@ -3,15 +3,15 @@ use Rattle.std.specs.Prelude.{◌≡◌, ◌⊎◌, List, ℕ, ◌++◌}
 use Rattle.lake_program.specs.Text.{out_of_memory}
 
 -- the one is the beginning of the other
-abbrev pub IsFront : List ℕ → List ℕ → Type 0
-IsFront front whole = (rest : List ℕ) × (front ++ rest ≡ whole)
+abbrev pub IsPrefix : List ℕ → List ℕ → Type 0
+IsPrefix front whole = (rest : List ℕ) × (front ++ rest ≡ whole)
 
 -- It is as stated up to a line that found no memory, whose text follows, whole or in part.
 pub record WantsMemory (out stated : List ℕ) : Type 0 where
   pub front : List ℕ
-  pub so_far : IsFront front stated
-  pub text : IsFront (front ++ out_of_memory) out ⊎ IsFront out (front ++ out_of_memory)
+  pub so_far : IsPrefix front stated
+  pub text : IsPrefix (front ++ out_of_memory) out ⊎ IsPrefix out (front ++ out_of_memory)
 
 -- It is a front of what is stated, or was so when memory was wanting.
 abbrev pub AsStated : List ℕ → List ℕ → Type 0
-AsStated out stated = IsFront out stated ⊎ WantsMemory out stated
+AsStated out stated = IsPrefix out stated ⊎ WantsMemory out stated

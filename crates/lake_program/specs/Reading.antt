@@ -4,7 +4,7 @@ use Rattle.lake_base.specs.declared.outside.Failed.{Failed}
 use Rattle.lake_program.specs.declared.words.Timing.{Timing}
 use Rattle.lake_program.specs.declared.batch.End.{End}
 use Rattle.lake_program.specs.declared.batch.End.TheVariants.{Source, TooLong, SourceFailed, SinkFailed}
-use Rattle.lake_program.specs.Front.{IsFront}
+use Rattle.lake_program.specs.Front.{IsPrefix}
 use Rattle.lake_program.specs.Feeding.{Progress, Feeds}
 
 module _ (timing : Timing) (earlier later written_before written_after : Option (List ℕ)) (old new : Progress) where
@@ -20,7 +20,7 @@ module _ (timing : Timing) (earlier later written_before written_after : Option 
   -- a part of the input was fed, within the limit
   pub record Part (limit : ℕ) (input : List ℕ) (result : Result (Unit {0}) Failed) : Type 0 where
     pub fed : List ℕ
-    pub front : IsFront fed (take limit input)
+    pub front : IsPrefix fed (take limit input)
     pub feeds : Feeds timing earlier later written_before written_after old new fed result
 
   -- The source ended within the limit, it gave more, it failed, or the sink did.

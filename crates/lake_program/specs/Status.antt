@@ -1,7 +1,7 @@
 -- The statuses of the program.
-use Rattle.std.specs.Prelude.{◌≡◌, ◌⊎◌, ◌||◌, ◌==◌, ◌++◌, ℕ, Bool, true, List, Option, Some, IfSome, IsTrue, Result, Ok, Err, if◌then◌else◌}
+use Rattle.std.specs.Prelude.{◌≡◌, ◌⊎◌, ◌||◌, ◌==◌, ◌++◌, ℕ, Bool, List, Option, Some, IfSome, IsTrue, Result, Ok, Err, if◌then◌else◌}
 use Rattle.lake_base.specs.declared.outside.Failed.{Failed}
-use Rattle.lake_program.specs.Front.{IsFront}
+use Rattle.lake_program.specs.Front.{IsPrefix}
 use Rattle.lake_program.specs.Text.{usage}
 
 -- the status of a batch that was read to its end, by whether memory was wanting and whether each line was done
@@ -21,4 +21,4 @@ Ended starved done (Err failed) status = status ≡ 4
 abbrev pub ShowsUsage : Option (List ℕ) → Option (List ℕ) → ℕ → Type 0
 ShowsUsage before after status =
     ((status ≡ 2) × IfSome before (λ written. after ≡ Some (written ++ usage)))
-    ⊎ ((status ≡ 4) × IfSome before (λ written. (out : List ℕ) × IsFront out usage × (after ≡ Some (written ++ out))))
+    ⊎ ((status ≡ 4) × IfSome before (λ written. (out : List ℕ) × IsPrefix out usage × (after ≡ Some (written ++ out))))

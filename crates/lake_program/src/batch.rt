@@ -2,7 +2,7 @@
 ghost use Rattle.std.specs.Prelude.{◌≡◌, ◌+◌, ◌≤◌, ◌<◌, ◌^◌, ◌≢◌, ◌↔◌, ◌&&◌, ◌++◌, ◌∷◌, [], ℕ, List, Option, IfOk, OnOk, OnErr, IfSome, length, true, false};
 ghost use Rattle.lake_base.specs.Outside.{HasCause, Rose};
 ghost use Rattle.lake_program.specs.Session.{lake_of};
-ghost use Rattle.lake_program.specs.Front.{IsFront};
+ghost use Rattle.lake_program.specs.Front.{IsPrefix};
 ghost use Rattle.lake_program.specs.Text.{too_long};
 ghost use Rattle.lake_program.specs.Status.{Ended, IsBatchStatus};
 ghost use Rattle.lake_program.specs.Tally.{progress};
@@ -295,7 +295,7 @@ impl Batch {
     // Shows that the batch is too long.
     fn cut_off<W: Sink>(&mut self, sink: &mut W) -> Result<(), Failed>
         ensures all { OnOk result (IfSome (W.written sink.old) (λ before. W.written sink.new ≡ Some (before ++ too_long))) }
-        ensures front { OnErr result (IfSome (W.written sink.old) (λ before. (out : List ℕ) × IsFront out too_long × (W.written sink.new ≡ Some (before ++ out)))) }
+        ensures front { OnErr result (IfSome (W.written sink.old) (λ before. (out : List ℕ) × IsPrefix out too_long × (W.written sink.new ≡ Some (before ++ out)))) }
         ensures progress { progress_of self.new ≡ record { lake = lake_of self.old.session; done = false; starved = self.old.tally.starved; line = self.old.line } }
         ensures timing { self.new.timing ≡ self.old.timing }
         ensures cause { HasCause (W.faults sink.old) (W.faults sink.new) result }

@@ -1,8 +1,11 @@
 //! The program as one call.
 ghost use Rattle.std.specs.Prelude.{◌≡◌, ◌≢◌, ◌≤◌, ◌<◌, ◌^◌, ◌⊎◌, ◌++◌, ◌↔◌, ℕ, List, IfSome, IsSome, IsNone, if◌then◌else◌};
 ghost use Rattle.lake_base.specs.Outside.{Rose, Quiet};
+ghost use Rattle.lake_base.specs.declared.names.TheConstants.{PATH_LIMIT};
+ghost use Rattle.lake_model.specs.declared.history.TheConstants.{HISTORY_LIMIT};
+ghost use Rattle.lake_program.specs.declared.word.TheConstants.{LINE_LIMIT};
 ghost use Rattle.lake_program.specs.Words.{timing_of};
-ghost use Rattle.lake_program.specs.Batch.{batch_of};
+ghost use Rattle.lake_program.specs.Batch.{batch_of, TakesJust};
 ghost use Rattle.lake_program.specs.Feeding.{Moments};
 ghost use Rattle.lake_program.specs.Outcome.{Outcome};
 ghost use Rattle.lake_program.specs.Status.{IsBatchStatus, ShowsUsage};
@@ -41,26 +44,29 @@ pub fn run<R, S: Source, W: Sink, E: Sink, C: Clock, H: Host>(
     _host: &mut H,
 ) -> u8
     // Where nothing failed and no memory was wanting, the sink got just what the lines come to on the
-    // one-thread lake, from the fresh lake on.
+    // one-thread lake, from the fresh lake on; each request took one moment, the next.
     ensures batch { Quiet (S.faults source.old) (S.faults source.new) → Quiet (W.faults sink.old) (W.faults sink.new) → Quiet (E.faults errors.old) (E.faults errors.new) → result ≢ 7
         → IfSome (timing_of words.now) (λ timing. IfSome (S.left source.old) (λ input. IfSome (W.written sink.old) (λ before.
-        (moments : List ℕ) × Moments timing (C.readings clock.old) (C.readings clock.new) moments
+        (moments : List ℕ) × Moments timing (C.readings clock.old) (C.readings clock.new) moments × TakesJust BATCH_LIMIT input moments
         × (W.written sink.new ≡ Some (before ++ (batch_of BATCH_LIMIT input moments).text))
         × (result ≡ (if (batch_of BATCH_LIMIT input moments).done then 0 else 1))))) }
 
-    // Whatever failed, the sink got a front of that, up to a line that found no memory.
-    ensures front { IfSome (timing_of words.now) (λ timing. IfSome (S.left source.old) (λ input.
+    // Whatever failed, the sink got a prefix of that, up to a line that found no memory.
+    ensures prefix { IfSome (timing_of words.now) (λ timing. IfSome (S.left source.old) (λ input.
         Outcome timing BATCH_LIMIT (C.readings clock.old) (C.readings clock.new) (W.written sink.old) (W.written sink.new) input result)) }
 
     // Other words are a usage fault, and nothing else is done.
     ensures usage { (result ≡ 2 → IsNone (timing_of words.now)) × (IsNone (timing_of words.now) → ShowsUsage (E.written errors.old) (E.written errors.new) result
-        × (W.written sink.new ≡ W.written sink.old) × (S.left source.new ≡ S.left source.old) × (C.readings clock.new ≡ C.readings clock.old)) }
-    ensures no_errors { IsSome (timing_of words.now) → E.written errors.new ≡ E.written errors.old }
+        × (sink.new ≡ sink.old) × (source.new ≡ source.old) × (clock.new ≡ clock.old)) }
+    ensures no_errors { IsSome (timing_of words.now) → errors.new ≡ errors.old }
+    ensures host { _host.new ≡ _host.old }
 
     // Each failure has its cause.
     ensures source_failed { result ≡ 3 → Rose (S.faults source.old) (S.faults source.new) }
-    ensures sink_failed { result ≡ 4 → Rose (W.faults sink.old) (W.faults sink.new) ⊎ Rose (E.faults errors.old) (E.faults errors.new) }
+    ensures sink_failed { result ≡ 4 → IsSome (timing_of words.now) → Rose (W.faults sink.old) (W.faults sink.new) }
+    ensures errors_failed { result ≡ 4 → IsNone (timing_of words.now) → Rose (E.faults errors.old) (E.faults errors.new) }
     ensures statuses { IsBatchStatus result ⊎ (result ≡ 2) }
+    ensures limits { (BATCH_LIMIT ≡ 1073741824) × (LINE_LIMIT ≡ 65536) × (HISTORY_LIMIT ≡ 4194304) × (PATH_LIMIT ≡ 1024) }
     ensures later { (S.faults source.old ≤ S.faults source.new) × (W.faults sink.old ≤ W.faults sink.new) × (E.faults errors.old ≤ E.faults errors.new) }
 {
     match batch_timing(words) {

@@ -26,7 +26,7 @@ struct Came {
     errors: Vec<u8>,
 }
 
-// Runs the program on these words over an input that comes in pieces, of which these reads and writes fail.
+// Runs the program on these words over an input that comes in pieces, of which these reads fail, and these writes of each sink.
 fn run_failing(
     alloc: Global,
     words: &[&str],
@@ -50,7 +50,7 @@ fn run_failing(
         Vec::from_slice(alloc, reads)?,
     );
     let mut sink = MemorySink::new(alloc, piece, Vec::from_slice(alloc, writes)?);
-    let mut errors = MemorySink::new(alloc, piece, Vec::new(alloc));
+    let mut errors = MemorySink::new(alloc, piece, Vec::from_slice(alloc, writes)?);
     let mut clock = ScriptClock::new(Vec::new(alloc));
     let status = run(
         &(),
@@ -148,7 +148,7 @@ fn pieces_of_any_size_print_the_same(rt: HostRuntime) -> Result<(), Fail> {
 }
 
 #[test]
-fn failing_streams_leave_a_front(rt: HostRuntime) -> Result<(), Fail> {
+fn failing_streams_leave_a_prefix(rt: HostRuntime) -> Result<(), Fail> {
     for piece in [1, 7, 4_096] {
         for k in 1..110u64 {
             if piece > 0 {
@@ -217,6 +217,9 @@ fn other_words_are_a_usage_fault(rt: HostRuntime) -> Result<(), Fail> {
         &[],
     )?;
     assert_eq!(rt; most.status, 0);
+    let cut = run_failing(rt.alloc(), &["--help"], DEMO, 7, &[], &[2])?;
+    assert_eq!(rt; cut.status, 4);
+    assert_eq!(rt; cut.errors.as_slice(), b"Error: ".as_slice());
     Ok(())
 }
 

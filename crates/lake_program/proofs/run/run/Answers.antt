@@ -1,4 +1,4 @@
-use Rattle.std.proofs.Common.{◌≡◌, sym, ◌∙◌}
+use Rattle.std.proofs.Common.{sym, ◌∙◌}
 use Rattle.lake_program.specs.Words.{timing_of}
 use Rattle.lake_program.proofs.ReadingLaws.{told_then}
 use Rattle.lake_program.proofs.RunLaws.{quiet_low, for_timing, whole_batch}

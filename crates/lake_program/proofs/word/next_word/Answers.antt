@@ -1,6 +1,5 @@
-use Rattle.std.proofs.Common.{◌≡◌, ◌<◌, ◌∙◌, ◌∷◌, length, sym, ap, arith}
+use Rattle.std.proofs.Common.{◌<◌, ◌∙◌, length, sym, arith}
 use Rattle.std.proofs.lemmas.Grind.{common_steps}
-use Rattle.lake_program.specs.Command.{words_of}
 use Rattle.lake_program.proofs.WordLemmas.{first_word}
 use Rattle.lake_program.proofs.word.next_word.Goals as goal
 

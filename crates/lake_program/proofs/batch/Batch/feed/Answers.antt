@@ -1,4 +1,4 @@
-use Rattle.std.proofs.Common.{◌≡◌, ◌<◌, ◌∷◌, [], length, get_or, take, Ok, Err, refl, sym, ◌∙◌, arith, subst}
+use Rattle.std.proofs.Common.{◌∷◌, [], get_or, Ok, Err, refl, ◌∙◌, arith, subst}
 use Rattle.lake_program.specs.BatchSeen.{progress_of}
 use Rattle.lake_program.specs.Feeding.{Feeds}
 use Rattle.lake_program.proofs.FeedingLaws.{feeds_none, feeds_at, feeds_cut_at}

@@ -1,4 +1,4 @@
-use Rattle.std.proofs.Common.{◌≡◌, ℕ, List, Option, Ok, Err, sym, ap, subst, arith}
+use Rattle.std.proofs.Common.{Ok, Err, subst, arith}
 use Rattle.lake_program.specs.BatchSeen.{progress_of}
 use Rattle.lake_program.specs.Feeding.{Progress}
 use Rattle.lake_program.specs.Outcome.{start}

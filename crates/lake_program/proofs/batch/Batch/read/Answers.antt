@@ -1,7 +1,6 @@
-use Rattle.std.proofs.Common.{◌≡◌, ◌<◌, ◌≤◌, ◌+◌, ◌-◌, length, take, Ok, Err, refl, sym, ap, ◌∙◌, arith, subst}
+use Rattle.std.proofs.Common.{◌≤◌, ◌+◌, ◌-◌, Ok, Err, refl, ◌∙◌, arith, subst}
 use Rattle.lake_program.specs.BatchSeen.{progress_of}
 use Rattle.lake_program.specs.Feeding.{Feeds}
-use Rattle.lake_program.proofs.OutcomeLaws.{outcome_part}
 use Rattle.lake_program.proofs.ReadingLaws.{told_then, reached_start, source_failed, reached_more, too_long, sink_failed}
 use Rattle.lake_program.proofs.batch.Batch.read.Goals as goal
 

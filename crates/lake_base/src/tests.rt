@@ -1,0 +1,160 @@
+use super::*;
+use std::alloc::Global;
+use std::test::Fail;
+
+// The object of 5 bytes at `s3://x`, with no checksum, content type or metadata.
+const SPELLED: [u8; 31] = [
+    1, 0, 6, 115, 51, 58, 47, 47, 120, 0, 0, 0, 0, 0, 0, 0, 0, 0, 5, 0, 0, 0, 0, 0, 0, 0, 0, 0, 0,
+    0, 0,
+];
+
+// The same with another byte after it.
+const LONGER: [u8; 32] = [
+    1, 0, 6, 115, 51, 58, 47, 47, 120, 0, 0, 0, 0, 0, 0, 0, 0, 0, 5, 0, 0, 0, 0, 0, 0, 0, 0, 0, 0,
+    0, 0, 255,
+];
+
+fn text(alloc: Global, bytes: &[u8]) -> Result<Text, NameFault> {
+    Text::read(alloc, bytes, 4096)
+}
+
+// The same object with another size.
+fn entry(alloc: Global, size: u8) -> Result<Entry, EntryFault> {
+    let mut bytes = SPELLED;
+    bytes[18] = size;
+    let (entry, _) = entry_read(alloc, &bytes, 0)?;
+    Ok(entry)
+}
+
+fn put(alloc: Global, changes: &mut Changes, path: &[u8], size: u8) -> Result<(), Fail> {
+    let path = Path::read(alloc, path)?;
+    let entry = entry(alloc, size)?;
+    Ok(changes.set(path, Change::Put(entry))?)
+}
+
+fn size_at(alloc: Global, map: &KeyMap, path: &[u8]) -> Result<u64, Fail> {
+    let path = Path::read(alloc, path)?;
+    match map.get(&path) {
+        Some(entry) => Ok(entry.size),
+        None => Ok(0),
+    }
+}
+
+// The keys `a/1`, `a/2` and `b`, with entries of these sizes.
+fn three(alloc: Global) -> Result<KeyMap, Fail> {
+    let mut changes = Changes::new(alloc);
+    put(alloc, &mut changes, b"b", 3)?;
+    put(alloc, &mut changes, b"a/1", 9)?;
+    put(alloc, &mut changes, b"a/2", 2)?;
+    put(alloc, &mut changes, b"a/1", 1)?;
+    Ok(KeyMap::new(alloc).apply(alloc, &changes)?)
+}
+
+#[test]
+fn names_are_refused_to_the_place(rt: HostRuntime) {
+    let alloc = rt.alloc();
+    assert!(rt; matches!(RepoName::read(alloc, b"ab"), Err(NameFault::TooShort)));
+    assert!(rt; matches!(RepoName::read(alloc, b"a_b"), Err(NameFault::BadByte(1))));
+    assert!(rt; RepoName::read(alloc, b"demo").is_ok());
+    assert!(rt; matches!(RefName::read(alloc, b"-x"), Err(NameFault::BadByte(0))));
+}
+
+fn digest_is(alloc: Global, bytes: &[u8], hex: &[u8]) -> Result<bool, NoMemory> {
+    let digest = Digest::of(bytes);
+    let read = Digest::read(hex) == Ok(digest);
+    Ok(read && digest.hex(alloc)?.as_slice() == hex)
+}
+
+#[test]
+fn digests_are_those_of_the_standard(rt: HostRuntime) -> Result<(), Fail> {
+    let empty = b"e3b0c44298fc1c149afbf4c8996fb92427ae41e4649b934ca495991b7852b855";
+    assert!(rt; digest_is(rt.alloc(), b"", empty)?);
+    let abc = b"ba7816bf8f01cfea414140de5dae2223b00361a396177a9cb410ff61f20015ad";
+    assert!(rt; digest_is(rt.alloc(), b"abc", abc)?);
+    assert_eq!(rt; Digest::read(b"0g"), Err(1));
+    assert_eq!(rt; Digest::read(b"0f"), Err(2));
+    Ok(())
+}
+
+fn spelled_again(alloc: Global, bytes: &[u8]) -> Result<bool, Fail> {
+    let (entry, _) = entry_read(alloc, bytes, 0)?;
+    Ok(entry_bytes(alloc, &entry)?.as_slice() == bytes)
+}
+
+#[test]
+fn entries_are_read_to_the_byte(rt: HostRuntime) -> Result<(), Fail> {
+    let alloc = rt.alloc();
+    assert!(rt; matches!(entry_read(alloc, &LONGER, 0), Ok((_, 31))));
+    assert!(rt; spelled_again(alloc, &SPELLED)?);
+    assert!(rt; matches!(entry_read(alloc, &SPELLED[..30], 0), Err(EntryFault::Short)));
+    let mut bad = SPELLED;
+    bad[0] = 2;
+    assert!(rt; matches!(entry_read(alloc, &bad, 0), Err(EntryFault::Bad)));
+    Ok(())
+}
+
+fn deleted(alloc: Global, map: &KeyMap, path: &[u8]) -> Result<KeyMap, Fail> {
+    let mut changes = Changes::new(alloc);
+    changes.set(Path::read(alloc, path)?, Change::Delete)?;
+    Ok(map.apply(alloc, &changes.copy(alloc)?)?)
+}
+
+#[test]
+fn changes_are_put_and_deleted(rt: HostRuntime) -> Result<(), Fail> {
+    let alloc = rt.alloc();
+    let map = three(alloc)?;
+    assert_eq!(rt; size_at(alloc, &map, b"a/1")?, 1);
+    let left = deleted(alloc, &map, b"a/1")?;
+    assert_eq!(rt; size_at(alloc, &left, b"a/1")?, 0);
+    assert_eq!(rt; size_at(alloc, &left.copy(alloc)?, b"b")?, 3);
+    Ok(())
+}
+
+// Whether a page of one item after this name has this one.
+fn page_has(
+    alloc: Global,
+    map: &KeyMap,
+    after: &[u8],
+    name: &[u8],
+    more: bool,
+) -> Result<bool, Fail> {
+    let query = PageQuery {
+        prefix: text(alloc, b"")?,
+        after: text(alloc, after)?,
+        amount: 1,
+        delimiter: text(alloc, b"/")?,
+    };
+    let page = map.page(alloc, &query.copy(alloc)?)?.copy(alloc)?;
+    match page.items.as_slice() {
+        [item] => Ok(item.name() == name && page.has_more == more),
+        _ => Ok(false),
+    }
+}
+
+#[test]
+fn pages_list_each_item_once(rt: HostRuntime) -> Result<(), Fail> {
+    let alloc = rt.alloc();
+    let map = three(alloc)?;
+    assert!(rt; page_has(alloc, &map, b"", b"a/", true)?);
+    assert!(rt; page_has(alloc, &map, b"a/", b"b", false)?);
+    Ok(())
+}
+
+fn set(alloc: Global, pairs: &mut Pairs, key: &[u8]) -> Result<bool, Fail> {
+    let key = text(alloc, key)?;
+    let value = text(alloc, b"v")?;
+    Ok(pairs.set(key, value) == Ok(()))
+}
+
+#[test]
+fn a_pair_more_than_64_is_refused(rt: HostRuntime) -> Result<(), Fail> {
+    let alloc = rt.alloc();
+    let mut pairs = Pairs::new(alloc);
+    for i in 0..64u8 {
+        assert!(rt; set(alloc, &mut pairs, &[i])?);
+    }
+    assert!(rt; !set(alloc, &mut pairs, b"x")?);
+    assert!(rt; set(alloc, &mut pairs, &[7])?);
+    assert_eq!(rt; pairs.copy(alloc)?.as_slice().len(), 64);
+    Ok(())
+}
