@@ -9,13 +9,14 @@ use Rattle.std.specs.Str.Lines.{lines}
 use Rattle.lake_base.specs.declared.outside.Failed.{Failed}
 use Rattle.lake_program.specs.declared.words.Timing.{Timing}
 use Rattle.lake_program.specs.Batch.{Lake, Served, leaving, does, turn, before, batch, batch_of, cut_off, ended_lines, fresh_lake}
-use Rattle.lake_program.specs.Front.{IsPrefix, AsStated}
+use Rattle.lake_program.specs.Front.{IsPrefix, AsStated, IsServed}
 use Rattle.lake_program.specs.Text.{out_of_memory, too_long}
 use Rattle.lake_program.specs.Feeding.{Progress, InLine, line_room, Holds, stated, Went, Stuck, Cut, Comes, Feeds, Turns, Answers, Serves}
-use Rattle.lake_program.specs.Reading.{Part}
+use Rattle.lake_program.specs.Reading.{Reached, Part}
 use Rattle.lake_program.specs.Outcome.{start, IsWhole, Outcome}
 use Rattle.lake_program.specs.Status.{status_of, Ended}
 use Rattle.lake_program.proofs.Fronts.{front_of_self, front_after, front_more, as_stated_more}
+use Rattle.lake_program.proofs.ReadingLaws.{front_within}
 use Rattle.lake_program.proofs.LineLemmas.{lines_cut, lines_last, ended_cut, ended_last}
 use Rattle.lake_program.proofs.LongLines.{turn_last}
 use Rattle.lake_program.proofs.FeedingLaws.{moments_none, moments_then, wrote_none, wrote_then}
@@ -59,21 +60,59 @@ as_stated_of limit input fed m out front cut later =
           (as_stated_more out _ too_long (subst (λ (t : Served). AsStated out t.text) (ap (λ (l : List ℕ). batch (ended_lines l) (m ++ later) fresh_lake) front.1) (cut ended_lines front.0 later ended_cut)))
     ] refl
 
--- the source or the sink failed
-part_cut : (old : Progress) (fed m out : List ℕ) (new : Progress) (result : Result (Unit {0}) Failed) → Comes old [] fed m out new result → Cut old [] fed m out
-part_cut old fed m out new (Ok u) comes = comes_cut old [] fed m out new comes
-part_cut old fed m out new (Err failed) comes = comes
-
-pub outcome_part : (timing : Timing) (limit : ℕ) (r0 r1 w0 w1 : Option (List ℕ)) (input : List ℕ) (new : Progress) (result : Result (Unit {0}) Failed) (status : ℕ)
-    → 2 ≤ status → Part timing r0 r1 w0 w1 start new limit input result → Outcome timing limit r0 r1 w0 w1 input status
-outcome_part timing limit r0 r1 w0 w1 input new result status failed part = record {
+-- the sink failed
+pub outcome_sink_failed : (timing : Timing) (limit : ℕ) (r0 r1 w0 w1 left : Option (List ℕ)) (input : List ℕ) (new : Progress) (failed : Failed)
+    → Part timing r0 r1 w0 w1 start new limit input (Err failed) → Outcome timing limit r0 r1 w0 w1 left input 4
+outcome_sink_failed timing limit r0 r1 w0 w1 left input new failed part = record {
   moments = part.feeds.moments;
   out = part.feeds.out;
   took = part.feeds.took;
   wrote = part.feeds.wrote;
-  as_stated = as_stated_of limit input part.fed part.feeds.moments part.feeds.out part.front (part_cut start part.fed part.feeds.moments part.feeds.out new result (part.feeds.went [] holds_start refl));
-  whole = λ low. absurd (omega (arith, failed, low));
+  as_stated = as_stated_of limit input part.fed part.feeds.moments part.feeds.out part.front (part.feeds.went [] holds_start refl);
+  whole = λ low. absurd (omega (arith, low));
+  given = λ is. absurd (omega (arith, is));
 }
+
+-- what the lines that ended in what was given come to
+given_is : (given moments : List ℕ) → batch (ended_lines given) moments fresh_lake ≡ batch (ended_lines ([] ++ given ++ [])) (moments ++ []) fresh_lake
+given_is given moments =
+    ap (λ (l : List ℕ). batch (ended_lines l) moments fresh_lake) (sym (append-nil given))
+    ∙ ap (λ (l : List ℕ). batch (ended_lines ([] ++ given ++ [])) l fresh_lake) (sym (append-nil moments))
+
+all_served : (given m out : List ℕ) (new : Progress) → Comes start [] given m out new (Ok tt) → IsServed out (batch (ended_lines given) m fresh_lake).text
+all_served given m out new comes =
+    elim new.starved as (λ b. MatchBool b (Stuck start [] given m out) ((next : List ℕ) × Holds next new.line × Went start [] given m out new next) → IsServed out (batch (ended_lines given) m fresh_lake).text) [
+      | true ↦ λ s. inr (record {
+        front = s.front;
+        so_far = subst (λ (t : Served). IsPrefix s.front t.text) (sym (given_is given m)) (s.so_far ended_lines [] [] ended_cut);
+        text = inl s.text;
+      })
+      | false ↦ λ v. inl (sym (ap (λ (t : Served). t.text) (given_is given m ∙ v.2.each ended_lines [] [] ended_cut
+          ∙ ap (λ (l : List ℕ). before out v.2.done (batch (ended_lines l) [] new.lake)) (append-nil v.0)
+          ∙ ap (λ (l : List (List ℕ)). before out v.2.done (batch l [] new.lake)) (ended_last v.0 v.1.in_line)) ∙ append-nil out))
+    ] comes
+
+-- the source failed
+pub outcome_source_failed : (timing : Timing) (limit total : ℕ) (r0 r1 w0 w1 left : Option (List ℕ)) (input : List ℕ) (new : Progress)
+    → total ≤ limit → Reached timing r0 r1 w0 w1 start new input left total → Outcome timing limit r0 r1 w0 w1 left input 3
+outcome_source_failed timing limit total r0 r1 w0 w1 left input new within reached =
+    let comes = reached.feeds.went [] holds_start refl in
+    let front = front_within limit reached.fed reached.left input reached.whole (omega (arith, reached.count, within)) in
+    record {
+      moments = reached.feeds.moments;
+      out = reached.feeds.out;
+      took = reached.feeds.took;
+      wrote = reached.feeds.wrote;
+      as_stated = as_stated_of limit input reached.fed reached.feeds.moments reached.feeds.out front (comes_cut start [] reached.fed reached.feeds.moments reached.feeds.out new comes);
+      whole = λ low. absurd (omega (arith, low));
+      given = λ is. record {
+        given = reached.fed;
+        left = reached.left;
+        rest = reached.rest;
+        whole = reached.whole;
+        served = all_served reached.fed reached.feeds.moments reached.feeds.out new comes;
+      };
+    }
 
 -- the last line, which nothing ends, and an empty one that is no line
 last_turn : (next moments : List ℕ) (lake : Lake) → All InLine next → batch (lines next) moments lake ≡ (let t = turn next moments lake in before t.text t.done (leaving t.left (does t.lake [])))
@@ -91,8 +130,15 @@ starved_high : (final : Progress) (result : Result (Unit {0}) Failed) (status : 
 starved_high final (Ok u) status is starved = omega (arith, is ∙ ap (λ b. status_of b final.done) starved)
 starved_high final (Err failed) status is starved = omega (arith, is)
 
+-- a batch that was read to its end has no status of a failed source
+not_three : (starved done : Bool) (result : Result (Unit {0}) Failed) (status : ℕ) → Ended starved done result status → status ≡ 3 → ⊥
+not_three true done (Ok u) status is three = omega (arith, is, three)
+not_three false true (Ok u) status is three = omega (arith, is, three)
+not_three false false (Ok u) status is three = omega (arith, is, three)
+not_three starved done (Err failed) status is three = omega (arith, is, three)
+
 -- the source ended within the limit, and the line under way was served as the last
-module _ (timing : Timing) (limit : ℕ) (r0 r1 r2 w0 w1 w2 : Option (List ℕ)) (input : List ℕ) (new final : Progress) (status : ℕ) (within : length input ≤ limit)
+module _ (timing : Timing) (limit : ℕ) (r0 r1 r2 w0 w1 w2 left : Option (List ℕ)) (input : List ℕ) (new final : Progress) (status : ℕ) (within : length input ≤ limit)
     (a : Feeds timing r0 r1 w0 w1 start new input (Ok tt)) where
   whole_is : (moments : List ℕ) → batch_of limit input moments ≡ batch (lines ([] ++ input ++ [])) moments fresh_lake
   whole_is moments = within_limit limit input moments (le_test (length input) limit within) ∙ ap (λ (l : List ℕ). batch (lines l) moments fresh_lake) (sym (append-nil input))
@@ -157,8 +203,9 @@ module _ (timing : Timing) (limit : ℕ) (r0 r1 r2 w0 w1 w2 : Option (List ℕ))
     text = inl (front_more _ a.out out s.text);
   })
 
-  pub outcome_whole : (result : Result (Unit {0}) Failed) → Serves timing r1 r2 w1 w2 new final new.line result → Ended final.starved final.done result status → Outcome timing limit r0 r2 w0 w2 input status
+  pub outcome_whole : (result : Result (Unit {0}) Failed) → Serves timing r1 r2 w1 w2 new final new.line result → Ended final.starved final.done result status → Outcome timing limit r0 r2 w0 w2 left input status
   outcome_whole result b is = record {
+    given = λ three. absurd (not_three final.starved final.done result status is three);
     moments = a.moments ++ b.moments;
     out = a.out ++ b.out;
     took = moments_then timing r0 r1 r2 a.moments b.moments a.took b.took;
@@ -176,7 +223,7 @@ module _ (timing : Timing) (limit : ℕ) (r0 r1 r2 w0 w1 w2 : Option (List ℕ))
   }
 
 -- the source gave more than the limit, and that is shown
-module _ (timing : Timing) (limit : ℕ) (r0 r1 w0 w1 w2 : Option (List ℕ)) (input : List ℕ) (new : Progress) (status : ℕ) (more : limit < length input)
+module _ (timing : Timing) (limit : ℕ) (r0 r1 w0 w1 w2 left : Option (List ℕ)) (input : List ℕ) (new : Progress) (status : ℕ) (more : limit < length input)
     (a : Feeds timing r0 r1 w0 w1 start new (take limit input) (Ok tt)) where
   cut_is : (later : List ℕ) → batch_of limit input (a.moments ++ later) ≡ cut_off (batch (ended_lines ([] ++ take limit input ++ [])) (a.moments ++ later) fresh_lake)
   cut_is later =
@@ -204,8 +251,9 @@ module _ (timing : Timing) (limit : ℕ) (r0 r1 w0 w1 w2 : Option (List ℕ)) (i
       ] comes
 
   pub outcome_too_long : (result : Result (Unit {0}) Failed) → Ended new.starved false result status
-      → OnOk result (IfSome w1 (λ written. w2 ≡ Some (written ++ too_long))) → OnErr result (WroteFront too_long w1 w2) → Outcome timing limit r0 r1 w0 w2 input status
+      → OnOk result (IfSome w1 (λ written. w2 ≡ Some (written ++ too_long))) → OnErr result (WroteFront too_long w1 w2) → Outcome timing limit r0 r1 w0 w2 left input status
   outcome_too_long (Ok u) is wrote front = record {
+    given = λ three. absurd (not_three new.starved false (Ok u) status is three);
     moments = a.moments;
     out = a.out ++ too_long;
     took = a.took;
@@ -232,15 +280,17 @@ module _ (timing : Timing) (limit : ℕ) (r0 r1 w0 w1 w2 : Option (List ℕ)) (i
         wrote = wrote_then w0 w1 w2 a.out part.0 a.wrote part.2;
         as_stated = cut_stated part.0 part.1 (a.went [] holds_start refl);
         whole = λ low. absurd (omega (arith, low, is));
+        given = λ three. absurd (not_three new.starved false (Err failed) status is three);
       }
 
 -- no memory was found before the first byte was read
-pub outcome_none : (timing : Timing) (limit : ℕ) (readings written : Option (List ℕ)) (input : List ℕ) (status : ℕ) → 2 ≤ status → Outcome timing limit readings readings written written input status
-outcome_none timing limit readings written input status high = record {
+pub outcome_none : (timing : Timing) (limit : ℕ) (readings written left : Option (List ℕ)) (input : List ℕ) → Outcome timing limit readings readings written written left input 7
+outcome_none timing limit readings written left input = record {
   moments = [];
   out = [];
   took = moments_none timing readings;
   wrote = wrote_none written;
   as_stated = λ more. inl (_, refl);
-  whole = absurd_high status high;
+  whole = λ low. absurd (omega (arith, low));
+  given = λ is. absurd (omega (arith, is));
 }

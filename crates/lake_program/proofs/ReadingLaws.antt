@@ -5,9 +5,10 @@ use Rattle.std.proofs.Math.Seq.{take-append-add}
 use Rattle.lake_base.specs.Outside.{Reads}
 use Rattle.lake_base.specs.declared.outside.Failed.{Failed}
 use Rattle.lake_program.specs.declared.words.Timing.{Timing}
+use Rattle.lake_program.specs.declared.batch.End.TheVariants.{SourceFailed}
 use Rattle.lake_program.specs.Front.{IsPrefix}
 use Rattle.lake_program.specs.Feeding.{Progress, Feeds}
-use Rattle.lake_program.specs.Reading.{Reached, Part}
+use Rattle.lake_program.specs.Reading.{Reached, Part, Ends}
 use Rattle.lake_program.proofs.FeedingLaws.{feeds_none, feeds_then}
 
 pub told_then : (told : Option (List ℕ)) (P Q : List ℕ → Type 0) → ((bytes : List ℕ) → P bytes → Q bytes) → IfSome told P → IfSome told Q
@@ -19,18 +20,15 @@ reached_start timing readings written None now = tt
 reached_start timing readings written (Some input) now = record { fed = []; left = input; rest = refl; whole = refl; count = refl; feeds = feeds_none timing readings written now }
 
 -- what is fed within the limit is a front of what the limit allows
-front_within : (limit : ℕ) (fed left input : List ℕ) → fed ++ left ≡ input → length fed ≤ limit → IsPrefix fed (take limit input)
+pub front_within : (limit : ℕ) (fed left input : List ℕ) → fed ++ left ≡ input → length fed ≤ limit → IsPrefix fed (take limit input)
 front_within limit fed left input whole within =
     let count : length fed + (limit - length fed) ≡ limit = omega arith in
     (take (limit - length fed) left, sym (take-append-add fed left (limit - length fed)) ∙ ap (λ n. take n (fed ++ left)) count ∙ ap (take limit) whole)
 
-pub source_failed : (timing : Timing) (r0 r1 w0 w1 : Option (List ℕ)) (old new : Progress) (limit total : ℕ) (source : Option (List ℕ)) (input : List ℕ)
-    → total ≤ limit → Reached timing r0 r1 w0 w1 old new input source total → Part timing r0 r1 w0 w1 old new limit input (Ok tt)
-source_failed timing r0 r1 w0 w1 old new limit total source input within reached = record {
-  fed = reached.fed;
-  front = front_within limit reached.fed reached.left input reached.whole (omega (arith, reached.count));
-  feeds = reached.feeds;
-}
+pub source_failed : (timing : Timing) (r0 r1 w0 w1 : Option (List ℕ)) (old new : Progress) (limit total : ℕ) (before after : Option (List ℕ)) (input : List ℕ)
+    → total ≤ limit → after ≡ before → Reached timing r0 r1 w0 w1 old new input before total → Ends timing r0 r1 w0 w1 old new limit input after SourceFailed
+source_failed timing r0 r1 w0 w1 old new limit total before after input within same reached =
+    (total, within, subst (λ (o : Option (List ℕ)). Reached timing r0 r1 w0 w1 old new input o total) (sym same) reached)
 
 module _ (timing : Timing) (r0 r1 r2 w0 w1 w2 : Option (List ℕ)) (old mid new : Progress) (total n : ℕ) (before after : Option (List ℕ)) (room_before room : List ℕ) (input : List ℕ)
     (reached : Reached timing r0 r1 w0 w1 old mid input before total) (reads : IfSome before (λ bytes. Reads bytes after room_before room n)) where

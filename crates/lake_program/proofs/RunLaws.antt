@@ -31,8 +31,8 @@ quiet_low status s0 s1 w0 w1 is source sink qs qw fed =
 pub for_timing : (found : Option Timing) (timing : Timing) → found ≡ Some timing → (P : Timing → Type 0) → P timing → IfSome found P
 for_timing found timing is P p = subst (λ (o : Option Timing). IfSome o P) (sym is) p
 
-pub whole_batch : (timing : Timing) (limit : ℕ) (r0 r1 w0 w1 : Option (List ℕ)) (input : List ℕ) (status : ℕ) → status < 2 → Outcome timing limit r0 r1 w0 w1 input status
+pub whole_batch : (timing : Timing) (limit : ℕ) (r0 r1 w0 w1 left : Option (List ℕ)) (input : List ℕ) (status : ℕ) → status < 2 → Outcome timing limit r0 r1 w0 w1 left input status
     → IfSome w0 (λ before. (moments : List ℕ) × Moments timing r0 r1 moments × TakesJust limit input moments × (w1 ≡ Some (before ++ (batch_of limit input moments).text)) × (status ≡ cond (batch_of limit input moments).done 0 1))
-whole_batch timing limit r0 r1 w0 w1 input status low o =
+whole_batch timing limit r0 r1 w0 w1 left input status low o =
     let whole = o.whole low in
     told_then w0 (λ before. w1 ≡ Some (before ++ o.out)) _ (λ before wrote. (o.moments, o.took, whole.just, wrote ∙ ap (λ (t : List ℕ). Some (before ++ t)) whole.text, whole.done)) o.wrote

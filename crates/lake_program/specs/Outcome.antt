@@ -1,8 +1,8 @@
 -- What a whole batch led to.
 use Rattle.std.specs.Prelude.{◌≡◌, ◌<◌, ℕ, true, false, if◌then◌else◌, List, [], ◌++◌, Option, Some, IfSome}
 use Rattle.lake_program.specs.declared.words.Timing.{Timing}
-use Rattle.lake_program.specs.Batch.{fresh_lake, batch_of, TakesJust}
-use Rattle.lake_program.specs.Front.{AsStated}
+use Rattle.lake_program.specs.Batch.{fresh_lake, batch, batch_of, ended_lines, TakesJust}
+use Rattle.lake_program.specs.Front.{AsStated, IsServed}
 use Rattle.lake_program.specs.Feeding.{Progress, Moments}
 
 -- a batch of which no line was read
@@ -15,8 +15,16 @@ pub record IsWhole (limit : ℕ) (input moments out : List ℕ) (status : ℕ) :
   pub done : status ≡ (if (batch_of limit input moments).done then 0 else 1)
   pub just : TakesJust limit input moments
 
--- These moments were taken and this was written of the batch of an input.
-pub record Outcome (timing : Timing) (limit : ℕ) (earlier later before after : Option (List ℕ)) (input : List ℕ) (status : ℕ) : Type 0 where
+-- All lines that ended in what the source gave were served. The rest is left.
+pub record ServesGiven (input : List ℕ) (source : Option (List ℕ)) (moments out : List ℕ) : Type 0 where
+  pub given : List ℕ
+  pub left : List ℕ
+  pub rest : source ≡ Some left
+  pub whole : given ++ left ≡ input
+  pub served : IsServed out (batch (ended_lines given) moments fresh_lake).text
+
+-- These moments were taken and this was written of the batch of an input, and this is left of its source.
+pub record Outcome (timing : Timing) (limit : ℕ) (earlier later before after source : Option (List ℕ)) (input : List ℕ) (status : ℕ) : Type 0 where
   pub moments : List ℕ
   pub out : List ℕ
   pub took : Moments timing earlier later moments
@@ -24,3 +32,5 @@ pub record Outcome (timing : Timing) (limit : ℕ) (earlier later before after :
   -- whatever moments would have come next
   pub as_stated : (more : List ℕ) → AsStated out (batch_of limit input (moments ++ more)).text
   pub whole : status < 2 → IsWhole limit input moments out status
+  -- where the source failed
+  pub given : status ≡ 3 → ServesGiven input source moments out

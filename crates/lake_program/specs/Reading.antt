@@ -23,9 +23,9 @@ module _ (timing : Timing) (earlier later written_before written_after : Option 
     pub front : IsPrefix fed (take limit input)
     pub feeds : Feeds timing earlier later written_before written_after old new fed result
 
-  -- The source ended within the limit, it gave more, it failed, or the sink did.
-  abbrev pub Ends : ℕ → List ℕ → End → Type 0
-  Ends limit input Source = (length input ≤ limit) × Feeds timing earlier later written_before written_after old new input (Ok tt)
-  Ends limit input TooLong = (limit < length input) × Feeds timing earlier later written_before written_after old new (take limit input) (Ok tt)
-  Ends limit input SourceFailed = Part limit input (Ok tt)
-  Ends limit input SinkFailed = (failed : Failed) × Part limit input (Err failed)
+  -- The source ended within the limit, it gave more, it failed with this left of it, or the sink failed.
+  abbrev pub Ends : ℕ → List ℕ → Option (List ℕ) → End → Type 0
+  Ends limit input left Source = (length input ≤ limit) × Feeds timing earlier later written_before written_after old new input (Ok tt)
+  Ends limit input left TooLong = (limit < length input) × Feeds timing earlier later written_before written_after old new (take limit input) (Ok tt)
+  Ends limit input left SourceFailed = (total : ℕ) × (total ≤ limit) × Reached input left total
+  Ends limit input left SinkFailed = (failed : Failed) × Part limit input (Err failed)

@@ -241,7 +241,7 @@ impl Batch {
         requires limit { limit < 2 ^ 63 }
         requires calls { self.old.session.calls ≡ 0 }
         ensures ends { IfSome (S.left source.old) (λ input. Ends self.old.timing (C.readings clock.old) (C.readings clock.new) (W.written sink.old) (W.written sink.new)
-            (progress_of self.old) (progress_of self.new) limit input result) }
+            (progress_of self.old) (progress_of self.new) limit input (S.left source.new) result) }
         ensures timing { self.new.timing ≡ self.old.timing }
         ensures calls { self.new.session.calls ≤ limit }
         ensures source { (S.faults source.old ≤ S.faults source.new) × (result ≡ End.SourceFailed → Rose (S.faults source.old) (S.faults source.new)) }
@@ -308,9 +308,9 @@ impl Batch {
     /// too much, is written, and the status is answered.
     pub fn finish<C: Clock, W: Sink>(&mut self, end: End, clock: &mut C, sink: &mut W) -> u8
         requires { self.old.session.calls + 1 < 2 ^ 64 }
-        ensures outcome { (limit : ℕ) (input : List ℕ) (earlier before : Option (List ℕ))
-            → Ends self.old.timing earlier (C.readings clock.old) before (W.written sink.old) start (progress_of self.old) limit input end
-            → Outcome self.old.timing limit earlier (C.readings clock.new) before (W.written sink.new) input result }
+        ensures outcome { (limit : ℕ) (input : List ℕ) (earlier before left : Option (List ℕ))
+            → Ends self.old.timing earlier (C.readings clock.old) before (W.written sink.old) start (progress_of self.old) limit input left end
+            → Outcome self.old.timing limit earlier (C.readings clock.new) before (W.written sink.new) left input result }
         ensures source { (result ≡ 3) ↔ (end ≡ End.SourceFailed) }
         ensures sink { (W.faults sink.old ≤ W.faults sink.new) × (result ≡ 4 → (end ≢ End.SinkFailed) → Rose (W.faults sink.old) (W.faults sink.new)) }
         ensures statuses { IsBatchStatus result }

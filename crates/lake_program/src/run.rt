@@ -51,9 +51,10 @@ pub fn run<R, S: Source, W: Sink, E: Sink, C: Clock, H: Host>(
         × (W.written sink.new ≡ Some (before ++ (batch_of BATCH_LIMIT input moments).text))
         × (result ≡ (if (batch_of BATCH_LIMIT input moments).done then 0 else 1))))) }
 
-    // Whatever failed, the sink got a prefix of that, up to a line that found no memory.
+    // Whatever failed, the sink got a prefix of that, up to a line that found no memory. Where the source
+    // failed, it got all of the lines that had ended.
     ensures prefix { IfSome (timing_of words.now) (λ timing. IfSome (S.left source.old) (λ input.
-        Outcome timing BATCH_LIMIT (C.readings clock.old) (C.readings clock.new) (W.written sink.old) (W.written sink.new) input result)) }
+        Outcome timing BATCH_LIMIT (C.readings clock.old) (C.readings clock.new) (W.written sink.old) (W.written sink.new) (S.left source.new) input result)) }
 
     // Other words are a usage fault, and nothing else is done.
     ensures usage { (result ≡ 2 → IsNone (timing_of words.now)) × (IsNone (timing_of words.now) → ShowsUsage (E.written errors.old) (E.written errors.new) result
@@ -98,7 +99,7 @@ pub fn serve_batch<S: Source, W: Sink, C: Clock>(
 ) -> u8
     requires { limit < 2 ^ 63 }
     ensures outcome { IfSome (S.left source.old) (λ input.
-        Outcome timing limit (C.readings clock.old) (C.readings clock.new) (W.written sink.old) (W.written sink.new) input result) }
+        Outcome timing limit (C.readings clock.old) (C.readings clock.new) (W.written sink.old) (W.written sink.new) (S.left source.new) input result) }
     ensures source { (S.faults source.old ≤ S.faults source.new) × (result ≡ 3 → Rose (S.faults source.old) (S.faults source.new)) }
     ensures sink { (W.faults sink.old ≤ W.faults sink.new) × (result ≡ 4 → Rose (W.faults sink.old) (W.faults sink.new)) }
     ensures statuses { IsBatchStatus result }

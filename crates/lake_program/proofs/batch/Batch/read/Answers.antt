@@ -34,7 +34,7 @@ reading-preserved g c =
 
 pub returns-in-Err-clause-ends : goal.returns-in-Err-clause-ends
 returns-in-Err-clause-ends g c =
-    told_then (g.S.Source.left c.args.source.now) _ _ (λ input reached. source_failed c.args.self.now.timing _ _ _ _ _ _ c.args.limit c.reading.total _ input c.reading.invariant.within reached) c.reading.invariant.reached
+    told_then (g.S.Source.left c.args.source.now) _ _ (λ input reached. source_failed c.args.self.now.timing _ _ _ _ _ _ c.args.limit c.reading.total _ _ input c.reading.invariant.within c.in-Err.ensures.failed reached) c.reading.invariant.reached
 
 pub returns-in-Ok-feed-clause-ends : goal.returns-in-Ok-feed-clause-ends
 returns-in-Ok-feed-clause-ends g c =
