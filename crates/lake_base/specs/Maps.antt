@@ -1,6 +1,7 @@
 -- Finite maps whose keys are byte lists, in byte order, and where a key stands in their lists.
 use Rattle.std.specs.Prelude.{◌≡◌, ◌≤◌, ◌<◌, ◌⊎◌, ℕ, T, List, ◌∷◌, ◌++◌, length}
 use Rattle.std.specs.List.{HoldsAt, AllWithin, AllByRecursion}
+use Rattle.std.specs.List.Sorted.{IsStrictlySortedBy}
 use Rattle.std.specs.Ordering.{nat_cmp}
 use Rattle.std.specs.declared.cmp.Ordering.{Ordering}
 use Rattle.std.specs.declared.cmp.Ordering.TheVariants.{Less, Equal, Greater}
@@ -18,6 +19,10 @@ ByteMap X = FinMap byte_order X
 -- the keys of a list strictly ascend
 abbrev pub Ascend : {X : Type 0} → List (List ℕ × X) → Type 0
 Ascend items = T (is_sorted byte_order items)
+
+-- byte lists that strictly ascend
+abbrev pub Ascending : List (List ℕ) → Type 0
+Ascending = IsStrictlySortedBy byte_order
 
 -- the key stands at this place
 pub record IsAt {X : Type 0} (items : List (List ℕ × X)) (key : List ℕ) (at : ℕ) : Type 0 where

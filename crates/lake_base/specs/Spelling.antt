@@ -1,8 +1,11 @@
 -- The one spelling of each value as bytes: the project's own formats, numbers with their high byte first.
-use Rattle.std.specs.Prelude.{◌≡◌, ◌<◌, ◌≤◌, ◌^◌, ℕ, false, true, List, ◌∷◌, ◌++◌, length, slice_index, codes, nat_eq}
+use Rattle.std.specs.Prelude.{◌≡◌, ◌<◌, ◌≤◌, ◌-◌, ◌^◌, ℕ, false, true, List, [], ◌∷◌, ◌++◌, length, slice_get, slice_index, codes, nat_eq, option_map}
+use Rattle.std.specs.Option.{unwrap_or}
 use Rattle.std.specs.List.{flat_map, starts_with, AllByRecursion}
-use Rattle.std.specs.Int.{w16, w64, to_be_bytes}
+use Rattle.std.specs.Int.{w16, w32, w64, to_be_bytes}
 use Rattle.std.specs.Str.{is_utf8}
+use Rattle.lake_base.specs.Commit.{Commit}
+use Rattle.lake_base.specs.Digest.{sha256}
 use Rattle.lake_base.specs.Entry.{Object}
 use Rattle.lake_base.specs.Pairs.{ArePairs}
 use Rattle.lake_base.specs.declared.entry.Place.{Place}
@@ -28,6 +31,39 @@ pairs_spelling pairs = to_be_bytes w16 (length pairs) ++ flat_map pair_spelling 
 abbrev pub entry_spelling : Object → List ℕ
 entry_spelling e =
     place_spelling e.place ++ (to_be_bytes w64 e.size ++ (to_be_bytes w64 e.mtime ++ (short_text e.content_type ++ pairs_spelling e.metadata)))
+
+-- a row of a range: its path, and its entry
+abbrev pub row_spelling : List ℕ × Object → List ℕ
+row_spelling row = short_text row.0 ++ entry_spelling row.1
+
+-- a range, version 1: the count in four bytes, and the rows
+unfoldable pub range_spelling : List (List ℕ × Object) → List ℕ
+range_spelling rows = 1 ∷ (to_be_bytes w32 (length rows) ++ flat_map row_spelling rows)
+
+-- the path of the row at a place
+abbrev pub path_at : List (List ℕ × Object) → ℕ → List ℕ
+path_at rows at = unwrap_or (option_map (λ row. row.0) (slice_get rows at)) []
+
+-- what a metarange says of a range: its name, the SHA-256 of its file; its count of rows; its first path and its last
+unfoldable pub range_line : List (List ℕ × Object) → List ℕ
+range_line rows =
+    sha256 (range_spelling rows) ++ (to_be_bytes w32 (length rows) ++ (short_text (path_at rows 0) ++ short_text (path_at rows (length rows - 1))))
+
+-- a metarange, version 1: the count of ranges in four bytes, and what is said of each
+unfoldable pub metarange_spelling : List (List (List ℕ × Object)) → List ℕ
+metarange_spelling ranges = 1 ∷ (to_be_bytes w32 (length ranges) ++ flat_map range_line ranges)
+
+-- a text behind four bytes of length
+abbrev pub long_text : List ℕ → List ℕ
+long_text text = to_be_bytes w32 (length text) ++ text
+
+-- a commit, version 1: the metarange's id, the generation, the date, the parents behind two bytes of count, the
+-- committer, the message and the metadata
+unfoldable pub commit_spelling : Commit → List ℕ
+commit_spelling c =
+    1 ∷ (c.meta_range.0 ++ (to_be_bytes w64 c.generation ++ (to_be_bytes w64 c.date
+    ++ (to_be_bytes w16 (length c.parents) ++ (flat_map (λ parent. parent.0) c.parents
+    ++ (short_text c.committer ++ (long_text c.message ++ pairs_spelling c.metadata)))))))
 
 abbrev pub AreBytes : List ℕ → Type 0
 AreBytes bytes = (i : ℕ) → slice_index bytes i < 256

@@ -11,19 +11,26 @@
 //! exactly what breaks the stated limits; an object of the outside fails only with a count that rose.
 #![tactic(auto)]
 
+pub mod ancestry;
 pub mod changes;
 pub mod clocks;
 pub mod commit;
+pub mod cutting;
+pub mod deciding;
 pub mod digest;
 pub mod entry;
 pub mod fields;
+pub mod files;
+pub mod keeping;
 pub mod key_map;
 pub mod listing;
 pub mod memory;
+pub mod merging;
 pub mod names;
 pub mod outside;
 pub mod pairs;
 mod places;
+pub mod segments;
 pub mod sequence;
 pub mod settings;
 pub mod spelling;
@@ -34,12 +41,14 @@ pub mod text;
 pub use changes::Changes;
 pub use clocks::{FixedClock, ScriptClock};
 pub use commit::{About, CommitId, CommitRecord, ResetWhat, Strategy};
+pub use cutting::{Cut, USUAL_CUT};
 pub use digest::Digest;
 pub use entry::{Change, Entry, Place};
 pub use fields::EntryFault;
 pub use key_map::KeyMap;
 pub use listing::{Item, Page, PageQuery};
 pub use memory::{MemorySink, MemorySource};
+pub use merging::Side;
 pub use names::{NameFault, Path, RefName, RepoName};
 pub use outside::{Clock, Failed, NoMemory, Sink, Source, Trouble};
 pub use pairs::{Pairs, PairsFault};

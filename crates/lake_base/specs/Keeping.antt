@@ -1,0 +1,50 @@
+-- Which commits the rules of retention keep.
+use Rattle.std.specs.Prelude.{◌≡◌, ◌≤◌, ◌-◌, ◌*◌, ◌⊎◌, ℕ, List, [], ◌∷◌, Option, Some, None, if◌then◌else◌}
+use Rattle.std.specs.List.{Contains}
+use Rattle.std.specs.Str.{bytes_eq}
+use Rattle.lake_base.specs.Ancestry.{Graph, back, date, first_parent, IsOnWalk}
+use Rattle.lake_base.specs.Settings.{Retention}
+use Rattle.lake_base.specs.declared.digest.Digest.{Digest}
+use Rattle.lake_base.specs.declared.settings.BranchDays.{BranchDays}
+
+-- so many days before now, in seconds, and 0 where that is below 0
+abbrev pub cutoff : ℕ → ℕ → ℕ
+cutoff now days = now - days * 86400
+
+-- the days of the first rule of a branch's name
+abbrev pub days_in : ℕ → List BranchDays → List ℕ → ℕ
+days_in otherwise [] branch = otherwise
+days_in otherwise (rule ∷ rules) branch = if bytes_eq rule.branch branch then rule.days else days_in otherwise rules branch
+
+-- the days of a branch; the default's where no rule names it
+abbrev pub days_of : Retention → List ℕ → ℕ
+days_of rules branch = days_in rules.default_days rules.branches branch
+
+-- it is the head of a branch
+abbrev pub IsHead : List (List ℕ × Digest) → Digest → Type 0
+IsHead heads id = (branch : List ℕ) × Contains heads (branch, id)
+
+-- On the walk from a head it follows, directly and away from the head, a commit dated at or after the cutoff.
+pub record IsFollower (graph : Graph) (head : Digest) (limit : ℕ) (id : Digest) : Type 0 where
+  pub steps : ℕ
+  pub later : Digest
+  pub stands : back graph steps head ≡ Some later
+  pub follows : first_parent graph later ≡ Some id
+  pub dated : limit ≤ date graph later
+
+-- it is a follower on some branch's walk, by that branch's cutoff
+abbrev pub IsFollowed : Graph → List (List ℕ × Digest) → Retention → ℕ → Digest → Type 0
+IsFollowed graph heads rules now id =
+    (head : List ℕ × Digest) × Contains heads head × IsFollower graph head.1 (cutoff now (days_of rules head.0)) id
+
+-- it lies on no branch's walk, and is itself dated at or after the default cutoff
+pub record IsYoung (graph : Graph) (heads : List (List ℕ × Digest)) (rules : Retention) (now : ℕ) (id : Digest) : Type 0 where
+  pub apart : (head : List ℕ × Digest) → Contains heads head → IsOnWalk graph head.1 id → ⊥
+  pub dated : cutoff now rules.default_days ≤ date graph id
+
+-- A commit is kept: by rules where it is a head, or tagged, or followed on a walk, or young beside all walks;
+-- without rules always.
+abbrev pub IsKept : Graph → List (List ℕ × Digest) → List Digest → Option Retention → ℕ → Digest → Type 0
+IsKept graph heads tags None now id = Unit {0}
+IsKept graph heads tags (Some rules) now id =
+    IsHead heads id ⊎ (Contains tags id ⊎ (IsFollowed graph heads rules now id ⊎ IsYoung graph heads rules now id))

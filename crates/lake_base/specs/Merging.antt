@@ -1,0 +1,69 @@
+-- The three-way merge of key maps, path by path (lakeFS documentation, merge).
+use Rattle.std.specs.Prelude.{◌≡◌, ◌↔◌, ◌||◌, ℕ, Bool, true, List, [], ◌∷◌, ◌++◌, Option, Some, None, if◌then◌else◌}
+use Rattle.std.specs.FinMap.{get, insert, remove, keys, contains_key}
+use Rattle.std.specs.List.{Contains}
+use Rattle.lake_base.specs.Entry.{Object}
+use Rattle.lake_base.specs.KeyMap.{Objects, Edits}
+use Rattle.lake_base.specs.Maps.{Ascending}
+use Rattle.lake_base.specs.Sameness.{same_value}
+use Rattle.lake_base.specs.declared.entry.Change.{Change}
+use Rattle.lake_base.specs.declared.entry.Change.TheVariants.{Put, Delete}
+use Rattle.lake_base.specs.declared.commit.Strategy.{Strategy}
+use Rattle.lake_base.specs.declared.commit.Strategy.TheVariants.{Refuse, SourceWins, DestWins}
+use Rattle.lake_base.specs.declared.merging.Side.{Side}
+use Rattle.lake_base.specs.declared.merging.Side.TheVariants.{Source, Destination, Neither}
+
+-- Whose value a path takes, where base, source and destination have these: where the source is as the base,
+-- the destination's; where the destination is as the base, the source's; where both are equal, the source's.
+-- Else the path conflicts.
+abbrev pub side_of : Option Object → Option Object → Option Object → Side
+side_of base source dest =
+    if same_value source base then Destination
+    else if same_value dest base then Source
+    else if same_value source dest then Source
+    else Neither
+
+-- the value of a side; where a path conflicts, the source's or the destination's as the strategy says
+abbrev pub taken : Strategy → Option Object → Option Object → Side → Option Object
+taken strategy source dest Source = source
+taken strategy source dest Destination = dest
+taken SourceWins source dest Neither = source
+taken DestWins source dest Neither = dest
+taken Refuse source dest Neither = dest
+
+-- what a path has after the merge
+abbrev pub merged_value : Strategy → Option Object → Option Object → Option Object → Option Object
+merged_value strategy base source dest = taken strategy source dest (side_of base source dest)
+
+-- the map with this value at the path, or with nothing there
+abbrev pub with_value : List ℕ → Option Object → Objects → Objects
+with_value path (Some entry) map = insert map path entry
+with_value path None map = remove map path
+
+-- the destination's map with the merged values at these paths
+abbrev pub merged_at : Strategy → Objects → Objects → Objects → List (List ℕ) → Objects
+merged_at strategy base source dest [] = dest
+merged_at strategy base source dest (path ∷ paths) =
+    with_value path (merged_value strategy (get base path) (get source path) (get dest path)) (merged_at strategy base source dest paths)
+
+-- The merged map: at each path the merged value. A path that neither base nor source has stays as it is.
+unfoldable pub merged : Strategy → Objects → Objects → Objects → Objects
+merged strategy base source dest = merged_at strategy base source dest (keys base ++ keys source)
+
+-- a change that leaves this value at its path
+abbrev pub Gives : Change → Option Object → Type 0
+Gives (Put entry) value = value ≡ Some entry
+Gives Delete value = value ≡ None
+
+-- changes at just the paths that base or source has
+abbrev pub ArePathsOf : Objects → Objects → Edits → Type 0
+ArePathsOf base source paths = (path : List ℕ) → contains_key paths path ≡ (contains_key base path || contains_key source path)
+
+-- a path at which the two sides changed the base differently
+abbrev pub IsConflict : Objects → Objects → Objects → List ℕ → Type 0
+IsConflict base source dest path = side_of (get base path) (get source path) (get dest path) ≡ Neither
+
+-- the paths that conflict: all of them, in ascending order, and no others
+pub record AreConflicts (base source dest : Objects) (paths : List (List ℕ)) : Type 0 where
+  pub ascending : Ascending paths
+  pub all : (path : List ℕ) → Contains paths path ↔ IsConflict base source dest path

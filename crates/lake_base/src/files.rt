@@ -1,0 +1,127 @@
+//! Ranges, metaranges and commits as bytes, and the files of a tree: the project's own formats.
+//!
+//! | file | bytes |
+//! |---|---|
+//! | range | `01`, the count of rows in 4 bytes, then each path behind 2 bytes of length, and its entry |
+//! | metarange | `01`, the count of ranges in 4 bytes, then of each range 32 bytes of SHA-256, its count of rows in 4 bytes, and its first and its last path, each behind 2 bytes of length |
+//! | commit | `01`, 32 bytes of the metarange's id, the generation and the date in 8 bytes each, the count of parents in 2 bytes and 32 bytes of each, the committer behind 2 bytes of length, the message behind 4, and the metadata as in an entry |
+//!
+//! Numbers have their high byte first. A file is known by its SHA-256. The metarange of an empty map is
+//! `0100000000`.
+ghost use Rattle.std.specs.Prelude.{◌≡◌, ◌∷◌, ◌++◌, ◌<◌, ◌^◌, length, map, IfOk, OnOk};
+ghost use Rattle.std.specs.List.{flat_map};
+ghost use Rattle.std.specs.Int.{w16, w32, to_be_bytes};
+ghost use Rattle.lake_base.specs.Cutting.{files};
+ghost use Rattle.lake_base.specs.Digest.{sha256};
+ghost use Rattle.lake_base.specs.Spelling.{row_spelling, range_spelling, range_line, commit_spelling};
+
+use crate::commit::CommitRecord;
+use crate::cutting::{Cut, first_range};
+use crate::digest::Digest;
+use crate::entry::Entry;
+use crate::fields::{put_metadata, put_text};
+use crate::key_map::KeyMap;
+use crate::names::Path;
+use crate::outside::NoMemory;
+use crate::spelling::put_entry;
+use std::alloc::Global;
+
+/// The one spelling of a range of these rows. There is at least one row, and fewer than 2^32.
+pub fn range_bytes(alloc: Global, rows: &[(Path, Entry)]) -> Result<Vec<u8>, NoMemory>
+    requires some { 0 < length rows.now }
+    requires few { length rows.now < 2 ^ 32 }
+    ensures { IfOk result (λ bytes. bytes.items ≡ range_spelling rows.now) }
+{
+    let mut out = Vec::new(alloc);
+    out.push(1)?;
+    out.extend_from_slice(&(rows.len() as u32).to_be_bytes())?;
+    for (path, entry) in rows {
+        put_text(&mut out, path.as_slice())?;
+        put_entry(&mut out, entry)?;
+    }
+    Ok(out)
+}
+
+/// Appends what a metarange says of a range of these rows, whose file has this digest. There is at least one
+/// row, and fewer than 2^32.
+pub fn put_range_line(
+    out: &mut Vec<u8>,
+    name: &Digest,
+    rows: &[(Path, Entry)],
+) -> Result<(), NoMemory>
+    requires some { 0 < length rows.now }
+    requires few { length rows.now < 2 ^ 32 }
+    requires named { name.now.0 ≡ sha256 (range_spelling rows.now) }
+    ensures { OnOk result (out.new.items ≡ out.old.items ++ range_line rows.now) }
+{
+    out.extend_from_slice(&name.0)?;
+    out.extend_from_slice(&(rows.len() as u32).to_be_bytes())?;
+    put_text(out, rows[0].0.as_slice())?;
+    put_text(out, rows[rows.len() - 1].0.as_slice())?;
+    Ok(())
+}
+
+/// The one spelling of a commit.
+pub fn commit_bytes(alloc: Global, commit: &CommitRecord) -> Result<Vec<u8>, NoMemory>
+    ensures { IfOk result (λ bytes. bytes.items ≡ commit_spelling commit.now) }
+{
+    let mut out = Vec::new(alloc);
+    out.push(1)?;
+    out.extend_from_slice(&commit.meta_range.0)?;
+    out.extend_from_slice(&commit.generation.to_be_bytes())?;
+    out.extend_from_slice(&commit.date.to_be_bytes())?;
+    put_parents(&mut out, commit.parents.as_slice())?;
+    put_text(&mut out, commit.committer.as_slice())?;
+    let message = commit.message.as_slice();
+    out.extend_from_slice(&(message.len() as u32).to_be_bytes())?;
+    out.extend_from_slice(message)?;
+    put_metadata(&mut out, &commit.metadata)?;
+    Ok(out)
+}
+
+/// The files of the tree of a map: the metarange, and then the ranges in order. A map of 2^32 paths or more,
+/// whose counts a file may not hold, is answered as want of memory.
+pub fn files(alloc: Global, objects: &KeyMap, cut: &Cut) -> Result<Vec<Vec<u8>>, NoMemory>
+    requires { 0 < cut.now.modulus }
+    ensures { IfOk result (λ all. map (λ file. file.items) all.items ≡ files cut.now objects.now) }
+{
+    let mut rest = objects.as_slice();
+    if rest.len() >= 4294967296 {
+        return Err(NoMemory);
+    }
+    let mut ranges = Vec::new(alloc);
+    let mut lines = Vec::new(alloc);
+    while !rest.is_empty() {
+        let (range, left) = first_range(rest, cut);
+        let bytes = range_bytes(alloc, range)?;
+        put_range_line(&mut lines, &Digest::of(bytes.as_slice()), range)?;
+        ranges.push(bytes)?;
+        rest = left;
+    }
+    let metarange = metarange_of(alloc, ranges.len() as u32, lines.as_slice())?;
+    ranges.insert(0, metarange)?;
+    Ok(ranges)
+}
+
+// A metarange of so many ranges, of which these bytes say what is said.
+fn metarange_of(alloc: Global, count: u32, lines: &[u8]) -> Result<Vec<u8>, NoMemory>
+    ensures { IfOk result (λ bytes. bytes.items ≡ 1 ∷ (to_be_bytes w32 count ++ lines.now)) }
+{
+    let mut out = Vec::new(alloc);
+    out.push(1)?;
+    out.extend_from_slice(&count.to_be_bytes())?;
+    out.extend_from_slice(lines)?;
+    Ok(out)
+}
+
+// Appends the ids of parents behind two bytes of count.
+fn put_parents(out: &mut Vec<u8>, parents: &[Digest]) -> Result<(), NoMemory>
+    requires { length parents.now < 2 ^ 16 }
+    ensures { OnOk result (out.new.items ≡ out.old.items ++ (to_be_bytes w16 (length parents.now) ++ flat_map (λ parent. parent.0) parents.now)) }
+{
+    out.extend_from_slice(&(parents.len() as u16).to_be_bytes())?;
+    for parent in parents {
+        out.extend_from_slice(&parent.0)?;
+    }
+    Ok(())
+}
