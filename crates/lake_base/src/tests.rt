@@ -1,3 +1,9 @@
+mod copies;
+mod cuts;
+mod decisions;
+mod graphs;
+mod merges;
+
 use super::*;
 use std::alloc::Global;
 use std::test::Fail;
@@ -56,6 +62,8 @@ fn names_are_refused_to_the_place(rt: HostRuntime) {
     assert!(rt; matches!(RepoName::read(alloc, b"ab"), Err(NameFault::TooShort)));
     assert!(rt; matches!(RepoName::read(alloc, b"a_b"), Err(NameFault::BadByte(1))));
     assert!(rt; RepoName::read(alloc, b"demo").is_ok());
+    assert!(rt; RepoName::read(alloc, &[b'a'; 63]).is_ok());
+    assert!(rt; matches!(RepoName::read(alloc, &[b'a'; 64]), Err(NameFault::TooLong)));
     assert!(rt; matches!(RefName::read(alloc, b"-x"), Err(NameFault::BadByte(0))));
 }
 
@@ -144,6 +152,22 @@ fn set(alloc: Global, pairs: &mut Pairs, key: &[u8]) -> Result<bool, Fail> {
     let key = text(alloc, key)?;
     let value = text(alloc, b"v")?;
     Ok(pairs.set(key, value) == Ok(()))
+}
+
+#[test]
+fn a_pair_outside_its_limits_is_refused(rt: HostRuntime) -> Result<(), Fail> {
+    let alloc = rt.alloc();
+    let mut pairs = Pairs::new(alloc);
+    let (none, long) = (text(alloc, b"")?, text(alloc, &[b'k'; 129])?);
+    assert_eq!(rt; pairs.set(none, text(alloc, b"v")?), Err(PairsFault::Key));
+    assert_eq!(rt; pairs.set(long, text(alloc, b"v")?), Err(PairsFault::Key));
+    let value = text(alloc, &[b'v'; 1025])?;
+    assert_eq!(rt;
+        pairs.set(text(alloc, b"k")?, value),
+        Err(PairsFault::Value)
+    );
+    assert_eq!(rt; pairs.as_slice().len(), 0);
+    Ok(())
 }
 
 #[test]

@@ -1,0 +1,62 @@
+// The three-way merge at one path, with every way in which the three can differ.
+use super::*;
+use crate::merging::{conflicts, merged};
+
+// A map with an entry of this size at `p`; nothing where it is 0.
+fn map_of(alloc: Global, size: u8) -> Result<KeyMap, Fail> {
+    let mut changes = Changes::new(alloc);
+    if size > 0 {
+        put(alloc, &mut changes, b"p", size)?;
+    }
+    Ok(KeyMap::new(alloc).apply(alloc, &changes)?)
+}
+
+// The sizes of base, source and destination.
+type Three = (u8, u8, u8);
+
+fn merged_size(alloc: Global, three: Three, strategy: Strategy) -> Result<u64, Fail> {
+    let (base, source) = (map_of(alloc, three.0)?, map_of(alloc, three.1)?);
+    let dest = map_of(alloc, three.2)?;
+    let map = merged(alloc, &base, &source, &dest, strategy)?;
+    size_at(alloc, &map, b"p")
+}
+
+fn conflict_count(alloc: Global, three: Three) -> Result<usize, Fail> {
+    let (base, source) = (map_of(alloc, three.0)?, map_of(alloc, three.1)?);
+    let dest = map_of(alloc, three.2)?;
+    Ok(conflicts(alloc, &base, &source, &dest)?.as_slice().len())
+}
+
+#[test]
+fn a_change_of_one_side_is_taken(rt: HostRuntime) -> Result<(), Fail> {
+    let alloc = rt.alloc();
+    for (three, size) in [
+        ((1, 1, 2), 2),
+        ((1, 2, 1), 2),
+        ((1, 0, 1), 0),
+        ((1, 2, 2), 2),
+        ((0, 1, 1), 1),
+    ] {
+        assert_eq!(rt; conflict_count(alloc, three)?, 0);
+        assert_eq!(rt; merged_size(alloc, three, Strategy::Refuse)?, size);
+        assert_eq!(rt; merged_size(alloc, three, Strategy::SourceWins)?, size);
+        assert_eq!(rt; merged_size(alloc, three, Strategy::DestWins)?, size);
+    }
+    Ok(())
+}
+
+#[test]
+fn the_strategy_decides_a_conflict(rt: HostRuntime) -> Result<(), Fail> {
+    let alloc = rt.alloc();
+    for (three, source, dest) in [
+        ((1, 2, 3), 2, 3),
+        ((1, 0, 2), 0, 2),
+        ((0, 1, 2), 1, 2),
+        ((1, 2, 0), 2, 0),
+    ] {
+        assert_eq!(rt; conflict_count(alloc, three)?, 1);
+        assert_eq!(rt; merged_size(alloc, three, Strategy::SourceWins)?, source);
+        assert_eq!(rt; merged_size(alloc, three, Strategy::DestWins)?, dest);
+    }
+    Ok(())
+}
