@@ -9,3 +9,5 @@ pub mod Moments
 pub mod Paging
 pub mod PairLists
 pub mod PairsLoop
+pub mod Kept
+pub mod Walks

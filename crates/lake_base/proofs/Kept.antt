@@ -1,0 +1,46 @@
+-- Heads that are found, and the days of the first rule of a name.
+use Rattle.std.proofs.Common.{◌≡◌, ℕ, ◌<◌, ◌≤◌, arith, Bool, true, false, List, ◌∷◌, [], length, get_or, sym, ap, subst, refl, ◌∙◌}
+use Rattle.std.specs.List.{Contains, AllWithin}
+use Rattle.std.specs.Str.{bytes_eq}
+use Rattle.std.proofs.lemmas.Slice.Eq.{bytes_eq-Decides}
+use Rattle.std.proofs.lemmas.List.Recursion.{found_at, found_nowhere}
+use Rattle.lake_base.specs.Keeping.{days_in, IsHead}
+use Rattle.lake_base.specs.declared.digest.Digest.{Digest}
+use Rattle.lake_base.specs.declared.settings.BranchDays.{BranchDays}
+
+zero_least : (k : ℕ) → 0 ≤ k
+zero_least k = omega arith
+
+-- ids are equal where their bytes are
+pub same_id : (a b : Digest) → a.0 ≡ b.0 → a ≡ b
+same_id a b same = ap (λ (bytes : List ℕ). let d : Digest = record { 0 = bytes } in d) same
+
+-- what `==` on the bytes tells
+pub told_same : (xs ys : List ℕ) (r : Bool) → r ≡ bytes_eq xs ys → r ≡ true → xs ≡ ys
+told_same xs ys r says holds = (bytes_eq-Decides xs ys).0 (sym says ∙ holds)
+
+pub told_apart : (xs ys : List ℕ) (r : Bool) → r ≡ bytes_eq xs ys → r ≡ false → xs ≡ ys → ⊥
+told_apart xs ys r says fails same = let e : r ≡ true = says ∙ (bytes_eq-Decides xs ys).1 same in cc
+
+-- an item that was read at a place stands in the list
+pub stands_in : {X : Type 0} (xs : List X) (i : ℕ) (x : X) → i < length xs → x ≡ get_or xs i x → Contains xs x
+stands_in xs i x within is = (i, within, sym is)
+
+-- a branch whose head is the commit
+pub head_found : (heads : List (List ℕ × Digest)) (id : Digest) (i : ℕ) (item : List ℕ × Digest) → i < length heads → item ≡ get_or heads i item → item.1 ≡ id → IsHead heads id
+head_found heads id i item within is same =
+    (item.0, subst (λ (x : List ℕ × Digest). Contains heads x) (ap (λ (d : Digest). (item.0, d)) same) (stands_in heads i item within is))
+
+-- the days of the first rule of the name, and of none
+pub days_found : (otherwise : ℕ) (rules : List BranchDays) (branch : List ℕ) (i : ℕ) (rule : BranchDays) → i < length rules → rule ≡ get_or rules i rule
+    → AllWithin (λ other. bytes_eq other.branch branch ≡ false) rules 0 i → bytes_eq rule.branch branch ≡ true → rule.days ≡ days_in otherwise rules branch
+days_found otherwise rules branch i rule within is before here =
+    ap (λ (r : BranchDays). r.days) is ∙ sym (found_at (λ rs. days_in otherwise rs branch) (λ r. bytes_eq r.branch branch) (λ r. r.days) otherwise refl (λ _ _. refl) rules i rule within
+        (λ k below. before k rule (zero_least k) below) (subst (λ (r : BranchDays). bytes_eq r.branch branch ≡ true) is here))
+
+pub days_otherwise : (otherwise : ℕ) (rules : List BranchDays) (branch : List ℕ)
+    → AllWithin (λ other. bytes_eq other.branch branch ≡ false) rules 0 (length rules) → otherwise ≡ days_in otherwise rules branch
+days_otherwise otherwise [] branch none = refl
+days_otherwise otherwise (rule ∷ rules) branch none =
+    sym (found_nowhere (λ rs. days_in otherwise rs branch) (λ r. bytes_eq r.branch branch) (λ r. r.days) otherwise refl (λ _ _. refl) (rule ∷ rules) rule
+        (λ k below. none k rule (zero_least k) below))
