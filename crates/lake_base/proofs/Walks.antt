@@ -1,9 +1,11 @@
 -- The walk of first parents: its next step, its end, and how long it can be.
-use Rattle.std.proofs.Common.{◌≡◌, ℕ, zero, suc, ◌+◌, ◌<◌, ◌≤◌, max, arith, List, [], ◌∷◌, Option, Some, None, sym, ap, subst, refl, ◌∙◌}
+use Rattle.std.proofs.Common.{◌≡◌, ℕ, zero, suc, ◌+◌, ◌<◌, ◌≤◌, max, arith, List, [], ◌∷◌, Option, Some, None, sym, ap, subst, refl, ◌∙◌, inl, inr, add-one, below_more}
+use Rattle.std.proofs.lemmas.Bool.{cases_lt}
 use Rattle.std.specs.List.{slice_get, Contains}
 use Rattle.std.specs.Option.{option_and_then, IsSome}
-use Rattle.lake_base.specs.Ancestry.{Graph, commit_of, parents_in, parents, generation, due_after, IsDue, IsGraph, first_parent, back, IsOnWalk}
+use Rattle.lake_base.specs.Ancestry.{Graph, commit_of, parents_in, parents, generation, date, due_after, IsDue, IsGraph, first_parent, back, IsOnWalk}
 use Rattle.lake_base.specs.Commit.{Commit}
+use Rattle.lake_base.specs.Keeping.{IsFollower}
 use Rattle.lake_base.specs.declared.digest.Digest.{Digest}
 
 -- a step more, where the first is known
@@ -70,3 +72,86 @@ back_within g zero id at graph stands =
     let same : id ≡ at = cc in
     subst (λ (other : Digest). 0 + generation g other ≤ generation g id) same (omega arith)
 back_within g (suc n) id at graph stands = step_within g n id at graph (λ other. back_within g n other at graph) (first_parent g id) refl stands
+
+-- the step that a loop takes
+pub back_next : (g : Graph) (n : ℕ) (head at parent : Digest) → back g n head ≡ Some at → Some parent ≡ first_parent g at → back g (n + 1) head ≡ Some parent
+back_next g n head at parent stands first = rw add-one (back_more g n head at stands ∙ sym first)
+
+-- the walk ends where there is no first parent
+pub back_ends : (g : Graph) (n : ℕ) (head at : Digest) → back g n head ≡ Some at → None ≡ first_parent g at → (steps : ℕ) → n < steps → back g steps head ≡ None
+back_ends g n head at stands ended steps past = back_past g (suc n) steps head (back_more g n head at stands ∙ sym ended) past
+
+-- what holds neither before a number, nor at it, nor past it, holds at none
+pub nowhere : (P : ℕ → Type 0) (n : ℕ) → ((k : ℕ) → k < n → P k → ⊥) → (P n → ⊥) → ((k : ℕ) → n < k → P k → ⊥) → (k : ℕ) → P k → ⊥
+nowhere P n before at past k here =
+    elim (cases_lt k n) [
+        inl less ↦ before k less here
+        | inr least ↦ elim (cases_lt n k) [
+            inl more ↦ past k more here
+            | inr most ↦ let same : k ≡ n = omega arith in at (subst P same here)
+        ]
+    ]
+
+-- it stands so many steps back
+abbrev pub StandsAt : Graph → Digest → Digest → ℕ → Type 0
+StandsAt g head id steps = back g steps head ≡ Some id
+
+stands_apart : (g : Graph) (n : ℕ) (head at id : Digest) → StandsAt g head at n → (at ≡ id → ⊥) → StandsAt g head id n → ⊥
+stands_apart g n head at id stands apart here = let same : at ≡ id = cc in apart same
+
+-- it stands at no fewer steps, nor at so many
+pub stands_more : (g : Graph) (n : ℕ) (head at id : Digest) → StandsAt g head at n → ((k : ℕ) → k < n → StandsAt g head id k → ⊥) → (at ≡ id → ⊥)
+    → (k : ℕ) → k < n + 1 → StandsAt g head id k → ⊥
+stands_more g n head at id stands before apart = below_more (λ k. StandsAt g head id k → ⊥) n before (stands_apart g n head at id stands apart)
+
+-- where the walk ends, it isn't on it
+pub off_ended_walk : (g : Graph) (n : ℕ) (head at id : Digest) → StandsAt g head at n → ((k : ℕ) → k < n → StandsAt g head id k → ⊥) → (at ≡ id → ⊥)
+    → None ≡ first_parent g at → IsOnWalk g head id → ⊥
+off_ended_walk g n head at id stands before apart ended on =
+    nowhere (StandsAt g head id) n before (stands_apart g n head at id stands apart)
+    (λ k past here. let none : back g k head ≡ None = back_ends g n head at stands ended k past in cc)
+    on.0 on.1
+
+-- after as many steps as the head's generation, it isn't on the walk
+pub off_whole_walk : (g : Graph) (n : ℕ) (head at id : Digest) → IsGraph g → generation g head ≤ n → StandsAt g head at n
+    → ((k : ℕ) → k < n → StandsAt g head id k → ⊥) → (at ≡ id → ⊥) → IsOnWalk g head id → ⊥
+off_whole_walk g n head at id graph whole stands before apart on =
+    nowhere (StandsAt g head id) n before (stands_apart g n head at id stands apart)
+    (λ k past here. let within = back_within g k head id graph here in absurd (omega (arith, within)))
+    on.0 on.1
+
+-- so many steps back stands a commit that it follows, dated at or after the limit
+abbrev pub FollowsAt : Graph → Digest → ℕ → Digest → ℕ → Type 0
+FollowsAt g head limit id steps = (later : Digest) × (back g steps head ≡ Some later) × (first_parent g later ≡ Some id) × (limit ≤ date g later)
+
+pub follower_at : (g : Graph) (head : Digest) (limit : ℕ) (id : Digest) (f : IsFollower g head limit id) → FollowsAt g head limit id f.steps
+follower_at g head limit id f = (f.later, f.stands, f.follows, f.dated)
+
+-- of a commit that stands there
+pub follows_here : (g : Graph) (n : ℕ) (head at : Digest) (limit : ℕ) (id : Digest) → StandsAt g head at n → FollowsAt g head limit id n
+    → (first_parent g at ≡ Some id) × (limit ≤ date g at)
+follows_here g n head at limit id stands follows =
+    let same : follows.0 ≡ at = let e : Some follows.0 ≡ Some at = sym follows.1 ∙ stands in cc in
+    subst (λ (later : Digest). (first_parent g later ≡ Some id) × (limit ≤ date g later)) same (follows.2, follows.3)
+
+pub no_follower_ended : (g : Graph) (n : ℕ) (head at : Digest) (limit : ℕ) (id : Digest) → StandsAt g head at n → ((k : ℕ) → k < n → FollowsAt g head limit id k → ⊥)
+    → None ≡ first_parent g at → IsFollower g head limit id → ⊥
+no_follower_ended g n head at limit id stands before ended f =
+    nowhere (FollowsAt g head limit id) n before
+    (λ here. let none : None ≡ Some id = ended ∙ (follows_here g n head at limit id stands here).0 in cc)
+    (λ k past here. let none : None ≡ Some here.0 = sym (back_ends g n head at stands ended k past) ∙ here.1 in cc)
+    f.steps (follower_at g head limit id f)
+
+follows_below : (g : Graph) (n : ℕ) (head : Digest) (limit : ℕ) (id : Digest) → IsGraph g → FollowsAt g head limit id n → n < generation g head
+follows_below g n head limit id graph follows =
+    let within = back_within g n head follows.0 graph follows.1 in
+    let below = parent_below g follows.0 id graph follows.2 in
+    omega (arith, within, below)
+
+pub no_follower_whole : (g : Graph) (n : ℕ) (head : Digest) (limit : ℕ) (id : Digest) → IsGraph g → generation g head ≤ n → ((k : ℕ) → k < n → FollowsAt g head limit id k → ⊥)
+    → IsFollower g head limit id → ⊥
+no_follower_whole g n head limit id graph whole before f =
+    let at = follower_at g head limit id f in
+    let below = follows_below g f.steps head limit id graph at in
+    let least : f.steps < n = omega (arith, below, whole) in
+    before f.steps least at
