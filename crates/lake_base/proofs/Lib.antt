@@ -3,9 +3,12 @@ pub mod Ascending
 pub mod EntryLaws
 pub mod FieldLaws
 pub mod Fronts
+pub mod Graphs
 pub mod Hexes
+pub mod Kept
 pub mod Listed
 pub mod Moments
 pub mod Paging
 pub mod PairLists
 pub mod PairsLoop
+pub mod Walks

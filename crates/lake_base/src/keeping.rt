@@ -63,9 +63,12 @@ pub fn is_kept(
 fn is_head(heads: &[(RefName, CommitId)], id: &CommitId) -> bool
     ensures { IsTrue result ↔ IsHead heads.now id.now }
 {
-    heads
-        .iter()
-        .any(|(_, head)| head.0.as_slice() == id.0.as_slice())
+    for (_, head) in heads {
+        if head.0.as_slice() == id.0.as_slice() {
+            return true;
+        }
+    }
+    false
 }
 
 // Whether it is one of these.
