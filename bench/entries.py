@@ -247,7 +247,10 @@ def scratch(folder):
 
 def built(folder):
     """The program's path, proved and built."""
-    subprocess.run(['rt', 'run', '--', 'read'], cwd=os.path.join(folder, 'crates/entries'), stdin=subprocess.DEVNULL, check=True)
+    made = subprocess.run(['rt', 'run', '--', 'read'], cwd=os.path.join(folder, 'crates/entries'), stdin=subprocess.DEVNULL,
+                          stdout=subprocess.PIPE, stderr=subprocess.STDOUT)
+    if made.returncode != 0:
+        sys.exit(made.stdout.decode())
     return os.path.join(folder, 'crates/entries/out/entries')
 
 
