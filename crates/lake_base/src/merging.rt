@@ -135,13 +135,19 @@ fn same_pairs(pairs: &[(Text, Text)], others: &[(Text, Text)]) -> bool
     if pairs.len() != others.len() {
         return false;
     }
-    for (at, (key, value)) in pairs.iter().enumerate() {
-        let other = &others[at];
-        if key.as_slice() != other.0.as_slice() || value.as_slice() != other.1.as_slice() {
+    for (at, pair) in pairs.iter().enumerate() {
+        if !same_pair(pair, &others[at]) {
             return false;
         }
     }
     true
+}
+
+// Whether a key and its value are equal.
+fn same_pair(pair: &(Text, Text), other: &(Text, Text)) -> bool
+    ensures { result ≡ same_pair pair.now other.now }
+{
+    pair.0.as_slice() == other.0.as_slice() && pair.1.as_slice() == other.1.as_slice()
 }
 
 // Whether two values of a path are equal.
