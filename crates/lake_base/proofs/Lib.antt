@@ -5,6 +5,7 @@ pub mod FieldLaws
 pub mod Fronts
 pub mod Hexes
 pub mod Listed
+pub mod Merges
 pub mod Moments
 pub mod Paging
 pub mod PairLists

@@ -1,0 +1,79 @@
+-- What a merged map has at each path, the paths of two maps, and the paths that conflict.
+use Rattle.std.proofs.Common.{◌≡◌, ℕ, ◌||◌, Bool, true, false, cond, List, [], ◌∷◌, ◌++◌, Some, None, Option, is_some, map, refl, sym, ap, subst, ◌∙◌}
+use Rattle.std.specs.List.{list_any}
+use Rattle.std.specs.Ordering.{is_eq, eq_by_cmp}
+use Rattle.std.specs.declared.cmp.Ordering.{Ordering}
+use Rattle.std.specs.declared.cmp.Ordering.TheVariants.{Less, Equal, Greater}
+use Rattle.std.proofs.lemmas.Cmp.{nat_list_cmp_total}
+use Rattle.std.proofs.lemmas.List.Folds.{list_any-append}
+use Rattle.std.specs.FinMap.{get, get-insert, get-remove, keys, contains_key, contains_key-keys}
+use Rattle.lake_base.specs.Entry.{Object}
+use Rattle.lake_base.specs.Maps.{byte_order}
+use Rattle.lake_base.specs.KeyMap.{Objects}
+use Rattle.lake_base.specs.Merging.{merged, merged_at, merged_value, with_value}
+use Rattle.lake_base.specs.declared.commit.Strategy.{Strategy}
+use Rattle.lake_base.proofs.Ascending.{same_key}
+
+-- whether paths are one
+abbrev pub ties : List ℕ → List ℕ → Bool
+ties = eq_by_cmp byte_order
+
+tied : (o : Ordering) → is_eq o ≡ true → o ≡ Equal
+tied Less e = cc
+tied Equal e = refl
+tied Greater e = cc
+
+-- paths that tie are one
+pub same_path : (q p : List ℕ) → ties q p ≡ true → q ≡ p
+same_path q p e = same_key q p (tied _ e)
+
+-- ---- the merged map
+
+get_with_value : (p : List ℕ) (value : Option Object) (map : Objects) (q : List ℕ) → get (with_value p value map) q ≡ cond (ties q p) value (get map q)
+get_with_value p (Some entry) map q = get-insert nat_list_cmp_total map p entry q
+get_with_value p None map q = get-remove nat_list_cmp_total map p q
+
+-- a value that depends on the path, put at one of the paths that tie
+pub at_one : {X : Type 0} (value : List ℕ → X) (q p : List ℕ) (among : Bool) (other : X) → (b : Bool) → ties q p ≡ b
+    → cond b (value p) (cond among (value q) other) ≡ cond (b || among) (value q) other
+at_one value q p among other true e = ap value (sym (same_path q p e))
+at_one value q p among other false e = refl
+
+module _ (strategy : Strategy) (base source dest : Objects) where
+  -- the merged value at a path
+  abbrev pub value_at : List ℕ → Option Object
+  value_at path = merged_value strategy (get base path) (get source path) (get dest path)
+
+  get_merged_at : (paths : List (List ℕ)) (q : List ℕ) → get (merged_at strategy base source dest paths) q ≡ cond (list_any (ties q) paths) (value_at q) (get dest q)
+  get_merged_at [] q = refl
+  get_merged_at (p ∷ paths) q =
+      get_with_value p (value_at p) (merged_at strategy base source dest paths) q
+      ∙ ap (cond (ties q p) (value_at p)) (get_merged_at paths q)
+      ∙ at_one value_at q p (list_any (ties q) paths) (get dest q) (ties q p) refl
+
+  -- whether a path is one of the base's or the source's
+  abbrev pub is_path : List ℕ → Bool
+  is_path q = contains_key base q || contains_key source q
+
+  paths_any : (q : List ℕ) → list_any (ties q) (keys base ++ keys source) ≡ is_path q
+  paths_any q =
+      list_any-append (ties q) (keys base) (keys source)
+      ∙ ap (λ b. b || list_any (ties q) (keys source)) (sym (contains_key-keys base q))
+      ∙ ap (λ b. contains_key base q || b) (sym (contains_key-keys source q))
+
+  -- the merged map by base's and source's paths
+  pub get_merged_by : (q : List ℕ) → get (merged strategy base source dest) q ≡ cond (is_path q) (value_at q) (get dest q)
+  unfolding merged
+  get_merged_by q = get_merged_at (keys base ++ keys source) q ∙ ap (λ b. cond b (value_at q) (get dest q)) (paths_any q)
+
+-- where neither base nor source has anything, the destination's value is the merged one
+nothing_changed : (strategy : Strategy) (base source dest : Option Object)
+    → cond (is_some base || is_some source) (merged_value strategy base source dest) dest ≡ merged_value strategy base source dest
+nothing_changed strategy None None dest = refl
+nothing_changed strategy (Some x) source dest = refl
+nothing_changed strategy None (Some y) dest = refl
+
+-- the merged map has the merged value at each path
+pub get_merged : (strategy : Strategy) (base source dest : Objects) (q : List ℕ)
+    → get (merged strategy base source dest) q ≡ merged_value strategy (get base q) (get source q) (get dest q)
+get_merged strategy base source dest q = get_merged_by strategy base source dest q ∙ nothing_changed strategy (get base q) (get source q) (get dest q)
