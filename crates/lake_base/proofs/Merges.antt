@@ -1,18 +1,38 @@
 -- What a merged map has at each path, the paths of two maps, and the paths that conflict.
-use Rattle.std.proofs.Common.{◌≡◌, ℕ, ◌||◌, Bool, true, false, cond, List, [], ◌∷◌, ◌++◌, Some, None, Option, is_some, map, refl, sym, ap, subst, ◌∙◌}
+use Rattle.std.proofs.Common.{◌≡◌, ℕ, ◌+◌, ◌<◌, ◌≤◌, ◌||◌, Bool, true, false, cond, List, [], ◌∷◌, ◌++◌, Some, None, Option, is_some, map, length, take, get_or, refl, sym, ap, subst, ◌∙◌}
 use Rattle.std.specs.List.{list_any}
 use Rattle.std.specs.Ordering.{is_eq, eq_by_cmp}
 use Rattle.std.specs.declared.cmp.Ordering.{Ordering}
 use Rattle.std.specs.declared.cmp.Ordering.TheVariants.{Less, Equal, Greater}
 use Rattle.std.proofs.lemmas.Cmp.{nat_list_cmp_total}
-use Rattle.std.proofs.lemmas.List.Folds.{list_any-append}
-use Rattle.std.specs.FinMap.{get, get-insert, get-remove, keys, contains_key, contains_key-keys}
+use Rattle.std.proofs.lemmas.List.Folds.{list_any-append, list_any_more}
+use Rattle.std.proofs.lemmas.List.{take_all}
+use Rattle.std.specs.FinMap.{find, get, entries, insert, get-entries, get-insert, get-remove, keys, contains_key, contains_key-keys}
 use Rattle.lake_base.specs.Entry.{Object}
-use Rattle.lake_base.specs.Maps.{byte_order}
+use Rattle.lake_base.specs.Maps.{byte_order, ByteMap}
 use Rattle.lake_base.specs.KeyMap.{Objects}
 use Rattle.lake_base.specs.Merging.{merged, merged_at, merged_value, with_value}
 use Rattle.lake_base.specs.declared.commit.Strategy.{Strategy}
 use Rattle.lake_base.proofs.Ascending.{same_key}
+
+or_swapped : (a b : Bool) → (a || b) ≡ (b || a)
+or_swapped true true = refl
+or_swapped true false = refl
+or_swapped false true = refl
+or_swapped false false = refl
+
+pub or_nothing : (b : Bool) → b ≡ (b || false)
+or_nothing true = refl
+or_nothing false = refl
+
+or_between : (a b c : Bool) → (a || (b || c)) ≡ (b || (a || c))
+or_between true true c = refl
+or_between true false c = refl
+or_between false b c = refl
+
+some_or : {X : Type 0} (b : Bool) (x : X) (other : Option X) → is_some (cond b (Some x) other) ≡ (b || is_some other)
+some_or true x other = refl
+some_or false x other = refl
 
 -- whether paths are one
 abbrev pub ties : List ℕ → List ℕ → Bool
@@ -77,3 +97,53 @@ nothing_changed strategy None (Some y) dest = refl
 pub get_merged : (strategy : Strategy) (base source dest : Objects) (q : List ℕ)
     → get (merged strategy base source dest) q ≡ merged_value strategy (get base q) (get source q) (get dest q)
 get_merged strategy base source dest q = get_merged_by strategy base source dest q ∙ nothing_changed strategy (get base q) (get source q) (get dest q)
+
+-- ---- paths one by one
+
+module _ {X : Type 0} where
+  -- whether a path is that of one of the entries
+  abbrev pub among : List (List ℕ × X) → List ℕ → Bool
+  among items q = list_any (λ item. ties q item.0) items
+
+  found_among : (items : List (List ℕ × X)) (q : List ℕ) → is_some (find byte_order q items) ≡ among items q
+  found_among [] q = refl
+  found_among (e ∷ items) q = elim (ties q e.0) as (λ b. is_some (cond b (Some e.1) (find byte_order q items)) ≡ (b || among items q)) [
+    | true ↦ refl
+    | false ↦ found_among items q
+  ]
+
+  -- a map's paths are those of its entries
+  pub contains_among : (m : ByteMap X) (items : List (List ℕ × X)) → items ≡ entries m → (q : List ℕ) → contains_key m q ≡ among items q
+  contains_among m items is q = ap is_some (get-entries m q) ∙ found_among (entries m) q ∙ ap (λ es. among es q) (sym is)
+
+  contains_insert : (m : ByteMap X) (p : List ℕ) (x : X) (q : List ℕ) → contains_key (insert m p x) q ≡ (ties q p || contains_key m q)
+  contains_insert m p x q = ap is_some (get-insert nat_list_cmp_total m p x q) ∙ some_or (ties q p) x (get m q)
+
+  among_next : (items : List (List ℕ × X)) (i : ℕ) (item : List ℕ × X) → i < length items → item ≡ get_or items i item
+      → (q : List ℕ) → among (take (i + 1) items) q ≡ (ties q item.0 || among (take i items) q)
+  among_next items i item lt is q =
+      list_any_more (λ e. ties q e.0) items i item lt
+      ∙ ap (λ (e : List ℕ × X). among (take i items) q || ties q e.0) (sym is)
+      ∙ or_swapped (among (take i items) q) (ties q item.0)
+
+  -- where all are passed
+  pub among_all : (items : List (List ℕ × X)) (i : ℕ) → length items ≤ i → (q : List ℕ) → among (take i items) q ≡ among items q
+  among_all items i past q = ap (λ es. among es q) (take_all i items past)
+
+-- one more entry's path in a map
+pub paths_next : {X Y : Type 0} (old m new : ByteMap Y) (p : List ℕ) (y : Y) (items : List (List ℕ × X)) (i : ℕ) (item : List ℕ × X) → i < length items → item ≡ get_or items i item
+    → p ≡ item.0 → new ≡ insert m p y
+    → (q : List ℕ) → contains_key m q ≡ (contains_key old q || among (take i items) q) → contains_key new q ≡ (contains_key old q || among (take (i + 1) items) q)
+paths_next old m new p y items i item lt is same puts q so_far =
+    ap (λ n. contains_key n q) puts
+    ∙ contains_insert m p y q
+    ∙ ap (λ b. ties q p || b) so_far
+    ∙ or_between (ties q p) (contains_key old q) (among (take i items) q)
+    ∙ ap (λ k. contains_key old q || (ties q k || among (take i items) q)) same
+    ∙ ap (λ b. contains_key old q || b) (sym (among_next items i item lt is q))
+
+-- all paths of a map's entries are in
+pub paths_all : {X Y : Type 0} (old new : ByteMap Y) (m : ByteMap X) (items : List (List ℕ × X)) (i : ℕ) → length items ≤ i → items ≡ entries m
+    → (q : List ℕ) → contains_key new q ≡ (contains_key old q || among (take i items) q) → contains_key new q ≡ (contains_key old q || contains_key m q)
+paths_all old new m items i past is q so_far =
+    so_far ∙ ap (λ b. contains_key old q || b) (among_all items i past q ∙ sym (contains_among m items is q))
