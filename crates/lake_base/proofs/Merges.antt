@@ -7,13 +7,16 @@ use Rattle.std.specs.declared.cmp.Ordering.TheVariants.{Less, Equal, Greater}
 use Rattle.std.proofs.lemmas.Cmp.{nat_list_cmp_total}
 use Rattle.std.proofs.lemmas.List.Folds.{list_any-append, list_any_more}
 use Rattle.std.proofs.lemmas.List.{take_all}
-use Rattle.std.specs.FinMap.{find, get, entries, insert, get-entries, get-insert, get-remove, keys, contains_key, contains_key-keys}
+use Rattle.std.specs.FinMap.{find, get, entries, insert, empty, get-empty, get-entries, get-insert, get-remove, keys, contains_key, contains_key-keys}
 use Rattle.lake_base.specs.Entry.{Object}
 use Rattle.lake_base.specs.Maps.{byte_order, ByteMap}
-use Rattle.lake_base.specs.KeyMap.{Objects}
-use Rattle.lake_base.specs.Merging.{merged, merged_at, merged_value, with_value}
+use Rattle.lake_base.specs.KeyMap.{Objects, Edits, apply, said}
+use Rattle.lake_base.specs.Merging.{merged, merged_at, merged_value, with_value, Gives, ArePathsOf, HasPathsToo}
+use Rattle.lake_base.specs.declared.entry.Change.{Change}
+use Rattle.lake_base.specs.declared.entry.Change.TheVariants.{Put, Delete}
 use Rattle.lake_base.specs.declared.commit.Strategy.{Strategy}
 use Rattle.lake_base.proofs.Ascending.{same_key}
+use Rattle.lake_base.proofs.Applied.{same, get_apply}
 
 or_swapped : (a b : Bool) → (a || b) ≡ (b || a)
 or_swapped true true = refl
@@ -147,3 +150,46 @@ pub paths_all : {X Y : Type 0} (old new : ByteMap Y) (m : ByteMap X) (items : Li
     → (q : List ℕ) → contains_key new q ≡ (contains_key old q || among (take i items) q) → contains_key new q ≡ (contains_key old q || contains_key m q)
 paths_all old new m items i past is q so_far =
     so_far ∙ ap (λ b. contains_key old q || b) (among_all items i past q ∙ sym (contains_among m items is q))
+
+-- the paths of two maps, put into nothing one after the other
+pub paths_both : (base source : Objects) (first second : Edits) → HasPathsToo empty base first → HasPathsToo first source second → ArePathsOf base source second
+paths_both base source first second one two path =
+    two path
+    ∙ ap (λ b. b || contains_key source path) (one path ∙ ap (λ v. is_some v || contains_key base path) (get-empty byte_order path))
+
+-- ---- the loop of a merge
+
+pub nothing_said : (changes : Edits) (dest : Objects) → changes ≡ empty → (q : List ℕ) → said (get changes q) (get dest q) ≡ get dest q
+nothing_said changes dest e q = ap (λ m. said (get m q) (get dest q)) e ∙ ap (λ c. said c (get dest q)) (get-empty byte_order q)
+
+said_given : (b : Bool) (c : Change) (value : Option Object) (old : Option Change) (had : Option Object) → Gives c value → said (cond b (Some c) old) had ≡ cond b value (said old had)
+said_given true (Put entry) value old had gives = sym gives
+said_given true Delete value old had gives = sym gives
+said_given false c value old had gives = refl
+
+module _ (strategy : Strategy) (base source dest : Objects) {X : Type 0} where
+  -- what the changes say at a path is the merged value where the path is one of those passed, and else what was there
+  abbrev pub Merges : Edits → List (List ℕ × X) → Type 0
+  Merges changes items = (q : List ℕ) → said (get changes q) (get dest q) ≡ cond (among items q) (value_at strategy base source dest q) (get dest q)
+
+  pub merges_next : (changes new : Edits) (p : List ℕ) (c : Change) (items : List (List ℕ × X)) (i : ℕ) (item : List ℕ × X) → i < length items → item ≡ get_or items i item
+      → p ≡ item.0 → new ≡ insert changes p c → Gives c (value_at strategy base source dest item.0) → Merges changes (take i items) → Merges new (take (i + 1) items)
+  merges_next changes new p c items i item lt is same puts gives so_far q =
+      let value = value_at strategy base source dest in
+      let had = get dest q in
+      ap (λ n. said (get n q) had) puts
+      ∙ ap (λ v. said v had) (get-insert nat_list_cmp_total changes p c q)
+      ∙ ap (λ k. said (cond (ties q k) (Some c) (get changes q)) had) same
+      ∙ said_given (ties q item.0) c (value item.0) (get changes q) had gives
+      ∙ ap (cond (ties q item.0) (value item.0)) (so_far q)
+      ∙ at_one value q item.0 (among (take i items) q) had (ties q item.0) refl
+      ∙ ap (λ b. cond b (value q) had) (sym (among_next items i item lt is q))
+
+-- changes that merge at all paths of base and source make the merged map
+pub merges_all : (strategy : Strategy) (base source dest : Objects) (changes paths : Edits) (items : List (List ℕ × Change)) (i : ℕ) → length items ≤ i → items ≡ entries paths
+    → ArePathsOf base source paths → Merges strategy base source dest changes (take i items) → apply changes dest ≡ merged strategy base source dest
+merges_all strategy base source dest changes paths items i past is of all = same _ _ (λ q.
+    get_apply changes dest q
+    ∙ all q
+    ∙ ap (λ b. cond b (value_at strategy base source dest q) (get dest q)) (among_all items i past q ∙ sym (contains_among paths items is q) ∙ of q)
+    ∙ sym (get_merged_by strategy base source dest q))
