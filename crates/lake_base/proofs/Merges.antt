@@ -1,21 +1,28 @@
 -- What a merged map has at each path, the paths of two maps, and the paths that conflict.
-use Rattle.std.proofs.Common.{◌≡◌, ℕ, ◌+◌, ◌<◌, ◌≤◌, ◌||◌, Bool, true, false, cond, List, [], ◌∷◌, ◌++◌, Some, None, Option, is_some, map, length, take, get_or, refl, sym, ap, subst, ◌∙◌}
-use Rattle.std.specs.List.{list_any}
+use Rattle.std.proofs.Common.{◌≡◌, ℕ, ◌+◌, ◌<◌, ◌≤◌, ◌&&◌, ◌||◌, T, Bool, true, false, cond, List, [], ◌∷◌, ◌++◌, Some, None, Option, is_some, map, length, take, get_or, append-nil, refl, sym, ap, subst, ◌∙◌}
+use Rattle.std.specs.List.{list_any, filter, AllByRecursion}
+use Rattle.std.specs.List.Sorted.{IsStrictlySortedBy}
+use Rattle.std.specs.FinMap.Entries.{below_all}
+use Rattle.std.proofs.lemmas.List.Elements.{filter-append}
+use Rattle.std.proofs.lemmas.List.Kept.{IsStrictlySortedBy-filter}
+use Rattle.std.proofs.lemmas.Map.Views.{any-filter_same, Contains-from_any, list_any-from_Contains}
 use Rattle.std.specs.Ordering.{is_eq, eq_by_cmp}
 use Rattle.std.specs.declared.cmp.Ordering.{Ordering}
 use Rattle.std.specs.declared.cmp.Ordering.TheVariants.{Less, Equal, Greater}
-use Rattle.std.proofs.lemmas.Cmp.{nat_list_cmp_total}
+use Rattle.std.proofs.lemmas.Cmp.{nat_list_cmp_total, eq_by_cmp_equiv}
 use Rattle.std.proofs.lemmas.List.Folds.{list_any-append, list_any_more}
-use Rattle.std.proofs.lemmas.List.{take_all}
-use Rattle.std.specs.FinMap.{find, get, entries, insert, empty, get-empty, get-entries, get-insert, get-remove, keys, contains_key, contains_key-keys}
+use Rattle.std.proofs.lemmas.List.{take_all, take_more, map-append}
+use Rattle.std.specs.FinMap.{find, get, entries, entries_sorted, insert, empty, get-empty, get-entries, get-insert, get-remove, keys, contains_key, contains_key-keys}
 use Rattle.lake_base.specs.Entry.{Object}
-use Rattle.lake_base.specs.Maps.{byte_order, ByteMap}
+use Rattle.lake_base.specs.Maps.{byte_order, ByteMap, Ascend}
 use Rattle.lake_base.specs.KeyMap.{Objects, Edits, apply, said}
-use Rattle.lake_base.specs.Merging.{merged, merged_at, merged_value, with_value, Gives, ArePathsOf, HasPathsToo}
+use Rattle.lake_base.specs.Merging.{merged, merged_at, merged_value, with_value, side_of, Gives, ArePathsOf, HasPathsToo, AreConflicts}
 use Rattle.lake_base.specs.declared.entry.Change.{Change}
 use Rattle.lake_base.specs.declared.entry.Change.TheVariants.{Put, Delete}
+use Rattle.lake_base.specs.declared.merging.Side.{Side}
+use Rattle.lake_base.specs.declared.merging.Side.TheVariants.{Source, Destination, Neither}
 use Rattle.lake_base.specs.declared.commit.Strategy.{Strategy}
-use Rattle.lake_base.proofs.Ascending.{same_key}
+use Rattle.lake_base.proofs.Ascending.{same_key, first, second, less}
 use Rattle.lake_base.proofs.Applied.{same, get_apply}
 
 or_swapped : (a b : Bool) → (a || b) ≡ (b || a)
@@ -193,3 +200,76 @@ merges_all strategy base source dest changes paths items i past is of all = same
     ∙ all q
     ∙ ap (λ b. cond b (value_at strategy base source dest q) (get dest q)) (among_all items i past q ∙ sym (contains_among paths items is q) ∙ of q)
     ∙ sym (get_merged_by strategy base source dest q))
+
+-- ---- the paths that conflict
+
+and_left : (a b : Bool) → (a && b) ≡ true → a ≡ true
+and_left true b e = refl
+and_left false b e = e
+
+below_keys : {X : Type 0} (k : List ℕ) (es : List (List ℕ × X)) → T (below_all byte_order k es) → AllByRecursion (λ y. byte_order k y ≡ Less) (map (λ e. e.0) es)
+below_keys k [] h = tt
+below_keys k (e ∷ es) h = (less _ (first _ _ h), below_keys k es (second _ _ h))
+
+keys_ascend : {X : Type 0} (es : List (List ℕ × X)) → Ascend es → IsStrictlySortedBy byte_order (map (λ e. e.0) es)
+unfolding IsStrictlySortedBy
+keys_ascend [] h = tt
+keys_ascend (e ∷ es) h = (below_keys e.0 es (first _ _ h), keys_ascend es (second _ _ h))
+
+abbrev pub is_neither : Side → Bool
+is_neither Source = false
+is_neither Destination = false
+is_neither Neither = true
+
+module _ (base source dest : Objects) where
+  abbrev pub conflicts_at : List ℕ → Bool
+  conflicts_at path = is_neither (side_of (get base path) (get source path) (get dest path))
+
+  -- the conflicting paths of entries
+  abbrev pub conflicting : {X : Type 0} → List (List ℕ × X) → List (List ℕ)
+  conflicting items = filter conflicts_at (map (λ item. item.0) items)
+
+  kept_one : (b : Bool) (p : List ℕ) (so_far : List (List ℕ)) → (pushed : List (List ℕ)) → (b ≡ true → pushed ≡ so_far ++ p ∷ []) → (b ≡ false → pushed ≡ so_far) → pushed ≡ so_far ++ cond b (p ∷ []) []
+  kept_one true p so_far pushed kept dropped = kept refl
+  kept_one false p so_far pushed kept dropped = dropped refl ∙ sym (append-nil so_far)
+
+  -- one more entry's path, where it conflicts
+  pub conflicting_next : {X : Type 0} (items : List (List ℕ × X)) (i : ℕ) (item : List ℕ × X) → i < length items → item ≡ get_or items i item
+      → (found : List (List ℕ)) → (conflicts_at item.0 ≡ true → found ≡ conflicting (take i items) ++ item.0 ∷ []) → (conflicts_at item.0 ≡ false → found ≡ conflicting (take i items))
+      → found ≡ conflicting (take (i + 1) items)
+  conflicting_next {X = X} items i item lt is found kept dropped =
+      kept_one (conflicts_at item.0) item.0 (conflicting (take i items)) found kept dropped
+      ∙ sym (
+      ap conflicting (take_more items i item lt ∙ ap (λ e. take i items ++ e ∷ []) (sym is))
+      ∙ ap (filter conflicts_at) (map-append (λ (e : List ℕ × X). e.0) (take i items) (item ∷ []))
+      ∙ filter-append conflicts_at (map (λ (e : List ℕ × X). e.0) (take i items)) (item.0 ∷ []))
+
+  neither : (side : Side) → is_neither side ≡ true → side ≡ Neither
+  neither Source e = cc
+  neither Destination e = cc
+  neither Neither e = refl
+
+  conflict_is_path : (was is other : Option Object) → side_of was is other ≡ Neither → (is_some was || is_some is) ≡ true
+  conflict_is_path None None other e = cc
+  conflict_is_path (Some x) is other e = refl
+  conflict_is_path None (Some y) other e = refl
+
+  -- the conflicting paths among those of base and source are all that conflict
+  pub conflicts_all : (paths : Edits) (items : List (List ℕ × Change)) (i : ℕ) → length items ≤ i → items ≡ entries paths → ArePathsOf base source paths
+      → (found : List (List ℕ)) → found ≡ conflicting (take i items) → AreConflicts base source dest found
+  conflicts_all paths items i past is of found so_far =
+      let all : found ≡ filter conflicts_at (keys paths) = so_far ∙ ap conflicting (take_all i items past ∙ is) in
+      let any : (q : List ℕ) → list_any (ties q) (filter conflicts_at (keys paths)) ≡ (conflicts_at q && list_any (ties q) (keys paths)) = λ q.
+          any-filter_same (ties q) conflicts_at (conflicts_at q) (λ k t. ap conflicts_at (sym (same_path q k t))) (keys paths) in
+      subst (AreConflicts base source dest) (sym all) (record {
+        ascending = IsStrictlySortedBy-filter byte_order conflicts_at (keys paths) (keys_ascend (entries paths) (entries_sorted paths));
+        all = λ q. (
+          λ within.
+              let told : (conflicts_at q && list_any (ties q) (keys paths)) ≡ true = sym (any q) ∙ list_any-from_Contains (eq_by_cmp_equiv nat_list_cmp_total) q _ within in
+              neither _ (and_left _ _ told),
+          λ conflict.
+              let kept : conflicts_at q ≡ true = ap is_neither conflict in
+              let among : list_any (ties q) (keys paths) ≡ true = sym (contains_key-keys paths q) ∙ of q ∙ conflict_is_path (get base q) (get source q) (get dest q) conflict in
+              Contains-from_any same_path q _ (any q ∙ ap (λ b. b && list_any (ties q) (keys paths)) kept ∙ among),
+        );
+      })
