@@ -4,6 +4,7 @@ pub mod EntryLaws
 pub mod FieldLaws
 pub mod Fronts
 pub mod Hexes
+pub mod Lasts
 pub mod Listed
 pub mod Merges
 pub mod Moments
