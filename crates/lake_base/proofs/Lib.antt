@@ -6,9 +6,12 @@ pub mod Fronts
 pub mod Graphs
 pub mod Hexes
 pub mod Kept
+pub mod Lasts
 pub mod Listed
+pub mod Merges
 pub mod Moments
 pub mod Paging
 pub mod PairLists
 pub mod PairsLoop
+pub mod Same
 pub mod Walks
