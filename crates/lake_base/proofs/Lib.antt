@@ -3,6 +3,7 @@ pub mod Ascending
 pub mod EntryLaws
 pub mod FieldLaws
 pub mod Fronts
+pub mod Graphs
 pub mod Hexes
 pub mod Listed
 pub mod Moments
