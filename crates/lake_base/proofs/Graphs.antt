@@ -1,5 +1,5 @@
 -- Look-ups in the graph of a list of commits.
-use Rattle.std.proofs.Common.{◌≡◌, ℕ, suc, ◌+◌, ◌<◌, Bool, true, false, cond, List, [], ◌∷◌, length, get_or, drop, Some, None, refl, sym, ap, ◌∙◌, add-one, drop-cons}
+use Rattle.std.proofs.Common.{◌≡◌, ℕ, suc, ◌+◌, ◌<◌, ◌≤◌, Bool, true, false, cond, List, [], ◌∷◌, length, get_or, drop, Some, None, refl, sym, ap, ◌∙◌, add-one, drop-cons, arith}
 use Rattle.std.proofs.Math.Seq.{drop-length}
 use Rattle.std.specs.Option.{unwrap_or, option_map}
 use Rattle.std.specs.Ordering.{eq_by_cmp}
@@ -10,7 +10,7 @@ use Rattle.std.proofs.lemmas.Map.Text.{is_eq-slice_cmp}
 use Rattle.std.proofs.lemmas.Slice.Eq.{bytes_eq-Decides}
 use Rattle.lake_base.specs.Commit.{Commit}
 use Rattle.lake_base.specs.Maps.{byte_order}
-use Rattle.lake_base.specs.Ancestry.{Graph, graph_of, commit_of, parents_in, parents, generation, date}
+use Rattle.lake_base.specs.Ancestry.{Graph, graph_of, commit_of, parents_in, parents, generation, date, due_after}
 use Rattle.lake_base.specs.declared.digest.Digest.{Digest}
 
 otherwise : (r : Bool) → (r ≡ true → ⊥) → r ≡ false
@@ -81,3 +81,8 @@ module _ (graph : Graph) (id : Digest) where
   pub date_none : None ≡ commit_of graph id → 0 ≡ date graph id
   unfolding date
   date_none e = ap (λ o. unwrap_or (option_map (λ (x : Commit). x.date) o) 0) e
+
+-- the generation due is not 0
+pub due_some : (graph : Graph) (ids : List Digest) → 1 ≤ due_after graph ids
+due_some graph [] = omega arith
+due_some graph (id ∷ ids) = omega (arith, due_some graph ids)
