@@ -10,3 +10,4 @@ pub mod Moments
 pub mod Paging
 pub mod PairLists
 pub mod PairsLoop
+pub mod Reached
