@@ -5,13 +5,17 @@ use Rattle.std.specs.Option.{IsSome, is_some}
 use Rattle.std.specs.Ordering.{eq_by_cmp}
 use Rattle.std.specs.Str.{bytes_eq}
 use Rattle.std.specs.List.{Contains, AllWithin, HoldsAt}
-use Rattle.std.proofs.lemmas.List.Elements.{Contains-get_or}
+use Rattle.std.proofs.lemmas.List.{get_or_default}
+use Rattle.std.proofs.lemmas.List.Elements.{Contains-get_or, AllWithin-more, at_read}
 use Rattle.std.proofs.lemmas.Slice.Eq.{bytes_eq-Decides}
 use Rattle.lake_base.specs.Commit.{Commit}
 use Rattle.lake_base.specs.Maps.{byte_order}
 use Rattle.lake_base.specs.Ancestry.{Graph, graph_of, commit_of, parents, generation, due_after, IsDue, IsGraph, Reaches, IsReachedWithin, IsAncestor}
 use Rattle.lake_base.specs.declared.digest.Digest.{Digest}
 use Rattle.lake_base.proofs.Graphs.{first_is, first_not, no_commit, parents_none}
+
+pub differ : true ≡ false → ⊥
+differ e = cc
 
 -- ids of the same bytes are one
 pub same_id : (a b : Digest) → a.0 ≡ b.0 → a ≡ b
@@ -32,9 +36,6 @@ by_bytes {P} a b same other = cases (bytes_eq a b) refl
     cases : (r : Bool) → bytes_eq a b ≡ r → P
     cases true e = same ((bytes_eq-Decides a b).0 e)
     cases false e = other (λ is. differ (sym ((bytes_eq-Decides a b).1 is) ∙ e))
-      where
-        differ : true ≡ false → ⊥
-        differ d = cc
 
 -- each commit of the list is there
 pub stands : (cs : List (Digest × Commit)) (x : Digest × Commit) → Contains cs x → IsSome (commit_of (graph_of cs) x.0)
@@ -47,10 +48,7 @@ stands (y ∷ cs) x (suc k, lt, e) =
 
 -- what is there is a commit of the list
 pub listed : (cs : List (Digest × Commit)) (id : Digest) → IsSome (commit_of (graph_of cs) id) → (x : Digest × Commit) × Contains cs x × (x.0 ≡ id)
-listed [] id some = absurd (never (sym some ∙ ap is_some (no_commit id)))
-  where
-    never : true ≡ false → ⊥
-    never e = cc
+listed [] id some = absurd (differ (sym some ∙ ap is_some (no_commit id)))
 listed (y ∷ cs) id some =
     by_bytes y.0.0 id.0
     (λ same. (y, Contains-first y cs, same_id y.0 id same))
@@ -69,11 +67,48 @@ graph_tested cs true all = (
 )
 graph_tested [] false (k, lt, n) = absurd (omega arith)
 graph_tested (c ∷ cs) false some = (
-  λ e. absurd (never e),
-  λ graph. absurd (some.2 c (graph (get_or (c ∷ cs) some.0 c).0 (stands (c ∷ cs) (get_or (c ∷ cs) some.0 c) (has (c ∷ cs) some.0 c some.1)))),
+  λ e. absurd (differ (sym e)),
+  λ graph. absurd (some.2 c (graph (get_or (c ∷ cs) some.0 c).0 (stands (c ∷ cs) (get_or (c ∷ cs) some.0 c) (Contains-get_or (c ∷ cs) some.0 c some.1)))),
 )
-  where
-    never : false ≡ true → ⊥
-    never e = cc
-    has : {X : Type 0} (xs : List X) (k : ℕ) (d : X) → k < length xs → Contains xs (get_or xs k d)
-    has xs k d lt = Contains-get_or xs k d lt
+
+-- ---- in so many steps
+
+pub reached_here : (g : Graph) (steps : ℕ) (old id : Digest) → id.0 ≡ old.0 → IsReachedWithin g steps old id
+unfolding Reaches
+reached_here g steps old id e = (0, omega arith, same_id id old e)
+
+pub reached_through : (g : Graph) (steps : ℕ) (old id parent : Digest) → 0 < steps → Contains (parents g id) parent → IsReachedWithin g (steps - 1) old parent → IsReachedWithin g steps old id
+unfolding Reaches
+reached_through g steps old id parent some has (n, le, r) = (suc n, omega arith, (parent, has, r))
+
+-- no step leads there, and none is left
+pub reached_not : (g : Graph) (old id : Digest) → (id.0 ≡ old.0 → ⊥) → IsReachedWithin g 0 old id → ⊥
+unfolding Reaches
+reached_not g old id other (zero, le, r) = other (ap (λ d. d.0) r)
+reached_not g old id other (suc n, le, r) = absurd (omega arith)
+
+-- no parent leads there
+pub reached_never : (g : Graph) (steps : ℕ) (old id : Digest) → (id.0 ≡ old.0 → ⊥) → ((parent : Digest) → Contains (parents g id) parent → IsReachedWithin g (steps - 1) old parent → ⊥) → IsReachedWithin g steps old id → ⊥
+unfolding Reaches
+reached_never g steps old id other none (zero, le, r) = other (ap (λ d. d.0) r)
+reached_never g steps old id other none (suc n, le, (parent, has, r)) = none parent has (n, omega arith, r)
+
+pub true_for : {P : Type 0} → P → IsTrue true ↔ P
+true_for p = (λ _. p, λ _. refl)
+
+pub false_for : {P : Type 0} → (P → ⊥) → IsTrue false ↔ P
+false_for never = (λ e. absurd (differ (sym e)), λ p. absurd (never p))
+
+-- `==` on two lists of bytes
+pub same_bytes : (a b x y : List ℕ) (r : Bool) → a ≡ x → b ≡ y → r ≡ bytes_eq a b → r ≡ true → x ≡ y
+same_bytes a b x y r p q e t = (bytes_eq-Decides x y).0 (cc (sym e ∙ t))
+
+pub other_bytes : (a b x y : List ℕ) (r : Bool) → a ≡ x → b ≡ y → r ≡ bytes_eq a b → r ≡ false → x ≡ y → ⊥
+other_bytes a b x y r p q e f same = cc (sym ((bytes_eq-Decides x y).1 same) ∙ ap (λ l. bytes_eq l y) (sym p) ∙ ap (bytes_eq a) (sym q) ∙ sym e ∙ f)
+
+-- one more element, read with some default
+pub one_more : {X : Type 0} (P : X → Type 0) (xs : List X) (i : ℕ) (d : X) → i < length xs → AllWithin P xs 0 i → P (get_or xs i d) → AllWithin P xs 0 (i + 1)
+one_more P xs i d lt all p = AllWithin-more P xs 0 i all (at_read xs P i (get_or xs i d) lt (get_or_default xs i d (get_or xs i d) lt) p)
+
+pub within_contains : {X : Type 0} (P : X → Type 0) (xs : List X) (i : ℕ) (x : X) → length xs ≤ i → AllWithin P xs 0 i → Contains xs x → P x
+within_contains P xs i x le all has = subst P has.2 (all has.0 x (omega arith) (omega (arith, has.1)))
