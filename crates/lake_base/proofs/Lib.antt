@@ -1,5 +1,6 @@
 pub mod Applied
 pub mod Ascending
+pub mod Bases
 pub mod EntryLaws
 pub mod FieldLaws
 pub mod Fronts
