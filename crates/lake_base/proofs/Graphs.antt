@@ -42,7 +42,7 @@ module _ (cs : List (Digest × Commit)) (id : Digest) (i : ℕ) (seen : commit_o
   pub found_here : (x : Digest × Commit) → i < length cs → x ≡ get_or cs i x → bytes_eq x.0.0 id.0 ≡ true → Some x.1 ≡ commit_of (graph_of cs) id
   found_here x lt is same =
       sym (seen ∙ ap (λ l. commit_of (graph_of l) id) (drop-cons cs i x lt ∙ ap (λ y. y ∷ drop (suc i) cs) (sym is))
-        ∙ first_is x (drop (suc i) cs) id ((bytes_eq-Decides x.0.0 id.0).0 same))
+      ∙ first_is x (drop (suc i) cs) id ((bytes_eq-Decides x.0.0 id.0).0 same))
 
   pub found_later : (x : Digest × Commit) → i < length cs → x ≡ get_or cs i x → bytes_eq x.0.0 id.0 ≡ false → commit_of (graph_of cs) id ≡ commit_of (graph_of (drop (i + 1) cs)) id
   found_later x lt is other =

@@ -44,5 +44,5 @@ returns t c =
     let items = c.parents-parent-items.result.now in
     let other = other_bytes c.as_slice.result.now c.as_slice-2.result.now id.0 old.0 c.eq.result c.as_slice.ensures c.as_slice-2.ensures c.eq.ensures c.if-eq.false in
     false_for (reached_never g c.args.steps old id other
-        (λ parent has. within_contains (λ p. IsReachedWithin g (c.args.steps - 1) old p → ⊥) items c.loop-parent.parent-index parent c.loop-parent-test.false c.loop-parent.invariant
-            (subst (λ l. Contains l parent) (sym c.parents-parent-items.ensures) has)))
+    (λ parent has. within_contains (λ p. IsReachedWithin g (c.args.steps - 1) old p → ⊥) items c.loop-parent.parent-index parent c.loop-parent-test.false c.loop-parent.invariant
+    (subst (λ l. Contains l parent) (sym c.parents-parent-items.ensures) has)))
