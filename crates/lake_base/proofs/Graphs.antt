@@ -13,7 +13,7 @@ use Rattle.lake_base.specs.Maps.{byte_order}
 use Rattle.lake_base.specs.Ancestry.{Graph, graph_of, commit_of, parents_in, parents, generation, date, due_after}
 use Rattle.lake_base.specs.declared.digest.Digest.{Digest}
 
-otherwise : (r : Bool) → (r ≡ true → ⊥) → r ≡ false
+pub otherwise : (r : Bool) → (r ≡ true → ⊥) → r ≡ false
 otherwise true never = absurd (never refl)
 otherwise false never = refl
 
