@@ -11,4 +11,5 @@ pub mod Moments
 pub mod Paging
 pub mod PairLists
 pub mod PairsLoop
+pub mod Patterns
 pub mod Reached
