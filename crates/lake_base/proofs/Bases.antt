@@ -128,7 +128,7 @@ module _ (g : Graph) (a b : Digest) (cs : List (Digest × Commit)) (i : ℕ) (x 
   best_more None all c = (
     c,
     AllWithin-more (λ y. IsCommon g a b y.0 → comes_first g y.0 x.0 ≡ false) cs 0 i (λ k d low high w. absurd (all k d low high w))
-    (at_read cs (λ y. IsCommon g a b y.0 → comes_first g y.0 x.0 ≡ false) i x lt is (λ w. not_before_itself g x.0)),
+        (at_read cs (λ y. IsCommon g a b y.0 → comes_first g y.0 x.0 ≡ false) i x lt is (λ w. not_before_itself g x.0)),
   )
   best_more (Some best) (common, all) c = by (comes_first g x.0 best) refl
     where
@@ -136,7 +136,7 @@ module _ (g : Graph) (a b : Digest) (cs : List (Digest × Commit)) (i : ℕ) (x 
       by true e = (
         c,
         AllWithin-more (λ y. IsCommon g a b y.0 → comes_first g y.0 x.0 ≡ false) cs 0 i (λ k d low high w. still_after g x.0 best (get_or cs k d).0 e (all k d low high w))
-        (at_read cs (λ y. IsCommon g a b y.0 → comes_first g y.0 x.0 ≡ false) i x lt is (λ w. not_before_itself g x.0)),
+            (at_read cs (λ y. IsCommon g a b y.0 → comes_first g y.0 x.0 ≡ false) i x lt is (λ w. not_before_itself g x.0)),
       )
       by false e = (
         common,

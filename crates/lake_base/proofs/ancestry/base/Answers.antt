@@ -15,11 +15,11 @@ loop-id-preserved c =
     let x = c.loop-id-item.result in
     elim c.if-is_common.branch [
       | then-is_common w ↦
-        subst (BestOf g a b commits (i + 1)) (sym (w.best-is ∙ ap Some w.first_of.ensures))
-        (best_more g a b commits i x c.loop-id-test.true c.loop-id-item.is c.loop-id.best c.loop-id.invariant (c.is_common.ensures.0 w.if-is_common.true))
+          subst (BestOf g a b commits (i + 1)) (sym (w.best-is ∙ ap Some w.first_of.ensures))
+          (best_more g a b commits i x c.loop-id-test.true c.loop-id-item.is c.loop-id.best c.loop-id.invariant (c.is_common.ensures.0 w.if-is_common.true))
       | else-is_common w ↦
-        subst (BestOf g a b commits (i + 1)) (sym w.best-is)
-        (best_stays g a b commits i x c.loop-id-test.true c.loop-id-item.is c.loop-id.best c.loop-id.invariant (λ both. differ (sym (c.is_common.ensures.1 both) ∙ w.if-is_common.false)))
+          subst (BestOf g a b commits (i + 1)) (sym w.best-is)
+          (best_stays g a b commits i x c.loop-id-test.true c.loop-id-item.is c.loop-id.best c.loop-id.invariant (λ both. differ (sym (c.is_common.ensures.1 both) ∙ w.if-is_common.false)))
     ]
 
 pub returns : goal.returns
