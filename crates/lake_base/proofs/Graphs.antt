@@ -1,5 +1,5 @@
 -- Look-ups in the graph of a list of commits.
-use Rattle.std.proofs.Common.{◌≡◌, ℕ, suc, ◌+◌, ◌<◌, Bool, true, false, cond, List, [], ◌∷◌, length, get_or, drop, Some, None, refl, sym, ap, ◌∙◌, add-one, drop-cons}
+use Rattle.std.proofs.Common.{◌≡◌, ℕ, suc, ◌+◌, ◌<◌, ◌≤◌, Bool, true, false, cond, List, [], ◌∷◌, length, get_or, drop, Some, None, refl, sym, ap, ◌∙◌, add-one, drop-cons, arith}
 use Rattle.std.proofs.Math.Seq.{drop-length}
 use Rattle.std.specs.Option.{unwrap_or, option_map}
 use Rattle.std.specs.Ordering.{eq_by_cmp}
@@ -10,10 +10,10 @@ use Rattle.std.proofs.lemmas.Map.Text.{is_eq-slice_cmp}
 use Rattle.std.proofs.lemmas.Slice.Eq.{bytes_eq-Decides}
 use Rattle.lake_base.specs.Commit.{Commit}
 use Rattle.lake_base.specs.Maps.{byte_order}
-use Rattle.lake_base.specs.Ancestry.{Graph, graph_of, commit_of, parents_in, parents, generation, date}
+use Rattle.lake_base.specs.Ancestry.{Graph, graph_of, commit_of, parents_in, parents, generation, date, due_after}
 use Rattle.lake_base.specs.declared.digest.Digest.{Digest}
 
-otherwise : (r : Bool) → (r ≡ true → ⊥) → r ≡ false
+pub otherwise : (r : Bool) → (r ≡ true → ⊥) → r ≡ false
 otherwise true never = absurd (never refl)
 otherwise false never = refl
 
@@ -42,7 +42,7 @@ module _ (cs : List (Digest × Commit)) (id : Digest) (i : ℕ) (seen : commit_o
   pub found_here : (x : Digest × Commit) → i < length cs → x ≡ get_or cs i x → bytes_eq x.0.0 id.0 ≡ true → Some x.1 ≡ commit_of (graph_of cs) id
   found_here x lt is same =
       sym (seen ∙ ap (λ l. commit_of (graph_of l) id) (drop-cons cs i x lt ∙ ap (λ y. y ∷ drop (suc i) cs) (sym is))
-        ∙ first_is x (drop (suc i) cs) id ((bytes_eq-Decides x.0.0 id.0).0 same))
+      ∙ first_is x (drop (suc i) cs) id ((bytes_eq-Decides x.0.0 id.0).0 same))
 
   pub found_later : (x : Digest × Commit) → i < length cs → x ≡ get_or cs i x → bytes_eq x.0.0 id.0 ≡ false → commit_of (graph_of cs) id ≡ commit_of (graph_of (drop (i + 1) cs)) id
   found_later x lt is other =
@@ -81,3 +81,8 @@ module _ (graph : Graph) (id : Digest) where
   pub date_none : None ≡ commit_of graph id → 0 ≡ date graph id
   unfolding date
   date_none e = ap (λ o. unwrap_or (option_map (λ (x : Commit). x.date) o) 0) e
+
+-- the generation due is not 0
+pub due_some : (graph : Graph) (ids : List Digest) → 1 ≤ due_after graph ids
+due_some graph [] = omega arith
+due_some graph (id ∷ ids) = omega (arith, due_some graph ids)

@@ -1,5 +1,5 @@
 -- Commit graphs: ancestors, generations, the merge base, and the way back by first parents.
-use Rattle.std.specs.Prelude.{◌≡◌, ◌≤◌, ◌+◌, ◌==◌, ◌&&◌, ◌||◌, false, ℕ, zero, suc, max, Bool, List, [], ◌∷◌, map, nat_lt, slice_get, Option, Some, None, IsSome, option_map, option_and_then}
+use Rattle.std.specs.Prelude.{◌≡◌, ◌≤◌, ◌+◌, ◌==◌, ◌&&◌, ◌||◌, false, ℕ, zero, suc, max, Bool, List, [], ◌∷◌, map, nat_lt, slice_get, Option, Some, None, IsSome, option_map, option_and_then, if◌then◌else◌}
 use Rattle.std.specs.Option.{unwrap_or}
 use Rattle.std.specs.Ordering.{is_lt}
 use Rattle.std.specs.List.{Contains}
@@ -71,6 +71,11 @@ abbrev pub comes_first : Graph → Digest → Digest → Bool
 comes_first graph id other =
     nat_lt (generation graph other) (generation graph id)
     || ((generation graph id == generation graph other) && is_lt (byte_order id.0 other.0))
+
+-- the first of the best so far and this commit, in that order
+abbrev pub first_of : Graph → Option Digest → Digest → Digest
+first_of graph None id = id
+first_of graph (Some best) id = if comes_first graph id best then id else best
 
 -- the merge base: of the common ancestors, the first in the order of the log
 pub record IsBase (graph : Graph) (a b base : Digest) : Type 0 where

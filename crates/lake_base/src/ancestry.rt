@@ -10,8 +10,8 @@
 //!          \   / \          base of R and M: R
 //!            Y --- N        first parents back from M: M, X, R
 //! ```
-ghost use Rattle.std.specs.Prelude.{◌≡◌, ◌↔◌, ◌≤◌, ℕ, IfSome, IsSome, IsTrue, Some, None, MatchOption, option_copied};
-ghost use Rattle.lake_base.specs.Ancestry.{Graph, graph_of, commit_of, parents, generation, date, due_after, IsGraph, IsDue, IsReachedWithin, IsAncestor, IsCommon, comes_first, IsBase, back, first_parent, IsOnWalk};
+ghost use Rattle.std.specs.Prelude.{◌≡◌, ◌↔◌, ◌≤◌, ◌^◌, ℕ, IfSome, IsSome, IsTrue, Some, None, MatchOption, option_copied};
+ghost use Rattle.lake_base.specs.Ancestry.{Graph, graph_of, commit_of, parents, generation, date, due_after, IsGraph, IsDue, IsReachedWithin, IsAncestor, IsCommon, comes_first, first_of, IsBase, back, first_parent, IsOnWalk};
 ghost use Rattle.lake_base.specs.declared.digest.Digest.{Digest as Id};
 
 use crate::commit::{CommitId, CommitRecord};
@@ -59,17 +59,10 @@ pub fn base(commits: &[(CommitId, CommitRecord)], a: &CommitId, b: &CommitId) ->
         ((id : Id) → IsCommon (graph_of commits.now) a.now b.now id → ⊥)
         (IsBase (graph_of commits.now) a.now b.now) }
 {
-    let mut best: Option<CommitId> = None;
+    let mut best = None;
     for (id, _) in commits {
-        if !is_ancestor(commits, id, a) || !is_ancestor(commits, id, b) {
-            continue;
-        }
-        let is_better = match &best {
-            Some(other) => comes_first(commits, id, other),
-            None => true,
-        };
-        if is_better {
-            best = Some(*id);
+        if is_common(commits, id, a, b) {
+            best = Some(first_of(commits, best, id));
         }
     }
     best
@@ -184,6 +177,29 @@ fn is_reached(
         }
     }
     false
+}
+
+// Whether a commit is an ancestor of both.
+fn is_common(
+    commits: &[(CommitId, CommitRecord)],
+    old: &CommitId,
+    a: &CommitId,
+    b: &CommitId,
+) -> bool
+    requires { IsGraph (graph_of commits.now) }
+    ensures { IsTrue result ↔ IsCommon (graph_of commits.now) a.now b.now old.now }
+{
+    is_ancestor(commits, old, a) && is_ancestor(commits, old, b)
+}
+
+// The first of the best so far and this commit, in the order of the log.
+fn first_of(commits: &[(CommitId, CommitRecord)], best: Option<CommitId>, id: &CommitId) -> CommitId
+    ensures { result ≡ first_of (graph_of commits.now) best id.now }
+{
+    match best {
+        Some(other) if !comes_first(commits, id, &other) => other,
+        _ => *id,
+    }
 }
 
 // Whether a commit comes before another in the log: of greater generation, or of as great a one and the

@@ -1,6 +1,9 @@
 //! What the settings of a repository refuse: the branches that they protect, and what their hooks deny.
-ghost use Rattle.std.specs.Prelude.{◌≡◌};
+ghost use Rattle.std.specs.Prelude.{◌≡◌, is_none, nat_eq};
+ghost use Rattle.std.specs.FinMap.{entries, find};
+ghost use Rattle.std.specs.List.{list_any, starts_with};
 ghost use Rattle.lake_base.specs.Deciding.{matches, protected_by, puts_more, forbids, denies, denied_by};
+ghost use Rattle.lake_base.specs.Maps.{byte_order};
 
 use crate::changes::Changes;
 use crate::entry::Change;
@@ -72,20 +75,41 @@ fn forbids(deny: &Deny, metadata: &Pairs, changes: &Changes) -> bool
     ensures { result ≡ forbids deny.now metadata.now changes.now }
 {
     match deny {
-        Deny::RequireMeta(key) => metadata
-            .as_slice()
-            .iter()
-            .all(|pair| pair.0.as_slice() != key.as_slice()),
-        Deny::DenyPrefix(prefix) => changes.as_slice().iter().any(|change| change
-            .0
-            .as_slice()
-            .starts_with(prefix.as_slice())),
-        Deny::MaxSize(bytes) => changes
-            .as_slice()
-            .iter()
-            .any(|change| puts_more(*bytes, &change.1)),
+        Deny::RequireMeta(key) => lacks(metadata, key.as_slice()),
+        Deny::DenyPrefix(prefix) => touches(changes, prefix.as_slice()),
+        Deny::MaxSize(bytes) => puts_any(changes, *bytes),
         Deny::MaxChanges(count) => changes.len() as u64 > *count,
     }
+}
+
+// Whether no pair has this key.
+fn lacks(metadata: &Pairs, key: &[u8]) -> bool
+    ensures { result ≡ is_none (find byte_order key.now metadata.now) }
+{
+    metadata
+        .as_slice()
+        .iter()
+        .all(|pair| pair.0.as_slice() != key)
+}
+
+// Whether a changed path begins with this.
+fn touches(changes: &Changes, prefix: &[u8]) -> bool
+    ensures { result ≡ list_any (λ change. starts_with nat_eq change.0 prefix.now) (entries changes.now) }
+{
+    changes
+        .as_slice()
+        .iter()
+        .any(|change| change.0.as_slice().starts_with(prefix))
+}
+
+// Whether an entry of more than so many bytes is put at some path.
+fn puts_any(changes: &Changes, bytes: u64) -> bool
+    ensures { result ≡ list_any (λ change. puts_more bytes change.1) (entries changes.now) }
+{
+    changes
+        .as_slice()
+        .iter()
+        .any(|change| puts_more(bytes, &change.1))
 }
 
 // Whether an entry of more than so many bytes is put.
