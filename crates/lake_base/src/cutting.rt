@@ -31,6 +31,7 @@ pub const USUAL_CUT: Cut = Cut {
 };
 
 /// FNV-1a of 64 bits (Fowler, Noll and Vo). It takes no memory.
+#[tactic(auto, unfolding(crate::specs::Cutting::fnv1a))]
 pub fn fnv1a(bytes: &[u8]) -> u64
     ensures { result ≡ fnv1a bytes.now }
 {
