@@ -1,3 +1,4 @@
+pub mod RowLens
 pub mod Applied
 pub mod Ascending
 pub mod EntryLaws

@@ -8,8 +8,9 @@
 //! ```
 //!
 //! With less room the rows between two break keys are cut into several ranges.
-ghost use Rattle.std.specs.Prelude.{◌≡◌, ◌<◌, length, take, drop, nat_le};
+ghost use Rattle.std.specs.Prelude.{◌≡◌, ◌<◌, ◌≤◌, length, take, drop, nat_le};
 ghost use Rattle.lake_base.specs.Cutting.{fnv1a, is_break, row_bytes, is_range, first_len};
+ghost use Rattle.lake_base.specs.Entry.{IsPlace};
 ghost use Rattle.lake_base.specs.Spelling.{row_spelling, place_spelling, pairs_spelling};
 
 use crate::entry::{Entry, Place};
@@ -107,22 +108,35 @@ fn has_room(rows: &[(Path, Entry)], most: u64) -> bool
 
 // How many bytes a place has.
 fn place_len(place: &Place) -> u64
-    ensures { result ≡ length (place_spelling place.now) }
+    requires { IsPlace place.now }
+    ensures bytes { result ≡ length (place_spelling place.now) }
+    ensures few { result ≤ 2181 }
 {
     match place {
-        Place::Own { .. } => 41,
+        Place::Own { digest, .. } => 9 + digest_len(&digest.0),
         Place::External { at, checksum } => {
             5 + at.as_slice().len() as u64 + checksum.as_slice().len() as u64
         }
     }
 }
 
+// How many bytes a digest has: 32.
+fn digest_len(digest: &[u8]) -> u64
+    requires { length digest.now ≡ 32 }
+    ensures bytes { result ≡ length digest.now }
+    ensures few { result ≡ 32 }
+{
+    digest.len() as u64
+}
+
 // How many bytes metadata has.
 fn pairs_len(pairs: &Pairs) -> u64
-    ensures { result ≡ length (pairs_spelling pairs.now) }
+    ensures bytes { result ≡ length (pairs_spelling pairs.now) }
+    ensures few { result ≤ 73986 }
 {
+    let pairs = pairs.as_slice();
     let mut len = 2;
-    for (key, value) in pairs.as_slice() {
+    for (key, value) in pairs {
         len += 4 + key.as_slice().len() as u64 + value.as_slice().len() as u64;
     }
     len
