@@ -8,7 +8,8 @@
 //! ```
 //!
 //! With less room the rows between two break keys are cut into several ranges.
-ghost use Rattle.std.specs.Prelude.{◌≡◌, ◌<◌, ◌≤◌, length, take, drop, nat_le};
+ghost use Rattle.std.specs.Prelude.{◌≡◌, ◌-◌, ◌<◌, ◌≤◌, not, length, take, drop, nat_le};
+ghost use Rattle.std.specs.List.{list_all};
 ghost use Rattle.lake_base.specs.Cutting.{fnv1a, is_break, row_bytes, is_range, first_len};
 ghost use Rattle.lake_base.specs.Entry.{IsPlace};
 ghost use Rattle.lake_base.specs.Spelling.{row_spelling, place_spelling, pairs_spelling};
@@ -84,12 +85,23 @@ fn is_range(rows: &[(Path, Entry)], cut: &Cut) -> bool
     requires { 0 < cut.now.modulus }
     ensures { result ≡ is_range cut.now rows.now }
 {
-    if let Some((_, front)) = rows.split_last() {
-        if front.iter().any(|row| is_break(&row.0, cut)) {
-            return false;
-        }
-    }
-    rows.len() <= 1 || has_room(rows, cut.max_bytes)
+    goes_on(rows, cut) && (rows.len() <= 1 || has_room(rows, cut.max_bytes))
+}
+
+// Whether there is no break key before the last row.
+fn goes_on(rows: &[(Path, Entry)], cut: &Cut) -> bool
+    requires { 0 < cut.now.modulus }
+    ensures { result ≡ list_all (λ row. not (is_break cut.now row.0)) (take (length rows.now - 1) rows.now) }
+{
+    rows.is_empty() || has_no_break(&rows[..rows.len() - 1], cut)
+}
+
+// Whether there is no break key.
+fn has_no_break(rows: &[(Path, Entry)], cut: &Cut) -> bool
+    requires { 0 < cut.now.modulus }
+    ensures { result ≡ list_all (λ row. not (is_break cut.now row.0)) rows.now }
+{
+    rows.iter().all(|row| !is_break(&row.0, cut))
 }
 
 // Whether the rows have at most so many bytes.
