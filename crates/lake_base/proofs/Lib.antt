@@ -1,3 +1,4 @@
+pub mod Cuts
 pub mod RowLens
 pub mod Applied
 pub mod Ascending

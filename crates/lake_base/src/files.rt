@@ -27,6 +27,7 @@ use crate::spelling::put_entry;
 use std::alloc::Global;
 
 /// The one spelling of a range of these rows. There is at least one row, and fewer than 2^32.
+#[tactic(auto, unfolding(crate::specs::Spelling::range_spelling))]
 pub fn range_bytes(alloc: Global, rows: &[(Path, Entry)]) -> Result<Vec<u8>, NoMemory>
     requires some { 0 < length rows.now }
     requires few { length rows.now < 2 ^ 32 }
@@ -44,6 +45,7 @@ pub fn range_bytes(alloc: Global, rows: &[(Path, Entry)]) -> Result<Vec<u8>, NoM
 
 /// Appends what a metarange says of a range of these rows, whose file has this digest. There is at least one
 /// row, and fewer than 2^32.
+#[tactic(auto, unfolding(crate::specs::Spelling::range_line))]
 pub fn put_range_line(
     out: &mut Vec<u8>,
     name: &Digest,
@@ -62,6 +64,7 @@ pub fn put_range_line(
 }
 
 /// The one spelling of a commit.
+#[tactic(auto, unfolding(crate::specs::Spelling::commit_spelling))]
 pub fn commit_bytes(alloc: Global, commit: &CommitRecord) -> Result<Vec<u8>, NoMemory>
     ensures { IfOk result (λ bytes. bytes.items ≡ commit_spelling commit.now) }
 {
