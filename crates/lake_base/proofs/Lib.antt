@@ -1,3 +1,4 @@
+pub mod TreeFiles
 pub mod Cuts
 pub mod RowLens
 pub mod Applied

@@ -36,11 +36,27 @@ pub fn range_bytes(alloc: Global, rows: &[(Path, Entry)]) -> Result<Vec<u8>, NoM
     let mut out = Vec::new(alloc);
     out.push(1)?;
     out.extend_from_slice(&(rows.len() as u32).to_be_bytes())?;
-    for (path, entry) in rows {
-        put_text(&mut out, path.as_slice())?;
-        put_entry(&mut out, entry)?;
-    }
+    put_rows(&mut out, rows)?;
     Ok(out)
+}
+
+// Appends rows.
+fn put_rows(out: &mut Vec<u8>, rows: &[(Path, Entry)]) -> Result<(), NoMemory>
+    ensures { OnOk result (out.new.items ≡ out.old.items ++ flat_map row_spelling rows.now) }
+{
+    for (path, entry) in rows {
+        put_row(out, path, entry)?;
+    }
+    Ok(())
+}
+
+// Appends a row.
+fn put_row(out: &mut Vec<u8>, path: &Path, entry: &Entry) -> Result<(), NoMemory>
+    ensures { OnOk result (out.new.items ≡ out.old.items ++ row_spelling (path.now, entry.now)) }
+{
+    put_text(out, path.as_slice())?;
+    put_entry(out, entry)?;
+    Ok(())
 }
 
 /// Appends what a metarange says of a range of these rows, whose file has this digest. There is at least one
