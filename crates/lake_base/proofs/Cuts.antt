@@ -1,7 +1,7 @@
 -- How rows are cut into ranges, range by range.
-use Rattle.std.proofs.Common.{◌≡◌, ℕ, zero, suc, ◌+◌, ◌-◌, ◌<◌, ◌≤◌, Bool, true, false, List, [], ◌∷◌, ◌++◌, length, take, drop, refl, sym, ap, ◌∙◌, arith, inl, inr}
-use Rattle.std.proofs.lemmas.Bool.{cases_Bool}
-use Rattle.std.proofs.lemmas.List.{length-drop}
+use Rattle.std.proofs.Common.{◌≡◌, ℕ, zero, suc, ◌+◌, ◌-◌, ◌<◌, ◌≤◌, Bool, true, false, eqb, List, [], ◌∷◌, ◌++◌, length, take, drop, refl, sym, ap, ◌∙◌, arith, inl, inr}
+use Rattle.std.proofs.lemmas.Bool.{cases_Bool, eqb-true}
+use Rattle.std.proofs.lemmas.List.{length-drop, length-take}
 use Rattle.lake_base.specs.Entry.{Object}
 use Rattle.lake_base.specs.declared.cutting.Cut.{Cut}
 use Rattle.lake_base.specs.Cutting.{is_range, longest, first_len, ranges_within, ranges}
@@ -78,3 +78,38 @@ ranges_few cut rows = within_few cut (length rows) rows
 pub first_is : (cut : Cut) (rows : List (List ℕ × Object)) (n : ℕ) → is_range cut (take n rows) ≡ true → longest cut rows n ≡ longest cut rows (length rows) → n ≡ first_len cut rows
 unfolding first_len
 first_is cut rows n fits none_longer = sym (longest_here cut rows n fits) ∙ none_longer
+
+-- ---- by length
+
+pub first_some_of : (cut : Cut) (rows : List (List ℕ × Object)) → 0 < length rows → 0 < first_len cut rows
+first_some_of cut [] lt = absurd (omega arith)
+first_some_of cut (row ∷ rows) lt = first_some cut row rows
+
+pub ranges_of : (cut : Cut) (rows : List (List ℕ × Object)) → 0 < length rows → ranges cut rows ≡ take (first_len cut rows) rows ∷ ranges cut (drop (first_len cut rows) rows)
+ranges_of cut [] lt = absurd (omega arith)
+ranges_of cut (row ∷ rows) lt = ranges_cons cut row rows
+
+-- what is known of the first range and the rows after it
+pub record IsFirst (cut : Cut) (rows front rest : List (List ℕ × Object)) : Type 0 where
+  pub some : 0 < length front
+  pub few : length front ≤ length rows
+  pub shorter : length rest < length rows
+  pub cons : ranges cut rows ≡ front ∷ ranges cut rest
+
+pub first_of : (cut : Cut) (rows front rest : List (List ℕ × Object)) → 0 < length rows → front ≡ take (first_len cut rows) rows → rest ≡ drop (first_len cut rows) rows → IsFirst cut rows front rest
+first_of cut rows front rest lt front-is rest-is =
+    let some = first_some_of cut rows lt in
+    let below = first_below cut rows in
+    let a = ap length front-is ∙ length-take (first_len cut rows) rows in
+    let b = ap length rest-is ∙ length-drop (first_len cut rows) rows in
+    record { some = omega arith; few = omega arith; shorter = omega arith; cons = rw (front-is, rest-is) (ranges_of cut rows lt) }
+
+-- ---- a test for no rows
+
+pub some_left : {X : Type 0} (xs : List X) (b : Bool) → b ≡ eqb (length xs) 0 → b ≡ false → 0 < length xs
+some_left [] b is not = absurd cc
+some_left (x ∷ xs) b is not = omega arith
+
+pub none_left : {X : Type 0} (xs : List X) (b : Bool) → b ≡ eqb (length xs) 0 → b ≡ true → xs ≡ []
+none_left [] b is empty = refl
+none_left (x ∷ xs) b is empty = let zero_long = eqb-true (length (x ∷ xs)) 0 (sym is ∙ empty) in absurd (omega arith)
