@@ -1,3 +1,4 @@
+pub mod Runs
 pub mod TreeFiles
 pub mod Cuts
 pub mod RowLens
