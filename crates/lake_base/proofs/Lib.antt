@@ -8,8 +8,11 @@ pub mod EntryLaws
 pub mod FieldLaws
 pub mod Fronts
 pub mod Hexes
+pub mod Lasts
 pub mod Listed
+pub mod Merges
 pub mod Moments
 pub mod Paging
 pub mod PairLists
 pub mod PairsLoop
+pub mod Same

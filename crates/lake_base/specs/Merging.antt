@@ -59,6 +59,10 @@ Gives Delete value = value ≡ None
 abbrev pub ArePathsOf : Objects → Objects → Edits → Type 0
 ArePathsOf base source paths = (path : List ℕ) → contains_key paths path ≡ (contains_key base path || contains_key source path)
 
+-- changes at the paths of these changes and of this map, and at no others
+abbrev pub HasPathsToo : Edits → Objects → Edits → Type 0
+HasPathsToo old map new = (path : List ℕ) → contains_key new path ≡ (contains_key old path || contains_key map path)
+
 -- a path at which the two sides changed the base differently
 abbrev pub IsConflict : Objects → Objects → Objects → List ℕ → Type 0
 IsConflict base source dest path = side_of (get base path) (get source path) (get dest path) ≡ Neither

@@ -1,11 +1,11 @@
 //! The three-way merge of key maps, plainly and slowly: what tests and readers hold a faster one against.
-ghost use Rattle.std.specs.Prelude.{◌≡◌, ◌↔◌, ℕ, List, IfOk, IsTrue, option_copied};
+ghost use Rattle.std.specs.Prelude.{◌≡◌, ◌↔◌, ℕ, List, IfOk, OnOk, IsTrue, option_copied};
 ghost use Rattle.std.specs.FinMap.{get};
 ghost use Rattle.lake_base.specs.Entry.{Object};
 ghost use Rattle.lake_base.specs.KeyMap.{Objects};
 ghost use Rattle.lake_base.specs.Sameness.{same_place, same_pair, same_entry, same_value};
 ghost use Rattle.std.specs.Cmp.Lexicographic.{pointwise};
-ghost use Rattle.lake_base.specs.Merging.{side_of, merged, merged_value, Gives, ArePathsOf, AreConflicts};
+ghost use Rattle.lake_base.specs.Merging.{side_of, merged, merged_value, Gives, ArePathsOf, HasPathsToo, AreConflicts};
 ghost use Rattle.lake_base.specs.declared.commit.Strategy.{Strategy as Choice};
 
 use crate::changes::Changes;
@@ -135,13 +135,19 @@ fn same_pairs(pairs: &[(Text, Text)], others: &[(Text, Text)]) -> bool
     if pairs.len() != others.len() {
         return false;
     }
-    for (at, (key, value)) in pairs.iter().enumerate() {
-        let other = &others[at];
-        if key.as_slice() != other.0.as_slice() || value.as_slice() != other.1.as_slice() {
+    for (at, pair) in pairs.iter().enumerate() {
+        if !same_pair(pair, &others[at]) {
             return false;
         }
     }
     true
+}
+
+// Whether a key and its value are equal.
+fn same_pair(pair: &(Text, Text), other: &(Text, Text)) -> bool
+    ensures { result ≡ same_pair pair.now other.now }
+{
+    pair.0.as_slice() == other.0.as_slice() && pair.1.as_slice() == other.1.as_slice()
 }
 
 // Whether two values of a path are equal.
@@ -194,11 +200,17 @@ fn paths_of(alloc: Global, base: &KeyMap, source: &KeyMap) -> Result<Changes, No
     ensures { IfOk result (λ paths. ArePathsOf base.now source.now paths) }
 {
     let mut paths = Changes::new(alloc);
-    for (path, _) in base.as_slice() {
-        paths.set(path.copy(alloc)?, Change::Delete)?;
-    }
-    for (path, _) in source.as_slice() {
-        paths.set(path.copy(alloc)?, Change::Delete)?;
-    }
+    add_paths(alloc, &mut paths, base)?;
+    add_paths(alloc, &mut paths, source)?;
     Ok(paths)
+}
+
+// Adds the paths of a map, with a change at each that means nothing.
+fn add_paths(alloc: Global, paths: &mut Changes, map: &KeyMap) -> Result<(), NoMemory>
+    ensures { OnOk result (HasPathsToo paths.old map.now paths.new) }
+{
+    for (path, _) in map.as_slice() {
+        paths.set(path.copy(alloc)?, Change::Delete)?;
+    }
+    Ok(())
 }

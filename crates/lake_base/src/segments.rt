@@ -124,11 +124,17 @@ fn same_rows(rows: &[(Path, Entry)], others: &[(Path, Entry)]) -> bool
     if rows.len() != others.len() {
         return false;
     }
-    for (at, (path, entry)) in rows.iter().enumerate() {
-        let (other_path, other) = &others[at];
-        if path.as_slice() != other_path.as_slice() || !same_entry(entry, other) {
+    for (at, row) in rows.iter().enumerate() {
+        if !same_row(row, &others[at]) {
             return false;
         }
     }
     true
+}
+
+// Whether a path and its entry are equal.
+fn same_row(row: &(Path, Entry), other: &(Path, Entry)) -> bool
+    ensures { result ≡ same_row row.now other.now }
+{
+    row.0.as_slice() == other.0.as_slice() && same_entry(&row.1, &other.1)
 }

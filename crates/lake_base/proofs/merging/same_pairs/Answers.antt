@@ -1,0 +1,13 @@
+use Rattle.std.proofs.Common.{sym, refl, ◌∙◌, ap, subst, ◌≤◌, length, arith, ◌&&◌, drop, ◌+◌}
+use Rattle.std.specs.Cmp.Lexicographic.{pointwise}
+use Rattle.lake_base.specs.Sameness.{same_pair}
+use Rattle.lake_base.proofs.Same.{lengths_differ, same_next, same_end}
+use Rattle.lake_base.proofs.merging.same_pairs.Goals as goal
+
+pub loop-at-init : goal.loop-at-init
+loop-at-init c = record { lengths = c.if-pairs-others.false; rest = refl }
+
+pub returns : goal.returns
+returns c =
+    sym (c.loop-at.invariant.rest
+    ∙ same_end same_pair c.loop-at.at c.args.pairs.now c.args.others.now c.loop-at-test.false (omega (arith, c.loop-at.invariant.lengths)))
