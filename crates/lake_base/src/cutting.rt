@@ -8,8 +8,10 @@
 //! ```
 //!
 //! With less room the rows between two break keys are cut into several ranges.
-ghost use Rattle.std.specs.Prelude.{◌≡◌, ◌<◌, length, take, drop, nat_le};
+ghost use Rattle.std.specs.Prelude.{◌≡◌, ◌-◌, ◌<◌, ◌≤◌, not, length, take, drop, nat_le};
+ghost use Rattle.std.specs.List.{list_all};
 ghost use Rattle.lake_base.specs.Cutting.{fnv1a, is_break, row_bytes, is_range, first_len};
+ghost use Rattle.lake_base.specs.Entry.{IsPlace};
 ghost use Rattle.lake_base.specs.Spelling.{row_spelling, place_spelling, pairs_spelling};
 
 use crate::entry::{Entry, Place};
@@ -31,6 +33,7 @@ pub const USUAL_CUT: Cut = Cut {
 };
 
 /// FNV-1a of 64 bits (Fowler, Noll and Vo). It takes no memory.
+#[tactic(auto, unfolding(crate::specs::Cutting::fnv1a))]
 pub fn fnv1a(bytes: &[u8]) -> u64
     ensures { result ≡ fnv1a bytes.now }
 {
@@ -82,12 +85,23 @@ fn is_range(rows: &[(Path, Entry)], cut: &Cut) -> bool
     requires { 0 < cut.now.modulus }
     ensures { result ≡ is_range cut.now rows.now }
 {
-    if let Some((_, front)) = rows.split_last() {
-        if front.iter().any(|row| is_break(&row.0, cut)) {
-            return false;
-        }
-    }
-    rows.len() <= 1 || has_room(rows, cut.max_bytes)
+    goes_on(rows, cut) && (rows.len() <= 1 || has_room(rows, cut.max_bytes))
+}
+
+// Whether there is no break key before the last row.
+fn goes_on(rows: &[(Path, Entry)], cut: &Cut) -> bool
+    requires { 0 < cut.now.modulus }
+    ensures { result ≡ list_all (λ row. not (is_break cut.now row.0)) (take (length rows.now - 1) rows.now) }
+{
+    rows.is_empty() || has_no_break(&rows[..rows.len() - 1], cut)
+}
+
+// Whether there is no break key.
+fn has_no_break(rows: &[(Path, Entry)], cut: &Cut) -> bool
+    requires { 0 < cut.now.modulus }
+    ensures { result ≡ list_all (λ row. not (is_break cut.now row.0)) rows.now }
+{
+    rows.iter().all(|row| !is_break(&row.0, cut))
 }
 
 // Whether the rows have at most so many bytes.
@@ -106,22 +120,35 @@ fn has_room(rows: &[(Path, Entry)], most: u64) -> bool
 
 // How many bytes a place has.
 fn place_len(place: &Place) -> u64
-    ensures { result ≡ length (place_spelling place.now) }
+    requires { IsPlace place.now }
+    ensures bytes { result ≡ length (place_spelling place.now) }
+    ensures few { result ≤ 2181 }
 {
     match place {
-        Place::Own { .. } => 41,
+        Place::Own { digest, .. } => 9 + digest_len(&digest.0),
         Place::External { at, checksum } => {
             5 + at.as_slice().len() as u64 + checksum.as_slice().len() as u64
         }
     }
 }
 
+// How many bytes a digest has: 32.
+fn digest_len(digest: &[u8]) -> u64
+    requires { length digest.now ≡ 32 }
+    ensures bytes { result ≡ length digest.now }
+    ensures few { result ≡ 32 }
+{
+    digest.len() as u64
+}
+
 // How many bytes metadata has.
 fn pairs_len(pairs: &Pairs) -> u64
-    ensures { result ≡ length (pairs_spelling pairs.now) }
+    ensures bytes { result ≡ length (pairs_spelling pairs.now) }
+    ensures few { result ≤ 73986 }
 {
+    let pairs = pairs.as_slice();
     let mut len = 2;
-    for (key, value) in pairs.as_slice() {
+    for (key, value) in pairs {
         len += 4 + key.as_slice().len() as u64 + value.as_slice().len() as u64;
     }
     len

@@ -27,6 +27,7 @@ use crate::spelling::put_entry;
 use std::alloc::Global;
 
 /// The one spelling of a range of these rows. There is at least one row, and fewer than 2^32.
+#[tactic(auto, unfolding(crate::specs::Spelling::range_spelling))]
 pub fn range_bytes(alloc: Global, rows: &[(Path, Entry)]) -> Result<Vec<u8>, NoMemory>
     requires some { 0 < length rows.now }
     requires few { length rows.now < 2 ^ 32 }
@@ -35,15 +36,32 @@ pub fn range_bytes(alloc: Global, rows: &[(Path, Entry)]) -> Result<Vec<u8>, NoM
     let mut out = Vec::new(alloc);
     out.push(1)?;
     out.extend_from_slice(&(rows.len() as u32).to_be_bytes())?;
-    for (path, entry) in rows {
-        put_text(&mut out, path.as_slice())?;
-        put_entry(&mut out, entry)?;
-    }
+    put_rows(&mut out, rows)?;
     Ok(out)
+}
+
+// Appends rows.
+fn put_rows(out: &mut Vec<u8>, rows: &[(Path, Entry)]) -> Result<(), NoMemory>
+    ensures { OnOk result (out.new.items ≡ out.old.items ++ flat_map row_spelling rows.now) }
+{
+    for (path, entry) in rows {
+        put_row(out, path, entry)?;
+    }
+    Ok(())
+}
+
+// Appends a row.
+fn put_row(out: &mut Vec<u8>, path: &Path, entry: &Entry) -> Result<(), NoMemory>
+    ensures { OnOk result (out.new.items ≡ out.old.items ++ row_spelling (path.now, entry.now)) }
+{
+    put_text(out, path.as_slice())?;
+    put_entry(out, entry)?;
+    Ok(())
 }
 
 /// Appends what a metarange says of a range of these rows, whose file has this digest. There is at least one
 /// row, and fewer than 2^32.
+#[tactic(auto, unfolding(crate::specs::Spelling::range_line))]
 pub fn put_range_line(
     out: &mut Vec<u8>,
     name: &Digest,
@@ -62,6 +80,7 @@ pub fn put_range_line(
 }
 
 /// The one spelling of a commit.
+#[tactic(auto, unfolding(crate::specs::Spelling::commit_spelling))]
 pub fn commit_bytes(alloc: Global, commit: &CommitRecord) -> Result<Vec<u8>, NoMemory>
     ensures { IfOk result (λ bytes. bytes.items ≡ commit_spelling commit.now) }
 {
