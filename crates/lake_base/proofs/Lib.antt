@@ -1,10 +1,13 @@
 pub mod Applied
 pub mod Ascending
+pub mod Bases
 pub mod Cuts
 pub mod EntryLaws
 pub mod FieldLaws
 pub mod Fronts
+pub mod Graphs
 pub mod Hexes
+pub mod Kept
 pub mod Lasts
 pub mod Listed
 pub mod Merges
@@ -12,7 +15,10 @@ pub mod Moments
 pub mod Paging
 pub mod PairLists
 pub mod PairsLoop
+pub mod Patterns
+pub mod Reached
 pub mod RowLens
 pub mod Runs
 pub mod Same
 pub mod TreeFiles
+pub mod Walks
