@@ -1,5 +1,5 @@
 -- Which names a pattern matches, by its first byte; and which keys metadata lacks.
-use Rattle.std.proofs.Common.{◌≡◌, ℕ, zero, suc, ◌+◌, ◌<◌, ◌≤◌, Bool, true, false, not, cond, Some, List, [], ◌∷◌, length, drop, ◌||◌, ◌&&◌, refl, sym, ap, ◌∙◌, arith}
+use Rattle.std.proofs.Common.{◌≡◌, ℕ, zero, suc, ◌≤◌, Bool, true, false, not, cond, Some, List, [], ◌∷◌, length, drop, ◌||◌, ◌&&◌, refl, sym, ap, ◌∙◌, arith}
 use Rattle.std.specs.Bool.{◌==◌}
 use Rattle.std.specs.FinMap.{find}
 use Rattle.std.specs.List.{list_any, list_all}

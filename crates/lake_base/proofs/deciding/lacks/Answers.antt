@@ -1,10 +1,7 @@
-use Rattle.std.proofs.Common.{not, ap, ◌∙◌, rules, tests}
-use Rattle.std.specs.FinMap.{find}
-use Rattle.std.specs.Option.{is_none}
+use Rattle.std.proofs.Common.{not, ◌∙◌, rules, tests}
 use Rattle.std.specs.Str.{bytes_eq}
 use Rattle.std.proofs.lemmas.Iterator.{YieldsList-from_slice}
 use Rattle.std.proofs.lemmas.Iterator.Search.{all_from_yields_List}
-use Rattle.lake_base.specs.Maps.{byte_order}
 use Rattle.lake_base.proofs.Patterns.{none_is}
 use Rattle.lake_base.proofs.deciding.lacks.Goals as goal
 
