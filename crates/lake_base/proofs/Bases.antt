@@ -11,7 +11,7 @@ use Rattle.std.proofs.lemmas.Cmp.{nat_list_cmp_total, tied_itself}
 use Rattle.std.proofs.lemmas.List.Elements.{AllWithin-more, at_read}
 use Rattle.lake_base.specs.Commit.{Commit}
 use Rattle.lake_base.specs.Maps.{byte_order}
-use Rattle.lake_base.specs.Ancestry.{Graph, graph_of, commit_of, parents, generation, due_after, IsDue, IsGraph, Reaches, IsReachedWithin, IsAncestor, IsCommon, comes_first, first_of, IsBase}
+use Rattle.lake_base.specs.Ancestry.{Graph, graph_of, commit_of, parents, generation, due_after, IsGraph, Reaches, IsReachedWithin, IsAncestor, IsCommon, comes_first, first_of, IsBase}
 use Rattle.lake_base.specs.declared.digest.Digest.{Digest}
 use Rattle.lake_base.proofs.Graphs.{parents_none, otherwise}
 use Rattle.lake_base.proofs.Reached.{differ, listed, within_contains}

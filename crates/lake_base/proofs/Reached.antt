@@ -1,18 +1,16 @@
 -- Which commits are reached, and within how many steps.
-use Rattle.std.proofs.Common.{◌≡◌, ℕ, zero, suc, ◌+◌, ◌-◌, ◌<◌, ◌≤◌, ◌↔◌, Bool, true, false, cond, List, [], ◌∷◌, length, get_or, Some, None, Option, refl, sym, ap, subst, ◌∙◌, arith, MatchBool}
+use Rattle.std.proofs.Common.{◌≡◌, ℕ, zero, suc, ◌+◌, ◌-◌, ◌<◌, ◌≤◌, ◌↔◌, Bool, true, false, List, [], ◌∷◌, length, get_or, refl, sym, ap, subst, ◌∙◌, arith, MatchBool}
 use Rattle.std.specs.Bool.{IsTrue}
 use Rattle.std.specs.Option.{IsSome, is_some}
-use Rattle.std.specs.Ordering.{eq_by_cmp}
 use Rattle.std.specs.Str.{bytes_eq}
 use Rattle.std.specs.List.{Contains, AllWithin, HoldsAt}
 use Rattle.std.proofs.lemmas.List.{get_or_default}
 use Rattle.std.proofs.lemmas.List.Elements.{Contains-get_or, AllWithin-more, at_read}
 use Rattle.std.proofs.lemmas.Slice.Eq.{bytes_eq-Decides}
 use Rattle.lake_base.specs.Commit.{Commit}
-use Rattle.lake_base.specs.Maps.{byte_order}
-use Rattle.lake_base.specs.Ancestry.{Graph, graph_of, commit_of, parents, generation, due_after, IsDue, IsGraph, Reaches, IsReachedWithin, IsAncestor}
+use Rattle.lake_base.specs.Ancestry.{Graph, graph_of, commit_of, parents, IsDue, IsGraph, Reaches, IsReachedWithin}
 use Rattle.lake_base.specs.declared.digest.Digest.{Digest}
-use Rattle.lake_base.proofs.Graphs.{first_is, first_not, no_commit, parents_none}
+use Rattle.lake_base.proofs.Graphs.{first_is, first_not, no_commit}
 
 pub differ : true ≡ false → ⊥
 differ e = cc

@@ -1,5 +1,5 @@
 -- What the settings of a repository refuse: protected branches, and hooks.
-use Rattle.std.specs.Prelude.{◌≡◌, ◌==◌, ◌&&◌, ◌||◌, false, true, ℕ, Bool, List, [], ◌∷◌, nat_eq, nat_lt, is_none, position, Option, if◌then◌else◌}
+use Rattle.std.specs.Prelude.{◌==◌, ◌&&◌, false, true, ℕ, Bool, List, [], ◌∷◌, nat_eq, nat_lt, is_none, position, Option, if◌then◌else◌}
 use Rattle.std.specs.List.{list_any, starts_with}
 use Rattle.std.specs.FinMap.{find, entries, len}
 use Rattle.lake_base.specs.KeyMap.{Edits}

@@ -1,6 +1,5 @@
-use Rattle.std.proofs.Common.{◌≡◌, ◌<◌, ◌≤◌, ℕ, false, drop, length, sym, subst, ap, ◌∙◌, arith, below_more}
+use Rattle.std.proofs.Common.{◌≡◌, ◌≤◌, false, drop, length, sym, ap, ◌∙◌, arith, below_more}
 use Rattle.lake_base.specs.Deciding.{matches}
-use Rattle.lake_base.proofs.Graphs.{otherwise}
 use Rattle.lake_base.proofs.Patterns.{nothing_left, star_found, star_never, byte_there, byte_other, byte_missing}
 use Rattle.lake_base.proofs.deciding.+matches.Goals as goal
 
