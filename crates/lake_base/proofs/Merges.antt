@@ -260,7 +260,7 @@ module _ (base source dest : Objects) where
   conflicts_all paths items i past is of found so_far =
       let all : found ≡ filter conflicts_at (keys paths) = so_far ∙ ap conflicting (take_all i items past ∙ is) in
       let any : (q : List ℕ) → list_any (ties q) (filter conflicts_at (keys paths)) ≡ (conflicts_at q && list_any (ties q) (keys paths)) = λ q.
-          any-filter_same (ties q) conflicts_at (conflicts_at q) (λ k t. ap conflicts_at (sym (same_path q k t))) (keys paths) in
+      any-filter_same (ties q) conflicts_at (conflicts_at q) (λ k t. ap conflicts_at (sym (same_path q k t))) (keys paths) in
       subst (AreConflicts base source dest) (sym all) (record {
         ascending = IsStrictlySortedBy-filter byte_order conflicts_at (keys paths) (keys_ascend (entries paths) (entries_sorted paths));
         all = λ q. (

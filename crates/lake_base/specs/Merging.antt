@@ -1,5 +1,5 @@
 -- The three-way merge of key maps, path by path (lakeFS documentation, merge).
-use Rattle.std.specs.Prelude.{◌≡◌, ◌↔◌, ◌||◌, ℕ, Bool, true, List, [], ◌∷◌, ◌++◌, Option, Some, None, if◌then◌else◌}
+use Rattle.std.specs.Prelude.{◌≡◌, ◌↔◌, ◌||◌, ℕ, List, [], ◌∷◌, ◌++◌, Option, Some, None, if◌then◌else◌}
 use Rattle.std.specs.FinMap.{get, insert, remove, keys, contains_key}
 use Rattle.std.specs.List.{Contains}
 use Rattle.lake_base.specs.Entry.{Object}

@@ -1,4 +1,3 @@
-use Rattle.std.proofs.Common.{◌≡◌, ◌||◌, Bool, true, false, refl}
 use Rattle.std.specs.FinMap.{contains_key}
 use Rattle.lake_base.specs.declared.entry.Change.TheVariants.{Delete}
 use Rattle.lake_base.proofs.Merges.{or_nothing, paths_next, paths_all}

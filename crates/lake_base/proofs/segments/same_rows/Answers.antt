@@ -1,7 +1,6 @@
-use Rattle.std.proofs.Common.{sym, refl, ◌∙◌, ap, subst, ◌≤◌, length, arith, ◌&&◌, drop, ◌+◌}
-use Rattle.std.specs.Cmp.Lexicographic.{pointwise}
+use Rattle.std.proofs.Common.{sym, refl, ◌∙◌, arith}
 use Rattle.lake_base.specs.Sameness.{same_row}
-use Rattle.lake_base.proofs.Same.{lengths_differ, same_next, same_end}
+use Rattle.lake_base.proofs.Same.{same_end}
 use Rattle.lake_base.proofs.segments.same_rows.Goals as goal
 
 pub loop-at-init : goal.loop-at-init
