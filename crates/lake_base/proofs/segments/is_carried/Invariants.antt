@@ -4,8 +4,10 @@ use Rattle.lake_base.specs.Cutting.{placed, segments, placed_segments, same_segm
 use Rattle.lake_base.proofs.segments.is_carried.Given as goal
 
 -- the rest has such a segment just where all the old rows have one
-abbrev pub invariant-loop-rest : goal.invariant-loop-rest
-invariant-loop-rest l = ?
+abbrev pub invariant-loop-other_before : goal.invariant-loop-other_before
+invariant-loop-other_before l = 
+    list_any (same_segment (option_copied l.before, l.segment)) (placed (option_copied l.other_before) (segments l.cut l.rest))
+    ≡ list_any (same_segment (option_copied l.before, l.segment)) (placed_segments l.cut l.fn.old)
 
-abbrev pub decreases-loop-rest : goal.decreases-loop-rest
-decreases-loop-rest l = length l.rest
+abbrev pub decreases-loop-other_before : goal.decreases-loop-other_before
+decreases-loop-other_before l = length l.rest
