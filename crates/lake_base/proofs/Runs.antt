@@ -5,7 +5,7 @@ use Rattle.std.proofs.lemmas.List.Sums.{sum_by-cons}
 use Rattle.std.proofs.lemmas.Bool.{cases_Bool, and_parts, not-true}
 use Rattle.lake_base.specs.Entry.{Object}
 use Rattle.lake_base.specs.declared.cutting.Cut.{Cut}
-use Rattle.lake_base.specs.Cutting.{is_break, segments, before_segments, last_path, placed, ranges}
+use Rattle.lake_base.specs.Cutting.{is_break, segments, before_segments, last_path, placed, placed_segments, same_segment, ranges}
 
 abbrev Row : Type 0
 Row = List ℕ × Object
@@ -110,3 +110,21 @@ pub passed_over : (test : Placed → Bool) (cut : Cut) (before : Option (List �
     → test (before, front) ≡ false → passed test cut before rows ≡ passed test cut (last_path before front) rest
 passed_over test cut before rows front rest e is =
     ap (λ ss. sum_by (λ segment. length (ranges cut segment.1)) (filter test (placed before ss))) e ∙ rw is refl
+
+-- a segment that isn't carried over
+abbrev pub changed : Cut → List Row → Placed → Bool
+changed cut old segment = not (list_any (same_segment segment) (placed_segments cut old))
+
+pub changed_more : (cut : Cut) (old : List Row) (before after : Option (List ℕ)) (rows front rest : List Row) (carried : Bool) → segments cut rows ≡ front ∷ segments cut rest
+    → carried ≡ list_any (same_segment (before, front)) (placed_segments cut old) → carried ≡ false → after ≡ last_path before front
+    → passed (changed cut old) cut before rows ≡ length (ranges cut front) + passed (changed cut old) cut after rest
+changed_more cut old before after rows front rest carried e is not_carried after-is =
+    passed_more (changed cut old) cut before rows front rest e (ap not (sym is ∙ not_carried))
+    ∙ ap (λ b. length (ranges cut front) + passed (changed cut old) cut b rest) (sym after-is)
+
+pub changed_over : (cut : Cut) (old : List Row) (before after : Option (List ℕ)) (rows front rest : List Row) (carried : Bool) → segments cut rows ≡ front ∷ segments cut rest
+    → carried ≡ list_any (same_segment (before, front)) (placed_segments cut old) → carried ≡ true → after ≡ last_path before front
+    → passed (changed cut old) cut before rows ≡ passed (changed cut old) cut after rest
+changed_over cut old before after rows front rest carried e is over after-is =
+    passed_over (changed cut old) cut before rows front rest e (ap not (sym is ∙ over))
+    ∙ ap (λ b. passed (changed cut old) cut b rest) (sym after-is)
