@@ -1,9 +1,6 @@
-pub mod Runs
-pub mod TreeFiles
-pub mod Cuts
-pub mod RowLens
 pub mod Applied
 pub mod Ascending
+pub mod Cuts
 pub mod EntryLaws
 pub mod FieldLaws
 pub mod Fronts
@@ -15,4 +12,6 @@ pub mod Moments
 pub mod Paging
 pub mod PairLists
 pub mod PairsLoop
+pub mod Runs
 pub mod Same
+pub mod TreeFiles

@@ -1,4 +1,4 @@
-use Rattle.std.proofs.Common.{◌≡◌, ◌+◌, suc, List, [], ◌∷◌, ℕ, true, length, take, drop, get_or, ap, sym, ◌∙◌, add-one, arith}
+use Rattle.std.proofs.Common.{◌≡◌, ◌+◌, [], ◌∷◌, true, length, take, drop, ap, sym, ◌∙◌, add-one, arith}
 use Rattle.std.proofs.lemmas.List.{take_all, drop_all}
 use Rattle.lake_base.specs.Cutting.{segments, is_break}
 use Rattle.lake_base.proofs.Runs.{unbroken, segment_at, segment_whole}

@@ -1,4 +1,4 @@
-use Rattle.std.proofs.Common.{◌<◌, length, arith}
+use Rattle.std.proofs.Common.{arith}
 use Rattle.lake_base.proofs.Runs.{parted}
 use Rattle.lake_base.proofs.segments.is_carried.Goals as goal
 

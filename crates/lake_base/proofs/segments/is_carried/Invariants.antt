@@ -5,7 +5,7 @@ use Rattle.lake_base.proofs.segments.is_carried.Given as goal
 
 -- the rest has such a segment just where all the old rows have one
 abbrev pub invariant-loop-other_before : goal.invariant-loop-other_before
-invariant-loop-other_before l = 
+invariant-loop-other_before l =
     list_any (same_segment (option_copied l.before, l.segment)) (placed (option_copied l.other_before) (segments l.cut l.rest))
     ≡ list_any (same_segment (option_copied l.before, l.segment)) (placed_segments l.cut l.fn.old)
 
