@@ -17,7 +17,6 @@ pub mod PairLists
 pub mod PairsLoop
 pub mod Patterns
 pub mod Reached
-pub mod RowLens
 pub mod Runs
 pub mod Same
 pub mod TreeFiles

@@ -1,5 +1,5 @@
 -- What one call after another appends, and the files of a tree, range by range.
-use Rattle.std.proofs.Common.{◌≡◌, ℕ, zero, suc, ◌+◌, ◌<◌, ◌≤◌, List, [], ◌∷◌, ◌++◌, length, get_or, take, drop, map, refl, sym, ap, ◌∙◌, append_assoc, arith}
+use Rattle.std.proofs.Common.{◌≡◌, ℕ, zero, suc, ◌+◌, ◌<◌, List, [], ◌∷◌, ◌++◌, length, get_or, take, map, refl, sym, ap, ◌∙◌, append_assoc, arith}
 use Rattle.std.specs.Int.{w32, to_be_bytes}
 use Rattle.std.specs.List.{flat_map}
 use Rattle.std.proofs.lemmas.List.{take_more, append-nil, map-append}
@@ -27,8 +27,8 @@ nine head root generation date count parents committer len message metadata all 
 pub flat_more : {X : Type 0} (f : X → List ℕ) (out old new : List ℕ) (xs : List X) (i : ℕ) (x : X) → i < length xs → x ≡ get_or xs i x → old ≡ out ++ flat_map f (take i xs) → new ≡ old ++ f x → new ≡ out ++ flat_map f (take (i + 1) xs)
 flat_more f out old new xs i x lt is written more =
     let one : flat_map f (take (i + 1) xs) ≡ flat_map f (take i xs) ++ f x =
-        ap (flat_map f) (take_more xs i x lt) ∙ flat_map-append f (take i xs) (get_or xs i x ∷ [])
-        ∙ ap (λ b. flat_map f (take i xs) ++ b) (append-nil (f (get_or xs i x)) ∙ ap f (sym is)) in
+    ap (flat_map f) (take_more xs i x lt) ∙ flat_map-append f (take i xs) (get_or xs i x ∷ [])
+    ∙ ap (λ b. flat_map f (take i xs) ++ b) (append-nil (f (get_or xs i x)) ∙ ap f (sym is)) in
     more ∙ ap (λ b. b ++ f x) written ∙ append_assoc out (flat_map f (take i xs)) (f x) ∙ ap (λ b. out ++ b) (sym one)
 
 -- the path at a place

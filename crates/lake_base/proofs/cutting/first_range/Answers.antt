@@ -1,4 +1,4 @@
-use Rattle.std.proofs.Common.{◌≡◌, ◌∙◌, ap, sym, take, drop, true, false, not}
+use Rattle.std.proofs.Common.{◌≡◌, ◌∙◌, ap, sym, take, drop, true}
 use Rattle.lake_base.specs.Cutting.{is_range}
 use Rattle.lake_base.proofs.Cuts.{first_is}
 use Rattle.lake_base.proofs.cutting.first_range.Goals as goal

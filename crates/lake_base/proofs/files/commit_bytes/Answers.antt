@@ -1,4 +1,4 @@
-use Rattle.std.proofs.Common.{◌≡◌, ℕ, List, [], ◌∷◌, ap, ◌∙◌, ◌++◌, length}
+use Rattle.std.proofs.Common.{[], ◌∷◌, ap, ◌∙◌, ◌++◌, length}
 use Rattle.std.specs.Int.{w16, w32, w64, to_be_bytes}
 use Rattle.std.specs.List.{flat_map}
 use Rattle.lake_base.specs.Spelling.{commit_spelling, short_text, pairs_spelling}

@@ -1,4 +1,4 @@
-use Rattle.std.proofs.Common.{◌≡◌, ◌<◌, ◌≤◌, ℕ, List, ◌∷◌, ◌++◌, length, map, ap, sym, ◌∙◌, arith}
+use Rattle.std.proofs.Common.{◌∷◌, ◌++◌, length, map, ap, ◌∙◌, arith}
 use Rattle.std.specs.Int.{w32, to_be_bytes}
 use Rattle.std.specs.List.{flat_map}
 use Rattle.std.proofs.lemmas.List.{length_push}
@@ -37,10 +37,10 @@ loop-rest-preserved c =
       few = omega arith;
       counted = omega arith;
       made = ap (λ done. map (λ file. file.items) done ++ map range_spelling (ranges cut left)) c.in_ok-push.ensures.items
-        ∙ made_more range_spelling (λ file. file.items) c.loop-rest.ranges.items c.in_ok-bytes.bytes front (ranges cut rest) (ranges cut left) (map range_spelling (ranges cut c.as_slice-rest.result.now))
+          ∙ made_more range_spelling (λ file. file.items) c.loop-rest.ranges.items c.in_ok-bytes.bytes front (ranges cut rest) (ranges cut left) (map range_spelling (ranges cut c.as_slice-rest.result.now))
           c.loop-rest.invariant.made first.cons c.in_ok-bytes.ensures;
       said = said_more range_line c.loop-rest.lines.items c.put_range_line.new.out.items front (ranges cut rest) (ranges cut left) (flat_map range_line (ranges cut c.as_slice-rest.result.now))
-        c.loop-rest.invariant.said first.cons c.in_ok-put_range_line.ensures;
+          c.loop-rest.invariant.said first.cons c.in_ok-put_range_line.ensures;
     }
 
 pub overflow_cast-len : goal.overflow_cast-len
@@ -55,7 +55,7 @@ returns c =
     let rows = c.as_slice-rest.result.now in
     ap (map (λ file. file.items)) c.in_ok-insert.ensures.items
     ∙ tree_is (λ file. file.items) cut rows c.loop-rest.rest.now c.loop-rest.ranges.items c.in_ok-metarange.metarange c.loop-rest.lines.items c.len.result
-      (none_left c.loop-rest.rest.now c.is_empty.result c.is_empty.ensures c.loop-rest-test.false)
-      c.loop-rest.invariant.counted c.loop-rest.invariant.made c.loop-rest.invariant.said (omega arith)
-      (c.in_ok-metarange.ensures ∙ ap (λ l. 1 ∷ (to_be_bytes w32 c.len.result ++ l)) c.as_slice-2.ensures.value)
+    (none_left c.loop-rest.rest.now c.is_empty.result c.is_empty.ensures c.loop-rest-test.false)
+    c.loop-rest.invariant.counted c.loop-rest.invariant.made c.loop-rest.invariant.said (omega arith)
+    (c.in_ok-metarange.ensures ∙ ap (λ l. 1 ∷ (to_be_bytes w32 c.len.result ++ l)) c.as_slice-2.ensures.value)
     ∙ ap (λ r. metarange_spelling (ranges cut r) ∷ map range_spelling (ranges cut r)) c.as_slice-rest.ensures

@@ -1,4 +1,4 @@
-use Rattle.std.proofs.Common.{◌≡◌, ℕ, List, ap, ◌∙◌, ◌++◌, ◌-◌, ◌<◌, length, arith}
+use Rattle.std.proofs.Common.{◌≡◌, ap, ◌∙◌, ◌++◌, ◌-◌, length, arith}
 use Rattle.std.specs.Int.{w32, to_be_bytes}
 use Rattle.lake_base.specs.Digest.{sha256}
 use Rattle.lake_base.specs.Spelling.{range_spelling, range_line, short_text, path_at}

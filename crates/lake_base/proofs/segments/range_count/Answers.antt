@@ -1,12 +1,12 @@
-use Rattle.std.proofs.Common.{◌≡◌, ◌<◌, ◌≤◌, length, ap, arith}
+use Rattle.std.proofs.Common.{length, ap, arith}
 use Rattle.lake_base.specs.Cutting.{ranges}
-use Rattle.lake_base.proofs.Cuts.{IsFirst, first_of, ranges_few, ranges_none, some_left, none_left}
+use Rattle.lake_base.proofs.Cuts.{first_of, ranges_few, ranges_none, some_left, none_left}
 use Rattle.lake_base.proofs.segments.range_count.Goals as goal
 
 pub overflow_add-count : goal.overflow_add-count
 overflow_add-count c =
     let first = first_of c.args.cut.now c.loop-rest.rest.now c.first_range.result.0.now c.first_range.result.1.now (some_left c.loop-rest.rest.now c.is_empty.result c.is_empty.ensures c.loop-rest-test.true)
-        c.first_range.ensures.front c.first_range.ensures.rest in
+    c.first_range.ensures.front c.first_range.ensures.rest in
     let cons = ap length first.cons in
     let few = ranges_few c.args.cut.now c.args.rows.now in
     omega arith
@@ -19,7 +19,7 @@ loop-rest-smaller c =
 pub loop-rest-preserved : goal.loop-rest-preserved
 loop-rest-preserved c =
     let first = first_of c.args.cut.now c.loop-rest.rest.now c.first_range.result.0.now c.first_range.result.1.now (some_left c.loop-rest.rest.now c.is_empty.result c.is_empty.ensures c.loop-rest-test.true)
-        c.first_range.ensures.front c.first_range.ensures.rest in
+    c.first_range.ensures.front c.first_range.ensures.rest in
     let cons = ap length first.cons in
     omega arith
 
