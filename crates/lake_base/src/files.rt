@@ -61,7 +61,6 @@ fn put_row(out: &mut Vec<u8>, path: &Path, entry: &Entry) -> Result<(), NoMemory
 
 /// Appends what a metarange says of a range of these rows, whose file has this digest. There is at least one
 /// row, and fewer than 2^32.
-#[tactic(auto, unfolding(crate::specs::Spelling::range_line))]
 pub fn put_range_line(
     out: &mut Vec<u8>,
     name: &Digest,
@@ -80,7 +79,6 @@ pub fn put_range_line(
 }
 
 /// The one spelling of a commit.
-#[tactic(auto, unfolding(crate::specs::Spelling::commit_spelling))]
 pub fn commit_bytes(alloc: Global, commit: &CommitRecord) -> Result<Vec<u8>, NoMemory>
     ensures { IfOk result (λ bytes. bytes.items ≡ commit_spelling commit.now) }
 {
