@@ -20,7 +20,9 @@ fn resets_are_copied(rt: HostRuntime) -> Result<(), Fail> {
     let one = ResetWhat::Object(Path::read(alloc, b"a")?).copy(alloc)?;
     assert!(rt; matches!(&one, ResetWhat::Object(path) if path.as_slice() == b"a".as_slice()));
     let some = ResetWhat::Prefix(text(alloc, b"p/")?).copy(alloc)?;
-    assert!(rt; matches!(&some, ResetWhat::Prefix(prefix) if prefix.as_slice() == b"p/".as_slice()));
+    assert!(rt;
+        matches!(&some, ResetWhat::Prefix(prefix) if prefix.as_slice() == b"p/".as_slice())
+    );
     Ok(())
 }
 
