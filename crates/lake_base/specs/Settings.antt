@@ -1,5 +1,5 @@
 -- The settings of a repository, and their limits.
-use Rattle.std.specs.Prelude.{◌≡◌, ◌≤◌, ◌<◌, ◌==◌, ◌||◌, ℕ, Bool, true, List, length}
+use Rattle.std.specs.Prelude.{◌≡◌, ◌≤◌, ◌==◌, ◌||◌, ℕ, Bool, true, List, length}
 use Rattle.std.specs.List.{AllByRecursion}
 use Rattle.lake_base.specs.Names.{is_digit, is_lower, is_upper}
 use Rattle.lake_base.specs.declared.settings.BranchDays.{BranchDays}

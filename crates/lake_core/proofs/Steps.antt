@@ -10,7 +10,8 @@ use Rattle.lake_model.specs.declared.history.By.{By}
 use Rattle.lake_model.specs.declared.history.HistoryEntry.{HistoryEntry}
 use Rattle.lake_model.specs.declared.history.EntryKind.TheVariants.{TicketTake, TicketDrop, Stage}
 use Rattle.lake_model.specs.declared.first.TheConstants.{FIRST_REPO, FIRST_BRANCH}
-use Rattle.lake_model.specs.State.{Named, Branch, State, only, fresh}
+use Rattle.lake_base.specs.Maps.{ByteMap}
+use Rattle.lake_model.specs.State.{Branch, State, only, fresh}
 use Rattle.lake_model.specs.After.{after, replay, put_number, without}
 use Rattle.lake_model.specs.Legal.{Condition, IsLegal, HasTicket}
 use Rattle.lake_model.specs.Reply.{full_refusal, branch_refusal, version_refusal, ◌orelse◌, unless_refused, ticket_reply, drop_reply, stage_reply, look_reply, found_in, shown_by}
@@ -25,18 +26,18 @@ use Rattle.lake_model.proofs.Refused.{room, there, refused-next}
 use Rattle.lake_model.proofs.Replay.{replay-push, IsLegal-push}
 
 -- the state of these fields, under a history of so many entries
-abbrev pub plain : Named Change → ℕ → FinMap nat_cmp ℕ → ℕ → State
+abbrev pub plain : ByteMap Change → ℕ → FinMap nat_cmp ℕ → ℕ → State
 plain staged number tickets count = record { repositories = only staged; next_number = number; tickets = tickets; entries = count }
 
 -- the history is legal, and leads to the state of these fields
-abbrev pub Leads : List HistoryEntry → Named Change → ℕ → FinMap nat_cmp ℕ → Type 0
+abbrev pub Leads : List HistoryEntry → ByteMap Change → ℕ → FinMap nat_cmp ℕ → Type 0
 Leads items staged number tickets = IsLegal fresh items × (replay fresh items ≡ plain staged number tickets (length items))
 
 one_more : (items : List HistoryEntry) (entry : HistoryEntry) → length items + 1 ≡ length (items ++ entry ∷ [])
 one_more items entry = omega (arith, length-append items (entry ∷ []))
 
 -- a history with one more entry leads to the state after it
-pushed : (items : List HistoryEntry) (entry : HistoryEntry) (staged next_staged : Named Change) (number next : ℕ) (tickets next_tickets : FinMap nat_cmp ℕ)
+pushed : (items : List HistoryEntry) (entry : HistoryEntry) (staged next_staged : ByteMap Change) (number next : ℕ) (tickets next_tickets : FinMap nat_cmp ℕ)
     → Leads items staged number tickets → full_refusal (replay fresh items) ≡ None → Condition (replay fresh items) entry.by.seat entry.kind
     → after (plain staged number tickets (length items)) entry ≡ plain next_staged next next_tickets (length items + 1)
     → Leads (items ++ entry ∷ []) next_staged next next_tickets
@@ -46,7 +47,7 @@ pushed items entry staged next_staged number next tickets next_tickets leads fre
 )
 
 -- a number is given out
-pub taken : (old now : List HistoryEntry) (staged : Named Change) (number : ℕ) (tickets next_tickets : FinMap nat_cmp ℕ) (by : By) (repo branch : List ℕ)
+pub taken : (old now : List HistoryEntry) (staged : ByteMap Change) (number : ℕ) (tickets next_tickets : FinMap nat_cmp ℕ) (by : By) (repo branch : List ℕ)
     → Leads old staged number tickets → full_refusal (replay fresh old) ≡ None → branch_refusal (replay fresh old) repo branch ≡ None
     → next_tickets ≡ insert tickets number by.seat → now ≡ old ++ record { by = by; kind = TicketTake repo branch number } ∷ []
     → Leads now staged (number + 1) next_tickets
@@ -57,7 +58,7 @@ taken old now staged number tickets next_tickets by repo branch leads free named
     (ap (λ t. plain staged (number + 1) t (length old + 1)) (sym put)))
 
 -- a ticket goes
-pub dropped : (old now : List HistoryEntry) (staged : Named Change) (next : ℕ) (tickets next_tickets : FinMap nat_cmp ℕ) (by : By) (number : ℕ)
+pub dropped : (old now : List HistoryEntry) (staged : ByteMap Change) (next : ℕ) (tickets next_tickets : FinMap nat_cmp ℕ) (by : By) (number : ℕ)
     → Leads old staged next tickets → full_refusal (replay fresh old) ≡ None → HasTicket (replay fresh old) by.seat number
     → next_tickets ≡ remove tickets number → now ≡ old ++ record { by = by; kind = TicketDrop number } ∷ []
     → Leads now staged next next_tickets
@@ -67,7 +68,7 @@ dropped old now staged next tickets next_tickets by number leads free may gone i
     (ap (λ t. plain staged next t (length old + 1)) (sym gone)))
 
 -- a change joins the staged ones
-pub staged : (old now : List HistoryEntry) (before after_it : Named Change) (next : ℕ) (tickets next_tickets : FinMap nat_cmp ℕ) (by : By) (repo branch path : List ℕ) (change : Change)
+pub staged : (old now : List HistoryEntry) (before after_it : ByteMap Change) (next : ℕ) (tickets next_tickets : FinMap nat_cmp ℕ) (by : By) (repo branch path : List ℕ) (change : Change)
     → Leads old before next tickets → full_refusal (replay fresh old) ≡ None → branch_refusal (replay fresh old) repo branch ≡ None
     → IfSome (put_number change) (HasTicket (replay fresh old) by.seat)
     → after_it ≡ insert before path change → next_tickets ≡ without (put_number change) tickets → now ≡ old ++ record { by = by; kind = Stage repo branch path change } ∷ []
@@ -109,11 +110,11 @@ stage_given state repo branch version at free named current is =
     ∙ ap (λ a. Ok a) (sym is)
 
 -- what a lake of one branch shows
-pub found-only : (state : State) (staged : Named Change) (repo branch path : List ℕ) → state.repositories ≡ only staged → branch_refusal state repo branch ≡ None
+pub found-only : (state : State) (staged : ByteMap Change) (repo branch path : List ℕ) → state.repositories ≡ only staged → branch_refusal state repo branch ≡ None
     → found_in state repo branch path ≡ shown_by (get staged path)
 found-only state staged repo branch path is named = ap (λ o. shown_by (option_and_then (λ (b : Branch). get b.staged path) o)) (there-only state staged repo branch is named)
 
-pub look_given : (state : State) (staged : Named Change) (repo branch path : List ℕ) (at : ℕ) (found : Option Object) → state.repositories ≡ only staged → branch_refusal state repo branch ≡ None
+pub look_given : (state : State) (staged : ByteMap Change) (repo branch path : List ℕ) (at : ℕ) (found : Option Object) → state.repositories ≡ only staged → branch_refusal state repo branch ≡ None
     → at ≡ state.entries → found ≡ shown_by (get staged path) → look_reply state repo branch path ≡ Ok (record { at = at; found = found; gone = false })
 look_given state staged repo branch path at found is named count shows =
     let seen : ℕ → Option Object → Result Seen StepFault = λ a f. Ok (record { at = a; found = f; gone = false }) in
@@ -122,7 +123,7 @@ look_given state staged repo branch path at found is named count shows =
     ∙ ap (λ a. seen a found) (sym count)
 
 -- what was staged at a path is shown there
-pub staged_shows : (old now : State) (before : Named Change) (repo branch path : List ℕ) (change : Change) → old.repositories ≡ only before → now.repositories ≡ only (insert before path change)
+pub staged_shows : (old now : State) (before : ByteMap Change) (repo branch path : List ℕ) (change : Change) → old.repositories ≡ only before → now.repositories ≡ only (insert before path change)
     → branch_refusal old repo branch ≡ None → found_in now repo branch path ≡ shown_by (Some change)
 staged_shows old now before repo branch path change was is named =
     let after_it = insert before path change in
@@ -141,7 +142,7 @@ pub tie_from : (name now first : List ℕ) (r b : Bool) → now ≡ name → r �
 tie_from name now first r b same is answer = ap (λ n. ties n first) (sym same) ∙ is_eq-slice_cmp now first ∙ not_false (bytes_eq now first) b (sym is ∙ answer)
 
 -- the refusal of what names a branch, from the ties of its names
-pub names_tell : (state : State) (staged : Named Change) (repo branch : List ℕ) (a b : Bool) → state.repositories ≡ only staged → ties repo FIRST_REPO.now ≡ a → ties branch FIRST_BRANCH.now ≡ b
+pub names_tell : (state : State) (staged : ByteMap Change) (repo branch : List ℕ) (a b : Bool) → state.repositories ≡ only staged → ties repo FIRST_REPO.now ≡ a → ties branch FIRST_BRANCH.now ≡ b
     → branch_refusal state repo branch ≡ cond a (cond b None (Some NoRef)) (Some NoRepo)
 names_tell state staged repo branch a b is first second =
     refusal-only state staged repo branch is

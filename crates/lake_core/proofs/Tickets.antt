@@ -40,11 +40,3 @@ pub one_gone : (entries now : List (ℕ × ℕ)) (number : ℕ) → ((q : ℕ) �
     → from_entries {R = nat_cmp} now ≡ remove (from_entries entries) number
 one_gone entries now number h = same_map nat_cmp_total nat_cmp-IsAntisymmetric _ _ (λ q.
     get_seat now q ∙ h q ∙ turned entries number q None ∙ sym (get-remove nat_cmp_total (from_entries entries) number q))
-
--- a number that was taken is on a ticket of the seat
-pub on_ticket : (old now : List HistoryEntry) (by : By) (repo branch : List ℕ) (number : ℕ) → now ≡ old ++ record { by = by; kind = TicketTake repo branch number } ∷ [] → HasTicket (replay fresh now) by.seat number
-on_ticket old now by repo branch number is =
-    let state = replay fresh old in
-    let held : get (insert state.tickets number by.seat) number ≡ Some by.seat =
-    get-insert nat_cmp_total state.tickets number by.seat number ∙ ap (λ b. cond b (Some by.seat) (get state.tickets number)) ((eq_by_cmp_equiv nat_cmp_total).refl number) in
-    subst (λ (s : State). HasTicket s by.seat number) (sym (ap (replay fresh) is ∙ replay-push fresh old (record { by = by; kind = TicketTake repo branch number }))) held

@@ -7,7 +7,8 @@ use Rattle.std.specs.Ordering.{nat_cmp, eq_by_cmp}
 use Rattle.std.specs.Cmp.{Equal-is}
 use Rattle.std.specs.Cmp.Lexicographic.{slice_cmp, nat_list_cmp_total}
 use Rattle.lake_base.specs.declared.entry.Change.{Change}
-use Rattle.lake_model.specs.State.{Named, Branch, Repository, State, branch_of}
+use Rattle.lake_base.specs.Maps.{ByteMap}
+use Rattle.lake_model.specs.State.{Branch, Repository, State, branch_of}
 use Rattle.lake_model.specs.After.{changed_at, staged_in}
 
 -- an answer of `and_then` came of a value
@@ -16,7 +17,7 @@ and_then_some f None y h = absurd cc
 and_then_some f (Some x) y h = (x, refl, h)
 
 -- what a map has after an insert is what was put, or stood there
-pub insert_cases : {X : Type 0} (map : Named X) (name : List ℕ) (x : X) (q : List ℕ) (y : X) → get (insert map name x) q ≡ Some y
+pub insert_cases : {X : Type 0} (map : ByteMap X) (name : List ℕ) (x : X) (q : List ℕ) (y : X) → get (insert map name x) q ≡ Some y
     → ((y ≡ x) × (get map name ≡ get map q)) ⊎ (get map q ≡ Some y)
 insert_cases {X = X} map name x q y h =
     let e : cond (eq_by_cmp (slice_cmp nat_cmp) q name) (Some x) (get map q) ≡ Some y = sym (get-insert nat_list_cmp_total map name x q) ∙ h in
@@ -26,7 +27,7 @@ insert_cases {X = X} map name x q y h =
     ] refl e
 
 -- what stands under a name after a change stood there, or is the change of what did
-pub changed_cases : {X : Type 0} (name : List ℕ) (change : X → X) (map : Named X) (q : List ℕ) (y : X) → get (changed_at name change map) q ≡ Some y
+pub changed_cases : {X : Type 0} (name : List ℕ) (change : X → X) (map : ByteMap X) (q : List ℕ) (y : X) → get (changed_at name change map) q ≡ Some y
     → (get map q ≡ Some y) ⊎ ((x : X) × (get map q ≡ Some x) × (y ≡ change x))
 changed_cases {X = X} name change map q y h =
     elim (get map name) as (λ o. get map name ≡ o → get (option_map_or (λ x. insert map name (change x)) o map) q ≡ Some y → (get map q ≡ Some y) ⊎ ((x : X) × (get map q ≡ Some x) × (y ≡ change x))) [

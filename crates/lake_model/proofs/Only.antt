@@ -8,7 +8,8 @@ use Rattle.std.specs.Ordering.{nat_cmp, eq_by_cmp}
 use Rattle.std.specs.Cmp.Lexicographic.{slice_cmp, nat_list_cmp_total}
 use Rattle.lake_base.specs.declared.entry.Change.{Change}
 use Rattle.lake_model.specs.declared.first.TheConstants.{FIRST_REPO, FIRST_BRANCH}
-use Rattle.lake_model.specs.State.{Named, Branch, Repository, State, branch_of, only}
+use Rattle.lake_base.specs.Maps.{ByteMap}
+use Rattle.lake_model.specs.State.{Branch, Repository, State, branch_of, only}
 use Rattle.lake_model.specs.After.{changed_at, staged_in}
 use Rattle.lake_model.specs.Reply.{branch_refusal}
 use Rattle.lake_model.specs.declared.reply.StepFault.TheVariants.{NoRepo, NoRef}
@@ -25,11 +26,11 @@ names_apart = slice_cmp-IsAntisymmetric nat_cmp-IsAntisymmetric
 get-one : {X : Type 0} (name : List ℕ) (x : X) (q : List ℕ) → get (insert {R = slice_cmp nat_cmp} empty name x) q ≡ cond (ties q name) (Some x) None
 get-one name x q = get-insert nat_list_cmp_total empty name x q ∙ ap (cond (ties q name) (Some x)) (get-empty (slice_cmp nat_cmp) q)
 
-abbrev branch_in : Named Repository → List ℕ → List ℕ → Option Branch
+abbrev branch_in : ByteMap Repository → List ℕ → List ℕ → Option Branch
 branch_in repositories repo branch = option_and_then (λ (r : Repository). get r.branches branch) (get repositories repo)
 
 -- the branch is there under its names alone
-pub branch-only : (staged : Named Change) (repo branch : List ℕ)
+pub branch-only : (staged : ByteMap Change) (repo branch : List ℕ)
     → branch_in (only staged) repo branch ≡ cond (ties repo FIRST_REPO.now) (cond (ties branch FIRST_BRANCH.now) (Some (record { staged = staged })) None) None
 branch-only staged repo branch =
     let main : Repository = record { branches = insert empty FIRST_BRANCH.now (record { staged = staged }) } in
@@ -47,7 +48,7 @@ found_there true true x y h = cc
 found_there true false x y h = absurd cc
 found_there false b x y h = absurd cc
 
-pub only_branch : (staged : Named Change) (repo branch : List ℕ) (b : Branch) → branch_in (only staged) repo branch ≡ Some b → b ≡ record { staged = staged }
+pub only_branch : (staged : ByteMap Change) (repo branch : List ℕ) (b : Branch) → branch_in (only staged) repo branch ≡ Some b → b ≡ record { staged = staged }
 only_branch staged repo branch b is = found_there (ties repo FIRST_REPO.now) (ties branch FIRST_BRANCH.now) (record { staged = staged }) b (sym (branch-only staged repo branch) ∙ is)
 
 put_over : {X : Type 0} (b : Bool) (x y : Option X) → cond b y (cond b x None) ≡ cond b y None
@@ -72,13 +73,13 @@ changed-one name q change x tie =
     ∙ put_again name x (change x)
 
 -- a change on the branch that is there leaves a lake of one branch
-pub staged-only : (staged : Named Change) (repo branch path : List ℕ) (change : Change) → ties repo FIRST_REPO.now ≡ true → ties branch FIRST_BRANCH.now ≡ true
+pub staged-only : (staged : ByteMap Change) (repo branch path : List ℕ) (change : Change) → ties repo FIRST_REPO.now ≡ true → ties branch FIRST_BRANCH.now ≡ true
     → staged_in repo branch path change (only staged) ≡ only (insert staged path change)
 staged-only staged repo branch path change here on =
     let into : Branch → Branch = λ b. record { staged = insert b.staged path change } in
     let in_repo : Repository → Repository = λ r. record { branches = changed_at branch into r.branches } in
     changed-one FIRST_REPO.now repo in_repo (record { branches = insert empty FIRST_BRANCH.now (record { staged = staged }) }) here
-    ∙ ap (λ (branches : Named Branch). let r : Repository = record { branches = branches } in insert empty FIRST_REPO.now r) (changed-one FIRST_BRANCH.now branch into (record { staged = staged }) on)
+    ∙ ap (λ (branches : ByteMap Branch). let r : Repository = record { branches = branches } in insert empty FIRST_REPO.now r) (changed-one FIRST_BRANCH.now branch into (record { staged = staged }) on)
 
 -- the refusal of what names a branch, from what is there
 abbrev refused : Bool → Bool → Option StepFault
@@ -90,7 +91,7 @@ refused-by_names true false r x = refl
 refused-by_names false b r x = refl
 
 -- what names a branch is refused by the names alone
-pub refusal-only : (state : State) (staged : Named Change) (repo branch : List ℕ) → state.repositories ≡ only staged
+pub refusal-only : (state : State) (staged : ByteMap Change) (repo branch : List ℕ) → state.repositories ≡ only staged
     → branch_refusal state repo branch ≡ cond (ties repo FIRST_REPO.now) (cond (ties branch FIRST_BRANCH.now) None (Some NoRef)) (Some NoRepo)
 refusal-only state staged repo branch is =
     let main : Repository = record { branches = insert empty FIRST_BRANCH.now (record { staged = staged }) } in
@@ -114,14 +115,14 @@ branch_by_names true false is = absurd cc
 branch_by_names false b is = absurd cc
 
 -- where what names a branch isn't refused, the names are those of the one branch
-pub named-only : (state : State) (staged : Named Change) (repo branch : List ℕ) → state.repositories ≡ only staged → branch_refusal state repo branch ≡ None
+pub named-only : (state : State) (staged : ByteMap Change) (repo branch : List ℕ) → state.repositories ≡ only staged → branch_refusal state repo branch ≡ None
     → (ties repo FIRST_REPO.now ≡ true) × (ties branch FIRST_BRANCH.now ≡ true)
 named-only state staged repo branch is none =
     let refusal : refused (ties repo FIRST_REPO.now) (ties branch FIRST_BRANCH.now) ≡ None = sym (refusal-only state staged repo branch is) ∙ none in
     (repo_by_names _ _ refusal, branch_by_names _ _ refusal)
 
 -- and it is that branch
-pub there-only : (state : State) (staged : Named Change) (repo branch : List ℕ) → state.repositories ≡ only staged → branch_refusal state repo branch ≡ None
+pub there-only : (state : State) (staged : ByteMap Change) (repo branch : List ℕ) → state.repositories ≡ only staged → branch_refusal state repo branch ≡ None
     → branch_of state repo branch ≡ Some (record { staged = staged })
 there-only state staged repo branch is none =
     let refusal : refused (ties repo FIRST_REPO.now) (ties branch FIRST_BRANCH.now) ≡ None = sym (refusal-only state staged repo branch is) ∙ none in

@@ -10,7 +10,8 @@ use Rattle.lake_base.specs.declared.entry.Change.TheVariants.{Put, Delete}
 use Rattle.lake_model.specs.declared.history.HistoryEntry.{HistoryEntry}
 use Rattle.lake_model.specs.declared.history.EntryKind.{EntryKind}
 use Rattle.lake_model.specs.declared.history.EntryKind.TheVariants.{TicketTake, TicketDrop, Stage}
-use Rattle.lake_model.specs.State.{Named, Repository, State}
+use Rattle.lake_base.specs.Maps.{ByteMap}
+use Rattle.lake_model.specs.State.{Repository, State}
 
 -- the number of an object of the lake's own
 abbrev pub own_number : Place → Option ℕ
@@ -23,11 +24,11 @@ put_number (Put entry) = own_number entry.place
 put_number Delete = None
 
 -- what stands under a name is changed, where something does
-abbrev pub changed_at : {X : Type 0} → List ℕ → (X → X) → Named X → Named X
+abbrev pub changed_at : {X : Type 0} → List ℕ → (X → X) → ByteMap X → ByteMap X
 changed_at name change map = option_map_or (λ x. insert map name (change x)) (get map name) map
 
 -- the repositories with one more change over the staged ones of a branch
-abbrev pub staged_in : List ℕ → List ℕ → List ℕ → Change → Named Repository → Named Repository
+abbrev pub staged_in : List ℕ → List ℕ → List ℕ → Change → ByteMap Repository → ByteMap Repository
 staged_in repo branch path change =
     changed_at repo (λ r. record { branches = changed_at branch (λ b. record { staged = insert b.staged path change }) r.branches })
 

@@ -2,23 +2,19 @@
 use Rattle.std.specs.Prelude.{ℕ, List, Option, option_and_then}
 use Rattle.std.specs.FinMap.{FinMap, empty, get, insert}
 use Rattle.std.specs.Ordering.{nat_cmp}
-use Rattle.std.specs.Cmp.Lexicographic.{slice_cmp}
+use Rattle.lake_base.specs.Maps.{ByteMap}
 use Rattle.lake_base.specs.declared.entry.Change.{Change}
 use Rattle.lake_model.specs.declared.first.TheConstants.{FIRST_REPO, FIRST_BRANCH}
 
--- a finite map under names or paths, in byte order
-abbrev pub Named : Type 0 → Type 0
-Named X = FinMap (slice_cmp nat_cmp) X
-
 -- a branch: the changes that are staged on it
 pub record Branch : Type 0 where
-  pub staged : Named Change
+  pub staged : ByteMap Change
 
 pub record Repository : Type 0 where
-  pub branches : Named Branch
+  pub branches : ByteMap Branch
 
 pub record State : Type 0 where
-  pub repositories : Named Repository
+  pub repositories : ByteMap Repository
   -- the number that the next object gets
   pub next_number : ℕ
   -- the seat of each upload that isn't finished, by its object's number
@@ -31,7 +27,7 @@ abbrev pub branch_of : State → List ℕ → List ℕ → Option Branch
 branch_of state repo branch = option_and_then (λ r. get r.branches branch) (get state.repositories repo)
 
 -- one repository with one branch, on which these changes are staged
-abbrev pub only : Named Change → Named Repository
+abbrev pub only : ByteMap Change → ByteMap Repository
 only staged = insert empty FIRST_REPO.now (record { branches = insert empty FIRST_BRANCH.now (record { staged = staged }) })
 
 -- a fresh lake: the repository `quickstart` with the branch `main`, and nothing on it

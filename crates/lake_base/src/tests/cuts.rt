@@ -1,4 +1,6 @@
 // The cut of small maps, and the bytes of files.
+ghost use Rattle.std.specs.Prelude.{◌<◌};
+
 use super::*;
 use crate::cutting::{first_range, fnv1a, is_break, row_len};
 use crate::files::{commit_bytes, files, range_bytes};

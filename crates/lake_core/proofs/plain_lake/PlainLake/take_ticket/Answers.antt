@@ -6,8 +6,7 @@ use Rattle.lake_model.specs.State.{State, fresh}
 use Rattle.lake_model.specs.After.{replay}
 use Rattle.lake_model.proofs.Refused.{room}
 use Rattle.lake_model.proofs.Numbers.{given_below, next_within}
-use Rattle.lake_model.proofs.Replay.{entries-fresh}
-use Rattle.lake_core.proofs.Tickets.{on_ticket}
+use Rattle.lake_model.proofs.Replay.{entries-fresh, HasTicket-taken}
 use Rattle.lake_core.proofs.Steps.{Leads, taken, counted, ticket_given}
 use Rattle.lake_core.proofs.plain_lake.PlainLake.take_ticket.Goals as goal
 
@@ -49,4 +48,5 @@ pub returns-clause-ticket : goal.returns-clause-ticket
 returns-clause-ticket c =
     let entry : HistoryEntry = record { by = c.args.by; kind = TicketTake c.args.repo.now c.args.branch.now c.self.inside.next_number } in
     let is : c.append.new.history.items ≡ c.args.self.now ++ entry ∷ [] = rw (c.append.ensures, c.reserve.ensures.items, c.in_ok-copy.ensures, c.in_ok-copy-2.ensures, c.self.view_is) refl in
-    on_ticket c.args.self.now c.append.new.history.items c.args.by c.args.repo.now c.args.branch.now c.self.inside.next_number is
+    subst (λ entries. HasTicket (replay fresh entries) c.args.by.seat c.self.inside.next_number) (sym is)
+    (HasTicket-taken fresh c.args.self.now c.args.by c.args.repo.now c.args.branch.now c.self.inside.next_number)
