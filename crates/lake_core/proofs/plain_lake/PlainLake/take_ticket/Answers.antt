@@ -4,6 +4,7 @@ use Rattle.lake_model.specs.declared.history.HistoryEntry.{HistoryEntry}
 use Rattle.lake_model.specs.declared.history.EntryKind.TheVariants.{TicketTake}
 use Rattle.lake_model.specs.State.{State, fresh}
 use Rattle.lake_model.specs.After.{replay}
+use Rattle.lake_model.specs.Legal.{HasTicket}
 use Rattle.lake_model.proofs.Refused.{room}
 use Rattle.lake_model.proofs.Numbers.{given_below, next_within}
 use Rattle.lake_model.proofs.Replay.{entries-fresh, HasTicket-taken}
