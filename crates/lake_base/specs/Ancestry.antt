@@ -1,4 +1,5 @@
--- Commit graphs: ancestors, generations, the merge base, and the way back by first parents.
+-- Commit graphs: ancestors, generations, the merge base, and the way back by first parents (Git's words; that a
+-- base is of greatest generation and then of least id is this project's profile).
 use Rattle.std.specs.Prelude.{◌≡◌, ◌≤◌, ◌+◌, ◌==◌, ◌&&◌, ◌||◌, false, ℕ, zero, suc, max, Bool, List, [], ◌∷◌, map, nat_lt, slice_get, Option, Some, None, IsSome, option_map, option_and_then, if◌then◌else◌}
 use Rattle.std.specs.Option.{unwrap_or}
 use Rattle.std.specs.Ordering.{is_lt}
@@ -20,6 +21,7 @@ graph_of commits = from_entries (map (λ c. (c.0.0, c.1)) commits)
 abbrev pub commit_of : Graph → Digest → Option Commit
 commit_of graph id = get graph id.0
 
+-- the parents of a commit, where there is one
 abbrev pub parents_in : Option Commit → List Digest
 parents_in None = []
 parents_in (Some commit) = commit.parents
@@ -28,10 +30,11 @@ parents_in (Some commit) = commit.parents
 unfoldable pub parents : Graph → Digest → List Digest
 parents graph id = parents_in (commit_of graph id)
 
--- its generation and its date; 0 where there is no such commit
+-- its generation; 0 where there is no such commit
 unfoldable pub generation : Graph → Digest → ℕ
 generation graph id = unwrap_or (option_map (λ c. c.generation) (commit_of graph id)) 0
 
+-- its date in seconds since 1970; 0 where there is no such commit
 unfoldable pub date : Graph → Digest → ℕ
 date graph id = unwrap_or (option_map (λ c. c.date) (commit_of graph id)) 0
 

@@ -24,12 +24,15 @@ text_fault most bytes = if nat_lt most (length bytes) then Some TooLong else if 
 abbrev pub path_fault : List ℕ → Option NameFault
 path_fault bytes = if length bytes == 0 then Some Empty else text_fault PATH_LIMIT bytes
 
+-- a decimal digit of ASCII
 abbrev pub is_digit : ℕ → Bool
 is_digit byte = nat_le 48 byte && nat_le byte 57
 
+-- a lower-case letter of ASCII
 abbrev pub is_lower : ℕ → Bool
 is_lower byte = nat_le 97 byte && nat_le byte 122
 
+-- an upper-case letter of ASCII
 abbrev pub is_upper : ℕ → Bool
 is_upper byte = nat_le 65 byte && nat_le byte 90
 

@@ -11,6 +11,7 @@ use Rattle.lake_base.specs.declared.entry.Place.TheVariants.{Own, External}
 use Rattle.lake_base.specs.declared.fields.EntryFault.{EntryFault}
 use Rattle.lake_base.specs.declared.fields.EntryFault.TheVariants.{Short, Bad, NoMemory}
 
+-- a field, and then what follows it; the first fault ends the reading
 infixl 10 ◌>>=◌
 abbrev pub ◌>>=◌ : {A B : Type 0} → Result A EntryFault → (A → Result B EntryFault) → Result B EntryFault
 (Ok x) >>= f = f x
@@ -22,6 +23,7 @@ Fails NoMemory read = Unit {0}
 Fails Short read = read ≡ Err Short
 Fails Bad read = read ≡ Err Bad
 
+-- an answer of value and rest, or of the fault that reading meets
 abbrev pub Gives : {X Y : Type 0} → (X → Y) → Result X EntryFault → Result Y EntryFault → Type 0
 Gives view (Ok x) read = read ≡ Ok (view x)
 Gives view (Err e) read = Fails e read
@@ -54,18 +56,21 @@ address_at bytes = do
   at ← text_at 1 2048 bytes
   if starts_with nat_eq at.0 (codes "lake://") then Err Bad else Ok at
 
+-- a number and a digest
 unfoldable pub own_at : List ℕ → Result (Place × List ℕ) EntryFault
 own_at bytes = do
   number ← number_at w64 bytes
   digest ← bytes_at 32 number.1
   Ok (Own number.0 (record { 0 = digest.0 }), digest.1)
 
+-- an address and a checksum
 unfoldable pub external_at : List ℕ → Result (Place × List ℕ) EntryFault
 external_at bytes = do
   at ← address_at bytes
   checksum ← text_at 0 128 at.1
   Ok (External at.0 checksum.0, checksum.1)
 
+-- 0 and an own place, or 1 and one outside; any other first byte is bad
 unfoldable pub place_at : List ℕ → Result (Place × List ℕ) EntryFault
 place_at [] = Err Short
 place_at (zero ∷ rest) = own_at rest
@@ -101,6 +106,7 @@ metadata_at bytes = do
   count ← number_at w16 bytes
   if nat_lt 64 count.0 then Err Bad else pairs_at count.0 None count.1
 
+-- the fields of an entry, one after the other
 unfoldable pub entry_at : List ℕ → Result (Object × List ℕ) EntryFault
 entry_at bytes = do
   place ← place_at bytes

@@ -6,12 +6,14 @@ use Rattle.lake_base.specs.Entry.{Object}
 use Rattle.lake_base.specs.declared.entry.Place.{Place}
 use Rattle.lake_base.specs.declared.entry.Place.TheVariants.{Own, External}
 
+-- the same number and digest, or the same address and checksum
 abbrev pub same_place : Place → Place → Bool
 same_place (Own number digest) (Own other sum) = (number == other) && bytes_eq digest.0 sum.0
 same_place (External at checksum) (External other sum) = bytes_eq at other && bytes_eq checksum sum
 same_place (Own number digest) (External at checksum) = false
 same_place (External at checksum) (Own number digest) = false
 
+-- the same key and value
 abbrev pub same_pair : List ℕ × List ℕ → List ℕ × List ℕ → Bool
 same_pair pair other = bytes_eq pair.0 other.0 && bytes_eq pair.1 other.1
 
@@ -28,5 +30,6 @@ same_value None (Some entry) = false
 same_value (Some entry) None = false
 same_value (Some entry) (Some other) = same_entry entry other
 
+-- the same path with equal entries
 abbrev pub same_row : List ℕ × Object → List ℕ × Object → Bool
 same_row row other = bytes_eq row.0 other.0 && same_entry row.1 other.1

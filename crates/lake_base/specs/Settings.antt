@@ -17,6 +17,7 @@ pub record AreDays (days : ℕ) : Type 0 where
   pub some : 1 ≤ days
   pub few : days ≤ 36500
 
+-- the limits of retention: days in their range, and at most 256 branches with days of their own
 pub record IsRetention (default_days : ℕ) (branches : List BranchDays) : Type 0 where
   pub days : AreDays default_days
   pub few : length branches ≤ 256

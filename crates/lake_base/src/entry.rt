@@ -14,8 +14,8 @@ use std::marker::Model;
 pub enum Place {
     /// In the lake's own block store, under a number that is never used twice.
     Own { number: u64, digest: Digest },
-    /// At an address outside, with the checksum that was given for it. The address has 1 to 2,048 bytes
-    /// and doesn't begin with `lake://`, the checksum at most 128 bytes.
+    /// At an address outside, with the checksum that was given for it. In an entry the address has 1 to
+    /// 2,048 bytes and doesn't begin with `lake://`, and the checksum has at most 128 bytes.
     External { at: Text, checksum: Text },
 }
 

@@ -1,14 +1,22 @@
-//! The words of the lake: names and texts, digests, entries and changes, and the traits of the outside.
+//! The words of the lake: names and texts, digests, entries and changes, key maps and their pages, the formats of
+//! bytes, and the traits of the outside. What the crates above share of merges, graphs, trees and rules is
+//! defined here, and beside each definition stands a plain, slow function that has it as its contract.
 //!
 //! - `text`, `names`: texts, paths and the names of repositories, branches and tags, each read from bytes.
 //! - `digest`: SHA-256.
 //! - `sequence`: a vector that contracts see as a list.
-//! - `pairs`, `entry`: metadata, and what stands at a path.
-//! - `outside`: sources, sinks and clocks, whose failures are counted.
-//! - `memory`, `clocks`: those of tests and of runs in memory.
+//! - `pairs`, `entry`, `changes`, `key_map`: metadata, what stands at a path, what is put and deleted, and maps.
+//! - `listing`: pages of a map under a prefix and a delimiter.
+//! - `commit`, `settings`: commits, and the settings of a repository, within their limits.
+//! - `fields`, `spelling`, `files`: entries, ranges, metaranges and commits as bytes.
+//! - `merging`, `ancestry`, `keeping`, `cutting`, `segments`, `deciding`: the plain functions of merges, commit
+//!   graphs, retention, the cut of trees, and rules.
+//! - `outside`: sources, sinks and clocks, whose failures are counted; `memory`, `clocks`: those of tests and of
+//!   runs in memory.
 //!
-//! The promise to the layer above: what a reader accepts is what it was given, and it refuses
-//! exactly what breaks the stated limits; an object of the outside fails only with a count that rose.
+//! The promise to the layer above: what a reader accepts is what it was given, and it refuses exactly what
+//! breaks the stated limits; a map is its look-ups; a value has one spelling; an object of the outside fails
+//! only with a count that rose.
 #![tactic(auto)]
 
 pub mod ancestry;

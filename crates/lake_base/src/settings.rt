@@ -8,7 +8,7 @@ use crate::text::Text;
 use std::alloc::Global;
 use std::marker::Model;
 
-/// For how many days a branch keeps what it has left behind: 1 to 36,500.
+/// For how many days a branch keeps what it has left behind: 1 to 36,500 among `Rules`.
 #[derive(Debug, Drop)]
 pub struct BranchDays {
     pub branch: RefName,
@@ -54,9 +54,9 @@ impl Model for Protection {
 /// What a hook rule denies.
 #[derive(Debug, Drop)]
 pub enum Deny {
-    /// A commit whose metadata lacks this key, of 1 to 128 bytes.
+    /// A commit whose metadata lacks this key, of 1 to 128 bytes among `HookRules`.
     RequireMeta(Text),
-    /// A changed path that begins with this, of 1 to 1,024 bytes.
+    /// A changed path that begins with this, of 1 to 1,024 bytes among `HookRules`.
     DenyPrefix(Text),
     /// An entry that is put with a greater size, in bytes.
     MaxSize(u64),

@@ -5,6 +5,7 @@ mod graphs;
 mod merges;
 
 use super::*;
+use crate::merging::same_entry;
 use std::alloc::Global;
 use std::test::Fail;
 
@@ -57,6 +58,28 @@ fn three(alloc: Global) -> Result<KeyMap, Fail> {
 }
 
 #[test]
+fn paths_and_texts_are_refused_by_their_first_fault(rt: HostRuntime) {
+    let alloc = rt.alloc();
+    assert!(rt; matches!(Path::read(alloc, b""), Err(NameFault::Empty)));
+    assert!(rt; matches!(Path::read(alloc, &[255; 1025]), Err(NameFault::TooLong)));
+    assert!(rt; matches!(Path::read(alloc, &[255; 1024]), Err(NameFault::NotUtf8)));
+    assert!(rt; Path::read(alloc, &[b'a'; 1024]).is_ok());
+    assert!(rt; matches!(Text::read(alloc, &[255; 3], 2), Err(NameFault::TooLong)));
+    assert!(rt; matches!(Text::read(alloc, &[255; 2], 2), Err(NameFault::NotUtf8)));
+    assert!(rt; Text::read(alloc, b"", 0).is_ok());
+}
+
+#[test]
+fn a_name_of_64_hex_digits_is_like_an_id(rt: HostRuntime) -> Result<(), Fail> {
+    let alloc = rt.alloc();
+    assert!(rt; RefName::read(alloc, &[b'a'; 64])?.like_id());
+    assert!(rt; !RefName::read(alloc, &[b'a'; 63])?.like_id());
+    assert!(rt; !RefName::read(alloc, &[b'A'; 64])?.like_id());
+    assert!(rt; !RefName::read(alloc, &[b'g'; 64])?.like_id());
+    Ok(())
+}
+
+#[test]
 fn names_are_refused_to_the_place(rt: HostRuntime) {
     let alloc = rt.alloc();
     assert!(rt; matches!(RepoName::read(alloc, b"ab"), Err(NameFault::TooShort)));
@@ -92,7 +115,12 @@ fn spelled_again(alloc: Global, bytes: &[u8]) -> Result<bool, Fail> {
 #[test]
 fn entries_are_read_to_the_byte(rt: HostRuntime) -> Result<(), Fail> {
     let alloc = rt.alloc();
-    assert!(rt; matches!(entry_read(alloc, &LONGER, 0), Ok((_, 31))));
+    let (read, end) = entry_read(alloc, &LONGER, 0)?;
+    assert_eq!(rt; end, 31);
+    assert!(rt;
+        matches!(&read.place, Place::External { at, .. } if at.as_slice() == b"s3://x".as_slice())
+    );
+    assert!(rt; same_entry(&read, &entry(alloc, 5)?));
     assert!(rt; spelled_again(alloc, &SPELLED)?);
     assert!(rt; matches!(entry_read(alloc, &SPELLED[..30], 0), Err(EntryFault::Short)));
     let mut bad = SPELLED;
@@ -118,7 +146,7 @@ fn changes_are_put_and_deleted(rt: HostRuntime) -> Result<(), Fail> {
     Ok(())
 }
 
-// Whether a page of one item after this name has this one.
+// Whether a page of one item after this name has this one, a prefix or an object.
 fn page_has(
     alloc: Global,
     map: &KeyMap,
@@ -134,7 +162,10 @@ fn page_has(
     };
     let page = map.page(alloc, &query.copy(alloc)?)?.copy(alloc)?;
     match page.items.as_slice() {
-        [item] => Ok(item.name() == name && page.has_more == more),
+        [item] => {
+            let is_prefix = matches!(item, Item::Prefix(_));
+            Ok(item.name() == name && page.has_more == more && is_prefix == name.ends_with(b"/"))
+        }
         _ => Ok(false),
     }
 }

@@ -10,6 +10,48 @@ fn names_are_copied(rt: HostRuntime) -> Result<(), Fail> {
     assert!(rt; branch.copy(alloc)?.as_slice() == b"main".as_slice());
     let path = Path::read(alloc, b"a/b")?;
     assert!(rt; path.copy(alloc)?.as_slice() == b"a/b".as_slice());
+    assert!(rt; text(alloc, b"t")?.copy(alloc)?.as_slice() == b"t".as_slice());
+    Ok(())
+}
+
+#[test]
+fn entries_are_copied(rt: HostRuntime) -> Result<(), Fail> {
+    let alloc = rt.alloc();
+    let outside = entry(alloc, 5)?;
+    assert!(rt; same_entry(&outside.copy(alloc)?, &outside));
+    assert!(rt; matches!(outside.place.copy(alloc)?, Place::External { .. }));
+    let mut own = entry(alloc, 5)?;
+    own.place = Place::Own {
+        number: 7,
+        digest: Digest([9; 32]),
+    };
+    own.metadata.set(text(alloc, b"k")?, text(alloc, b"v")?)?;
+    assert!(rt; same_entry(&own.copy(alloc)?, &own));
+    assert!(rt; !same_entry(&own, &outside));
+    let metadata = own.metadata.copy(alloc)?;
+    let [(key, value)] = metadata.as_slice() else {
+        return Ok(assert!(rt; false));
+    };
+    assert!(rt; key.as_slice() == b"k".as_slice() && value.as_slice() == b"v".as_slice());
+    let change = Change::Put(own).copy(alloc)?;
+    assert!(rt; matches!(&change, Change::Put(entry) if entry.size == 5));
+    assert!(rt; matches!(Change::Delete.copy(alloc)?, Change::Delete));
+    Ok(())
+}
+
+#[test]
+fn items_are_copied(rt: HostRuntime) -> Result<(), Fail> {
+    let alloc = rt.alloc();
+    let item = Item::Object {
+        path: Path::read(alloc, b"a")?,
+        entry: entry(alloc, 5)?,
+    };
+    let item = item.copy(alloc)?;
+    assert!(rt;
+        matches!(&item, Item::Object { path, entry } if path.as_slice() == b"a".as_slice() && entry.size == 5)
+    );
+    let prefix = Item::Prefix(text(alloc, b"a/")?).copy(alloc)?;
+    assert!(rt; matches!(&prefix, Item::Prefix(name) if name.as_slice() == b"a/".as_slice()));
     Ok(())
 }
 
@@ -43,7 +85,8 @@ fn retention_is_copied(rt: HostRuntime) -> Result<(), Fail> {
     let [rule] = copy.branches.as_slice() else {
         return Ok(assert!(rt; false));
     };
-    assert_eq!(rt; rule.copy(alloc)?.days, 7);
+    let rule = rule.copy(alloc)?;
+    assert!(rt; rule.days == 7 && rule.branch.as_slice() == b"dev".as_slice());
     Ok(())
 }
 
@@ -58,7 +101,10 @@ fn protection_is_copied(rt: HostRuntime) -> Result<(), Fail> {
     let Note::Protection(copy) = Note::Protection(protection).copy(alloc)? else {
         return Ok(assert!(rt; false));
     };
-    assert_eq!(rt; copy.patterns.as_slice().len(), 1);
+    let [pattern] = copy.patterns.as_slice() else {
+        return Ok(assert!(rt; false));
+    };
+    assert!(rt; pattern.as_slice() == b"ma*".as_slice());
     Ok(())
 }
 
@@ -81,6 +127,7 @@ fn hooks_are_copied(rt: HostRuntime) -> Result<(), Fail> {
     let [first, second] = copy.rules.as_slice() else {
         return Ok(assert!(rt; false));
     };
+    assert!(rt; first.branch.as_slice() == b"ma*".as_slice());
     assert!(rt;
         matches!(&first.deny, Deny::RequireMeta(key) if key.as_slice() == b"owner".as_slice())
     );
@@ -99,8 +146,10 @@ fn commits_are_copied(rt: HostRuntime) -> Result<(), Fail> {
     };
     let about = about.copy(alloc)?;
     assert_eq!(rt; about.date, 5);
-    let commit = graphs::commit(alloc, &[], 1, 5)?.copy(alloc)?;
-    assert_eq!(rt; commit.generation, 1);
+    assert!(rt; about.message.as_slice() == b"hi".as_slice());
+    let commit = graphs::commit(alloc, &[Digest([2; 32])], 2, 5)?.copy(alloc)?;
+    assert!(rt; commit.generation == 2 && commit.date == 5);
+    assert!(rt; matches!(commit.parents.as_slice(), [parent] if *parent == Digest([2; 32])));
     assert!(rt; commit.committer.as_slice() == about.committer.as_slice());
     Ok(())
 }
