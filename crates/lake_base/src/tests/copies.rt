@@ -14,26 +14,39 @@ fn names_are_copied(rt: HostRuntime) -> Result<(), Fail> {
     Ok(())
 }
 
+// An own object with one pair of metadata.
+fn own(alloc: Global) -> Result<Entry, Fail> {
+    let mut metadata = Pairs::new(alloc);
+    metadata.set(text(alloc, b"k")?, text(alloc, b"v")?)?;
+    Ok(Entry {
+        place: Place::Own {
+            number: 7,
+            digest: Digest([9; 32]),
+        },
+        size: 5,
+        mtime: 0,
+        content_type: Text::read(alloc, b"a/b", 255)?,
+        metadata,
+    })
+}
+
+fn is_copied(alloc: Global, entry: &Entry) -> Result<bool, Fail> {
+    Ok(same_entry(&entry.copy(alloc)?, entry))
+}
+
 #[test]
 fn entries_are_copied(rt: HostRuntime) -> Result<(), Fail> {
     let alloc = rt.alloc();
-    let outside = entry(alloc, 5)?;
-    assert!(rt; same_entry(&outside.copy(alloc)?, &outside));
-    assert!(rt; matches!(outside.place.copy(alloc)?, Place::External { .. }));
-    let mut own = entry(alloc, 5)?;
-    own.place = Place::Own {
-        number: 7,
-        digest: Digest([9; 32]),
-    };
-    own.metadata.set(text(alloc, b"k")?, text(alloc, b"v")?)?;
-    assert!(rt; same_entry(&own.copy(alloc)?, &own));
-    assert!(rt; !same_entry(&own, &outside));
-    let metadata = own.metadata.copy(alloc)?;
-    let [(key, value)] = metadata.as_slice() else {
-        return Ok(assert!(rt; false));
-    };
-    assert!(rt; key.as_slice() == b"k".as_slice() && value.as_slice() == b"v".as_slice());
-    let change = Change::Put(own).copy(alloc)?;
+    assert!(rt; is_copied(alloc, &entry(alloc, 5)?)?);
+    assert!(rt; is_copied(alloc, &own(alloc)?)?);
+    assert!(rt; !same_entry(&own(alloc)?, &entry(alloc, 5)?));
+    Ok(())
+}
+
+#[test]
+fn changes_are_copied(rt: HostRuntime) -> Result<(), Fail> {
+    let alloc = rt.alloc();
+    let change = Change::Put(own(alloc)?).copy(alloc)?;
     assert!(rt; matches!(&change, Change::Put(entry) if entry.size == 5));
     assert!(rt; matches!(Change::Delete.copy(alloc)?, Change::Delete));
     Ok(())
