@@ -13,7 +13,7 @@ ghost use Rattle.std.specs.Prelude.{◌≡◌, ◌<◌, ◌∷◌, length, Optio
 ghost use Rattle.std.specs.Cmp.Lexicographic.{pointwise};
 ghost use Rattle.std.specs.List.{list_any};
 ghost use Rattle.lake_base.specs.Sameness.{same_row};
-ghost use Rattle.lake_base.specs.Cutting.{ranges, segments, last_path, placed_segments, same_before, same_segment, changed_ranges};
+ghost use Rattle.lake_base.specs.Cutting.{ranges, segments, last_path, following_segments, same_before, same_segment, changed_ranges};
 
 use crate::cutting::{Cut, first_range, is_break};
 use crate::entry::Entry;
@@ -67,7 +67,7 @@ fn is_carried(
     cut: &Cut,
 ) -> bool
     requires { 0 < cut.now.modulus }
-    ensures { result ≡ list_any (same_segment (option_copied before.entry, segment.now)) (placed_segments cut.now old.now) }
+    ensures { result ≡ list_any (same_segment (option_copied before.entry, segment.now)) (following_segments cut.now old.now) }
 {
     let mut other_before = None;
     let mut rest = old;
