@@ -19,5 +19,6 @@ pub mod Patterns
 pub mod Reached
 pub mod Runs
 pub mod Same
+pub mod SegmentLaws
 pub mod TreeFiles
 pub mod Walks

@@ -5,9 +5,9 @@ use Rattle.std.proofs.lemmas.List.Sums.{sum_by-cons}
 use Rattle.std.proofs.lemmas.Bool.{cases_Bool, and_parts, not-true}
 use Rattle.lake_base.specs.Entry.{Object}
 use Rattle.lake_base.specs.declared.cutting.Cut.{Cut}
-use Rattle.lake_base.specs.Cutting.{is_break, segments, before_segments, last_path, placed, placed_segments, same_segment, ranges}
+use Rattle.lake_base.specs.Cutting.{is_break, segments, before_segments, last_path, following, following_segments, same_segment, ranges}
 
-abbrev Row : Type 0
+abbrev pub Row : Type 0
 Row = List ℕ × Object
 
 before_break : (cut : Cut) (row : Row) (ss : List (List Row)) → is_break cut row.0 ≡ true → before_segments cut row ss ≡ (row ∷ []) ∷ ss
@@ -89,41 +89,41 @@ parted cut rows front rest e =
 
 -- ---- segments that are carried over, and those that aren't
 
-abbrev pub Placed : Type 0
-Placed = Option (List ℕ) × List Row
+abbrev pub Following : Type 0
+Following = Option (List ℕ) × List Row
 
-pub any_more : (test : Placed → Bool) (cut : Cut) (before : Option (List ℕ)) (rows front rest : List Row) → segments cut rows ≡ front ∷ segments cut rest
-    → list_any test (placed before (segments cut rows)) ≡ (test (before, front) || list_any test (placed (last_path before front) (segments cut rest)))
-any_more test cut before rows front rest e = ap (λ ss. list_any test (placed before ss)) e
+pub any_more : (test : Following → Bool) (cut : Cut) (before : Option (List ℕ)) (rows front rest : List Row) → segments cut rows ≡ front ∷ segments cut rest
+    → list_any test (following before (segments cut rows)) ≡ (test (before, front) || list_any test (following (last_path before front) (segments cut rest)))
+any_more test cut before rows front rest e = ap (λ ss. list_any test (following before ss)) e
 
 -- how many ranges stand in the segments that pass a test
-abbrev pub passed : (Placed → Bool) → Cut → Option (List ℕ) → List Row → ℕ
-passed test cut before rows = sum_by (λ segment. length (ranges cut segment.1)) (filter test (placed before (segments cut rows)))
+abbrev pub passed : (Following → Bool) → Cut → Option (List ℕ) → List Row → ℕ
+passed test cut before rows = sum_by (λ segment. length (ranges cut segment.1)) (filter test (following before (segments cut rows)))
 
-pub passed_more : (test : Placed → Bool) (cut : Cut) (before : Option (List ℕ)) (rows front rest : List Row) → segments cut rows ≡ front ∷ segments cut rest
+pub passed_more : (test : Following → Bool) (cut : Cut) (before : Option (List ℕ)) (rows front rest : List Row) → segments cut rows ≡ front ∷ segments cut rest
     → test (before, front) ≡ true → passed test cut before rows ≡ length (ranges cut front) + passed test cut (last_path before front) rest
 passed_more test cut before rows front rest e is =
-    ap (λ ss. sum_by (λ segment. length (ranges cut segment.1)) (filter test (placed before ss))) e
-    ∙ rw is (sum_by-cons (λ (segment : Placed). length (ranges cut segment.1)) (before, front) (filter test (placed (last_path before front) (segments cut rest))))
+    ap (λ ss. sum_by (λ segment. length (ranges cut segment.1)) (filter test (following before ss))) e
+    ∙ rw is (sum_by-cons (λ (segment : Following). length (ranges cut segment.1)) (before, front) (filter test (following (last_path before front) (segments cut rest))))
 
-pub passed_over : (test : Placed → Bool) (cut : Cut) (before : Option (List ℕ)) (rows front rest : List Row) → segments cut rows ≡ front ∷ segments cut rest
+pub passed_over : (test : Following → Bool) (cut : Cut) (before : Option (List ℕ)) (rows front rest : List Row) → segments cut rows ≡ front ∷ segments cut rest
     → test (before, front) ≡ false → passed test cut before rows ≡ passed test cut (last_path before front) rest
 passed_over test cut before rows front rest e is =
-    ap (λ ss. sum_by (λ segment. length (ranges cut segment.1)) (filter test (placed before ss))) e ∙ rw is refl
+    ap (λ ss. sum_by (λ segment. length (ranges cut segment.1)) (filter test (following before ss))) e ∙ rw is refl
 
 -- a segment that isn't carried over
-abbrev pub changed : Cut → List Row → Placed → Bool
-changed cut old segment = not (list_any (same_segment segment) (placed_segments cut old))
+abbrev pub changed : Cut → List Row → Following → Bool
+changed cut old segment = not (list_any (same_segment segment) (following_segments cut old))
 
 pub changed_more : (cut : Cut) (old : List Row) (before after : Option (List ℕ)) (rows front rest : List Row) (carried : Bool) → segments cut rows ≡ front ∷ segments cut rest
-    → carried ≡ list_any (same_segment (before, front)) (placed_segments cut old) → carried ≡ false → after ≡ last_path before front
+    → carried ≡ list_any (same_segment (before, front)) (following_segments cut old) → carried ≡ false → after ≡ last_path before front
     → passed (changed cut old) cut before rows ≡ length (ranges cut front) + passed (changed cut old) cut after rest
 changed_more cut old before after rows front rest carried e is not_carried after-is =
     passed_more (changed cut old) cut before rows front rest e (ap not (sym is ∙ not_carried))
     ∙ ap (λ b. length (ranges cut front) + passed (changed cut old) cut b rest) (sym after-is)
 
 pub changed_over : (cut : Cut) (old : List Row) (before after : Option (List ℕ)) (rows front rest : List Row) (carried : Bool) → segments cut rows ≡ front ∷ segments cut rest
-    → carried ≡ list_any (same_segment (before, front)) (placed_segments cut old) → carried ≡ true → after ≡ last_path before front
+    → carried ≡ list_any (same_segment (before, front)) (following_segments cut old) → carried ≡ true → after ≡ last_path before front
     → passed (changed cut old) cut before rows ≡ passed (changed cut old) cut after rest
 changed_over cut old before after rows front rest carried e is over after-is =
     passed_over (changed cut old) cut before rows front rest e (ap not (sym is ∙ over))

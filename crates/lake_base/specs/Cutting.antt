@@ -73,13 +73,14 @@ abbrev pub last_path : Option (List ℕ) → List (List ℕ × Object) → Optio
 last_path before [] = before
 last_path before (row ∷ rows) = last_path (Some row.0) rows
 
--- each segment with the path that it follows, none at the front
-abbrev pub placed : Option (List ℕ) → List (List (List ℕ × Object)) → List (Option (List ℕ) × List (List ℕ × Object))
-placed before [] = []
-placed before (segment ∷ segments) = (before, segment) ∷ placed (last_path before segment) segments
+-- each segment with the path that it follows, `before` at the front
+abbrev pub following : Option (List ℕ) → List (List (List ℕ × Object)) → List (Option (List ℕ) × List (List ℕ × Object))
+following before [] = []
+following before (segment ∷ segments) = (before, segment) ∷ following (last_path before segment) segments
 
-abbrev pub placed_segments : Cut → List (List ℕ × Object) → List (Option (List ℕ) × List (List ℕ × Object))
-placed_segments cut rows = placed None (segments cut rows)
+-- each segment of rows with the path that it follows, none at the front
+abbrev pub following_segments : Cut → List (List ℕ × Object) → List (Option (List ℕ) × List (List ℕ × Object))
+following_segments cut rows = following None (segments cut rows)
 
 -- both come first, or follow the same path
 abbrev pub same_before : Option (List ℕ) → Option (List ℕ) → Bool
@@ -94,7 +95,7 @@ same_segment segment other = same_before segment.0 other.0 && pointwise same_row
 
 -- a segment of the new rows is carried over where the old ones have it, following the same; else it is changed
 abbrev pub changed_segments : Cut → List (List ℕ × Object) → List (List ℕ × Object) → List (Option (List ℕ) × List (List ℕ × Object))
-changed_segments cut old new = filter (λ segment. not (list_any (same_segment segment) (placed_segments cut old))) (placed_segments cut new)
+changed_segments cut old new = filter (λ segment. not (list_any (same_segment segment) (following_segments cut old))) (following_segments cut new)
 
 -- how many ranges stand in changed segments
 abbrev pub changed_ranges : Cut → List (List ℕ × Object) → List (List ℕ × Object) → ℕ

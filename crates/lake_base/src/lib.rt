@@ -23,6 +23,7 @@ pub mod ancestry;
 pub mod changes;
 pub mod clocks;
 pub mod commit;
+pub mod crossing;
 pub mod cutting;
 pub mod deciding;
 pub mod digest;

@@ -1,5 +1,5 @@
-//! Segments, which end with break keys alone: a change of a map leaves a segment's ranges alone where it doesn't
-//! touch the segment, nor what comes just before it.
+//! Segments: runs of rows that end with a break key or at the end, with no break key before. The ranges of rows
+//! are those of their segments, each cut alone (`law_of_segments`).
 //!
 //! As an example, where `50` and `nq` are break keys, the paths `50`, `a`, `nq`, `z` have the segments
 //!
@@ -9,11 +9,13 @@
 //!
 //! Without `nq` they are [50] and [a z]: [50] is carried over, and [a z], which follows the same path as [a nq]
 //! did but has other rows, is changed.
-ghost use Rattle.std.specs.Prelude.{◌≡◌, ◌<◌, ◌∷◌, length, Option, option_copied};
+ghost use Rattle.std.specs.Prelude.{◌≡◌, ◌<◌, ◌∷◌, ℕ, List, length, Option, option_copied};
 ghost use Rattle.std.specs.Cmp.Lexicographic.{pointwise};
-ghost use Rattle.std.specs.List.{list_any};
+ghost use Rattle.std.specs.List.{flat_map, list_any};
+ghost use Rattle.lake_base.specs.declared.cutting.Cut.{Cut as AnyCut};
+ghost use Rattle.lake_base.specs.Entry.{Object};
 ghost use Rattle.lake_base.specs.Sameness.{same_row};
-ghost use Rattle.lake_base.specs.Cutting.{ranges, segments, last_path, placed_segments, same_before, same_segment, changed_ranges};
+ghost use Rattle.lake_base.specs.Cutting.{ranges, segments, last_path, following_segments, same_before, same_segment, changed_ranges};
 
 use crate::cutting::{Cut, first_range, is_break};
 use crate::entry::Entry;
@@ -37,6 +39,13 @@ pub fn first_segment<'a>(
     }
     rows.split_at(rows.len())
 }
+
+/// The ranges of rows are those of their segments, one segment after the other: no range crosses a break key.
+/// (A law: it does nothing.)
+pub fn law_of_segments()
+    ensures whole { (cut : AnyCut) (rows : List (List ℕ × Object)) → flat_map (λ segment. segment) (segments cut rows) ≡ rows }
+    ensures ranges { (cut : AnyCut) (rows : List (List ℕ × Object)) → ranges cut rows ≡ flat_map (ranges cut) (segments cut rows) }
+{}
 
 /// How many ranges the new rows have in segments that aren't carried over from the old ones. A segment is carried
 /// over where the old rows have a segment of equal rows, and both come first or follow the same path. It looks
@@ -67,7 +76,7 @@ fn is_carried(
     cut: &Cut,
 ) -> bool
     requires { 0 < cut.now.modulus }
-    ensures { result ≡ list_any (same_segment (option_copied before.entry, segment.now)) (placed_segments cut.now old.now) }
+    ensures { result ≡ list_any (same_segment (option_copied before.entry, segment.now)) (following_segments cut.now old.now) }
 {
     let mut other_before = None;
     let mut rest = old;
