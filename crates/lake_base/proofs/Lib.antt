@@ -7,6 +7,7 @@ pub mod FieldLaws
 pub mod Fronts
 pub mod Graphs
 pub mod Hexes
+pub mod Items
 pub mod Kept
 pub mod Lasts
 pub mod Listed
