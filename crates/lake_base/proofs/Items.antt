@@ -1,8 +1,7 @@
 -- What is listed: the item of each key under the prefix, in ascending order of name.
-use Rattle.std.proofs.Common.{◌≡◌, ℕ, zero, suc, ◌↔◌, T, Bool, true, false, cond, List, [], ◌∷◌, map, Option, Some, None, nat_eq, refl, sym, ap, subst, ◌∙◌, arith}
+use Rattle.std.proofs.Common.{◌≡◌, ℕ, zero, suc, ◌↔◌, ◌⊎◌, inl, inr, T, Bool, true, false, cond, List, [], ◌∷◌, map, Option, Some, None, nat_eq, refl, sym, ap, subst, ◌∙◌, arith}
 use Rattle.std.proofs.lemmas.List.{append-nil}
-use Rattle.std.proofs.lemmas.List.Elements.{All-from_recursion}
-use Rattle.std.specs.List.{starts_with, AllByRecursion, All, Contains}
+use Rattle.std.specs.List.{starts_with, AllByRecursion, Contains}
 use Rattle.std.specs.List.Sorted.{IsStrictlySortedBy}
 use Rattle.std.specs.Ordering.{is_eq, is_lt, eq_by_cmp}
 use Rattle.std.specs.declared.cmp.Ordering.{Ordering}
@@ -186,16 +185,54 @@ names_ascend after (x ∷ s) h n = by (is_lt (byte_order after x.0)) (names_asce
     by true rest = (subst (λ k. AllByRecursion (λ y. byte_order k y ≡ Less) (map item_name (map (λ i. i.1) (above after s)))) n.0 (names_below x.0 after s (head_below x s h) n.1), rest)
     by false rest = rest
 
-each_above : (after : List ℕ) (s : Items) → Named s → AllByRecursion (λ i. byte_order after (item_name i) ≡ Less) (map (λ i. i.1) (above after s))
-each_above after [] n = tt
-each_above after (x ∷ s) n = by (is_lt (byte_order after x.0)) refl (each_above after s n.1)
+has_first : (x : List ℕ × Item) (s : Items) (i : Item) → x.1 ≡ i → Contains (map (λ y. y.1) (x ∷ s)) i
+has_first x s i is = (0, omega arith, is)
+
+has_later : (x : List ℕ × Item) (s : Items) (i : Item) → Contains (map (λ y. y.1) s) i → Contains (map (λ y. y.1) (x ∷ s)) i
+has_later x s i (k, lt, is) = (suc k, omega arith, is)
+
+has_cases : (x : List ℕ × Item) (s : Items) (i : Item) → Contains (map (λ y. y.1) (x ∷ s)) i → (x.1 ≡ i) ⊎ Contains (map (λ y. y.1) s) i
+has_cases x s i (zero, lt, is) = inl is
+has_cases x s i (suc k, lt, is) = inr (k, omega arith, is)
+
+-- what is above a name is what was there and has a name above it
+above_from : (after : List ℕ) (s : Items) (i : Item) → Named s → Contains (map (λ y. y.1) (above after s)) i → Contains (map (λ y. y.1) s) i × (byte_order after (item_name i) ≡ Less)
+above_from after [] i n (k, lt, is) = absurd (omega arith)
+above_from after (x ∷ s) i n has = by (is_lt (byte_order after x.0)) refl has (above_from after s i n.1)
   where
-    by : (b : Bool) → is_lt (byte_order after x.0) ≡ b → AllByRecursion (λ i. byte_order after (item_name i) ≡ Less) (map (λ i. i.1) (above after s)) → AllByRecursion (λ i. byte_order after (item_name i) ≡ Less) (map (λ i. i.1) (cond b (x ∷ above after s) (above after s)))
-    by true f rest = (ap (byte_order after) (sym n.0) ∙ lt_is _ f, rest)
-    by false f rest = rest
+    later : Contains (map (λ y. y.1) s) i × (byte_order after (item_name i) ≡ Less) → Contains (map (λ y. y.1) (x ∷ s)) i × (byte_order after (item_name i) ≡ Less)
+    later r = (has_later x s i r.0, r.1)
+
+    by : (b : Bool) → is_lt (byte_order after x.0) ≡ b → Contains (map (λ y. y.1) (cond b (x ∷ above after s) (above after s))) i
+        → (Contains (map (λ y. y.1) (above after s)) i → Contains (map (λ y. y.1) s) i × (byte_order after (item_name i) ≡ Less))
+        → Contains (map (λ y. y.1) (x ∷ s)) i × (byte_order after (item_name i) ≡ Less)
+    by true f h rest = elim (has_cases x (above after s) i h) as (λ _. Contains (map (λ y. y.1) (x ∷ s)) i × (byte_order after (item_name i) ≡ Less)) [
+      | inl is ↦ (has_first x s i is, ap (byte_order after) (sym (n.0 ∙ ap item_name is)) ∙ lt_is _ f)
+      | inr l ↦ later (rest l)
+    ]
+    by false f h rest = later (rest h)
+
+above_to : (after : List ℕ) (s : Items) (i : Item) → Named s → byte_order after (item_name i) ≡ Less → Contains (map (λ y. y.1) s) i → Contains (map (λ y. y.1) (above after s)) i
+above_to after [] i n lt has = has
+above_to after (x ∷ s) i n lt has = elim (has_cases x s i has) as (λ _. Contains (map (λ y. y.1) (above after (x ∷ s))) i) [
+  | inl is ↦ first_of_them is
+  | inr l ↦ by (is_lt (byte_order after x.0)) (above_to after s i n.1 lt l)
+]
+  where
+    first_of_them : x.1 ≡ i → Contains (map (λ y. y.1) (above after (x ∷ s))) i
+    first_of_them is =
+        let f : is_lt (byte_order after x.0) ≡ true = ap (λ k. is_lt (byte_order after k)) (n.0 ∙ ap item_name is) ∙ ap is_lt lt in
+        subst (λ b. Contains (map (λ y. y.1) (cond b (x ∷ above after s) (above after s))) i) (sym f) (has_first x (above after s) i is)
+
+    by : (b : Bool) → Contains (map (λ y. y.1) (above after s)) i → Contains (map (λ y. y.1) (cond b (x ∷ above after s) (above after s))) i
+    by true h = has_later x (above after s) i h
+    by false h = h
 
 pub items_ascend : (query : PageQuery) (objects : Objects) → Ascending (map item_name (items_above query objects))
 items_ascend query objects = names_ascend query.after _ (entries_sorted (listed query.prefix query.delimiter (entries objects))) (named query.prefix query.delimiter (entries objects))
 
-pub items_after : (query : PageQuery) (objects : Objects) → All (λ i. byte_order query.after (item_name i) ≡ Less) (items_above query objects)
-items_after query objects = All-from_recursion _ _ (each_above query.after _ (named query.prefix query.delimiter (entries objects)))
+pub above_is : (query : PageQuery) (objects : Objects) (i : Item) → Contains (items_above query objects) i ↔ (IsItem query objects i × (byte_order query.after (item_name i) ≡ Less))
+above_is query objects i = (
+  λ has. let r = above_from query.after (items_of query (entries objects)) i (named query.prefix query.delimiter (entries objects)) has in ((listed_is query objects i).0 r.0, r.1),
+  λ is. above_to query.after (items_of query (entries objects)) i (named query.prefix query.delimiter (entries objects)) is.1 ((listed_is query objects i).1 is.0),
+)

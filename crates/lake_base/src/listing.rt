@@ -5,7 +5,7 @@
 //! delimiter `/` the keys `a/1`, `a/2` and `b` are listed as the common prefix `a/` and the object `b`.
 ghost use Rattle.std.specs.Prelude.{◌≡◌, ◌<◌, ◌≤◌, ◌↔◌, ℕ, true, List, [], length, map, take, Some, None, IfOk, IfSome, MatchOption, option_copied, nat_eq, nat_lt};
 ghost use Rattle.std.specs.Bool.{MatchBool};
-ghost use Rattle.std.specs.List.{starts_with, All, Contains};
+ghost use Rattle.std.specs.List.{starts_with, Contains};
 ghost use Rattle.std.specs.FinMap.{entries};
 ghost use Rattle.std.specs.Ordering.{is_lt};
 ghost use Rattle.std.specs.declared.cmp.Ordering.TheVariants.{Less};
@@ -126,9 +126,9 @@ pub fn law_of_items()
     ensures listed { (query : Query) (objects : Objects) (item : Line)
         → Contains (map (λ i. i.1) (items_of query (entries objects))) item ↔ IsItem query objects item }
     ensures ascending { (query : Query) (objects : Objects) → Ascending (map item_name (items_above query objects)) }
-    // The items of a page come after `after`.
-    ensures above { (query : Query) (objects : Objects)
-        → All (λ item. byte_order query.after (item_name item) ≡ Less) (items_above query objects) }
+    // Pages give those of them whose name is above `after`.
+    ensures above { (query : Query) (objects : Objects) (item : Line)
+        → Contains (items_above query objects) item ↔ (IsItem query objects item × (byte_order query.after (item_name item) ≡ Less)) }
 {}
 
 // The page of these entries.
