@@ -18,6 +18,7 @@ pub mod PairLists
 pub mod PairsLoop
 pub mod Patterns
 pub mod Reached
+pub mod ReadingLaws
 pub mod Runs
 pub mod Same
 pub mod TreeFiles
