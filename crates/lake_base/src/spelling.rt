@@ -184,8 +184,8 @@ pub fn laws_of_spelling()
 {}
 
 /// Short is answered just where the verdict still waits for bytes: what was read, or refused as Bad, stays
-/// so whatever follows; and what is Short isn't Short any more once enough bytes follow: 76,440 bytes, the
-/// most that an entry takes, are never Short. (A law: it does nothing.)
+/// so whatever follows; and what is Short isn't Short any more once enough bytes follow. No entry takes more
+/// than 76,440 bytes, and that many are never Short. (A law: it does nothing.)
 pub fn law_of_reading()
     ensures found { (bytes more : List ℕ) (e : Object) (rest : List ℕ)
         → entry_at bytes ≡ Ok (e, rest) → entry_at (bytes ++ more) ≡ Ok (e, rest ++ more) }
