@@ -44,10 +44,6 @@ listed prefix delimiter (e ∷ es) =
     then insert (listed prefix delimiter es) (item_name (item_of prefix delimiter e.0 e.1)) (item_of prefix delimiter e.0 e.1)
     else listed prefix delimiter es
 
--- the items in byte order, each once
-abbrev pub items_of : PageQuery → List (List ℕ × Object) → List (List ℕ × Item)
-items_of query es = entries (listed query.prefix query.delimiter es)
-
 -- the item of some key that begins with the prefix
 pub record IsItem (query : PageQuery) (objects : Objects) (item : Item) : Type 0 where
   pub key : List ℕ
@@ -55,6 +51,10 @@ pub record IsItem (query : PageQuery) (objects : Objects) (item : Item) : Type 0
   pub stands : get objects key ≡ Some entry
   pub begins : starts_with nat_eq key query.prefix ≡ true
   pub is : item ≡ item_of query.prefix query.delimiter key entry
+
+-- the items in byte order, each once
+abbrev pub items_of : PageQuery → List (List ℕ × Object) → List (List ℕ × Item)
+items_of query es = entries (listed query.prefix query.delimiter es)
 
 -- of them, those above `after`
 abbrev pub above : List ℕ → List (List ℕ × Item) → List (List ℕ × Item)
