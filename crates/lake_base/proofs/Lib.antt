@@ -7,6 +7,7 @@ pub mod FieldLaws
 pub mod Fronts
 pub mod Graphs
 pub mod Hexes
+pub mod Items
 pub mod Kept
 pub mod Lasts
 pub mod Listed
@@ -17,6 +18,7 @@ pub mod PairLists
 pub mod PairsLoop
 pub mod Patterns
 pub mod Reached
+pub mod ReadingLaws
 pub mod Runs
 pub mod Same
 pub mod SegmentLaws

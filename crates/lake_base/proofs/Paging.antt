@@ -19,11 +19,11 @@ use Rattle.lake_base.proofs.Ascending.{head_below, tail_ascends, below_at, first
 use Rattle.lake_base.proofs.Applied.{less_more}
 use Rattle.lake_base.proofs.Listed.{nothing, none_listed, items_under, items_not, lt_is}
 
-abbrev Items : Type 0
+abbrev pub Items : Type 0
 Items = List (List ℕ × Item)
 
 -- each item stands at its name
-abbrev Named : Items → Type 0
+abbrev pub Named : Items → Type 0
 Named items = AllByRecursion (λ i. i.0 ≡ item_name i.1) items
 
 named_put : (i : Item) (es : Items) → Named es → Named (put byte_order (item_name i) i es)
@@ -35,7 +35,7 @@ named_put i (e ∷ es) h = by (byte_order (item_name i) e.0) refl (named_put i e
     by Equal is rest = (sym (same_key (item_name i) e.0 is), h.1)
     by Greater is rest = (h.0, rest)
 
-named : (prefix delimiter : List ℕ) (es : List (List ℕ × Object)) → Named (entries (listed prefix delimiter es))
+pub named : (prefix delimiter : List ℕ) (es : List (List ℕ × Object)) → Named (entries (listed prefix delimiter es))
 named prefix delimiter [] = subst Named (sym none_listed) tt
 named prefix delimiter (e ∷ es) = by (starts_with nat_eq e.0 prefix) refl (named prefix delimiter es)
   where

@@ -3,7 +3,7 @@ use Rattle.std.specs.Prelude.{◌≡◌, ◌<◌, ◌≤◌, ◌||◌, not, true
 use Rattle.std.specs.List.{starts_with, AllByRecursion}
 use Rattle.std.specs.Ordering.{is_lt, is_gt}
 use Rattle.std.specs.declared.cmp.Ordering.TheVariants.{Less}
-use Rattle.std.specs.FinMap.{empty, insert, entries}
+use Rattle.std.specs.FinMap.{empty, insert, get, entries}
 use Rattle.lake_base.specs.Entry.{Object}
 use Rattle.lake_base.specs.KeyMap.{Objects}
 use Rattle.lake_base.specs.Maps.{ByteMap, byte_order, Ascend}
@@ -43,6 +43,14 @@ listed prefix delimiter (e ∷ es) =
     if starts_with nat_eq e.0 prefix
     then insert (listed prefix delimiter es) (item_name (item_of prefix delimiter e.0 e.1)) (item_of prefix delimiter e.0 e.1)
     else listed prefix delimiter es
+
+-- the item of some key that begins with the prefix
+pub record IsItem (query : PageQuery) (objects : Objects) (item : Item) : Type 0 where
+  pub key : List ℕ
+  pub entry : Object
+  pub stands : get objects key ≡ Some entry
+  pub begins : starts_with nat_eq key query.prefix ≡ true
+  pub is : item ≡ item_of query.prefix query.delimiter key entry
 
 -- the items in byte order, each once
 abbrev pub items_of : PageQuery → List (List ℕ × Object) → List (List ℕ × Item)

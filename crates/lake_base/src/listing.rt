@@ -3,15 +3,18 @@
 //! A key that begins with the prefix is listed as the part up to and including the first delimiter after the
 //! prefix, or as itself where the delimiter is empty or doesn't occur there. Under the prefix `` and the
 //! delimiter `/` the keys `a/1`, `a/2` and `b` are listed as the common prefix `a/` and the object `b`.
-ghost use Rattle.std.specs.Prelude.{◌≡◌, ◌<◌, ◌≤◌, ℕ, true, List, [], length, take, Some, None, IfOk, IfSome, MatchOption, option_copied, nat_eq, nat_lt};
+ghost use Rattle.std.specs.Prelude.{◌≡◌, ◌<◌, ◌≤◌, ◌↔◌, ℕ, true, List, [], length, map, take, Some, None, IfOk, IfSome, MatchOption, option_copied, nat_eq, nat_lt};
 ghost use Rattle.std.specs.Bool.{MatchBool};
-ghost use Rattle.std.specs.List.{starts_with};
+ghost use Rattle.std.specs.List.{starts_with, Contains};
+ghost use Rattle.std.specs.FinMap.{entries};
 ghost use Rattle.std.specs.Ordering.{is_lt};
+ghost use Rattle.std.specs.declared.cmp.Ordering.TheVariants.{Less};
 ghost use Rattle.std.specs.Str.{is_utf8};
-ghost use Rattle.lake_base.specs.Maps.{Ascend, byte_order};
+ghost use Rattle.lake_base.specs.Maps.{Ascend, Ascending, byte_order};
 ghost use Rattle.lake_base.specs.KeyMap.{Objects};
 ghost use Rattle.lake_base.specs.declared.listing.PageQuery.{PageQuery as Query};
-ghost use Rattle.lake_base.specs.Listing.{through, common_prefix, item_name, still, items_above, page_items, has_more, pages, is_before, IsRest, IsFull, IsPast, IsFirst, Visits};
+ghost use Rattle.lake_base.specs.declared.listing.Item.{Item as Line};
+ghost use Rattle.lake_base.specs.Listing.{through, common_prefix, IsItem, item_name, items_of, still, items_above, page_items, has_more, pages, is_before, IsRest, IsFull, IsPast, IsFirst, Visits};
 
 use crate::entry::Entry;
 use crate::key_map::KeyMap;
@@ -115,6 +118,17 @@ impl KeyMap {
 pub fn law_of_pages()
     ensures { (n : ℕ) (query : Query) (objects : Objects) → 0 < query.amount
         → length (items_above query objects) ≤ n → pages n query objects ≡ items_above query objects }
+{}
+
+/// What is listed: the item of each key that begins with the prefix, each once, in ascending order of name,
+/// and nothing else. (A law: it does nothing.)
+pub fn law_of_items()
+    ensures listed { (query : Query) (objects : Objects) (item : Line)
+        → Contains (map (λ i. i.1) (items_of query (entries objects))) item ↔ IsItem query objects item }
+    ensures ascending { (query : Query) (objects : Objects) → Ascending (map item_name (items_above query objects)) }
+    // Pages give those of them whose name is above `after`.
+    ensures above { (query : Query) (objects : Objects) (item : Line)
+        → Contains (items_above query objects) item ↔ (IsItem query objects item × (byte_order query.after (item_name item) ≡ Less)) }
 {}
 
 // The page of these entries.

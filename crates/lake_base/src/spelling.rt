@@ -10,10 +10,11 @@
 //!
 //! Numbers have their high byte first. An object of 5 bytes at `s3://x` with no checksum, content type or
 //! metadata is `01 0006 73333a2f2f78 0000`, 8 bytes of size, 8 of time, `0000 0000`: 31 bytes.
-ghost use Rattle.std.specs.Prelude.{◌≡◌, ◌++◌, ◌-◌, ◌≤◌, ℕ, List, length, drop, Ok, OnOk, IfOk};
+ghost use Rattle.std.specs.Prelude.{◌≡◌, ◌≢◌, ◌++◌, ◌+◌, ◌-◌, ◌≤◌, ℕ, List, length, drop, Ok, Err, OnOk, IfOk};
 ghost use Rattle.std.specs.Int.{w64, to_be_bytes};
 ghost use Rattle.lake_base.specs.Entry.{Object, IsPlace};
 ghost use Rattle.lake_base.specs.Spelling.{place_spelling, entry_spelling, IsOwn, IsSpelledPlace, IsEntry, AreBytes};
+ghost use Rattle.lake_base.specs.declared.fields.EntryFault.TheVariants.{Short, Bad};
 ghost use Rattle.lake_base.specs.Reading.{Gives, address_at, own_at, external_at, place_at, entry_at, entry_from};
 
 use crate::entry::{Entry, Place};
@@ -180,4 +181,16 @@ pub fn laws_of_spelling()
         → entry_spelling a ++ x ≡ entry_spelling b ++ y → (a ≡ b) × (x ≡ y) }
     ensures found { (bytes : List ℕ) (e : Object) (rest : List ℕ) → AreBytes bytes
         → entry_at bytes ≡ Ok (e, rest) → IsEntry e × (bytes ≡ entry_spelling e ++ rest) }
+{}
+
+/// Short is answered just where the verdict still waits for bytes: what was read, or refused as Bad, stays
+/// so whatever follows; and what is Short isn't Short any more once enough bytes follow. No entry takes more
+/// than 76,440 bytes, and that many are never Short. (A law: it does nothing.)
+pub fn law_of_reading()
+    ensures found { (bytes more : List ℕ) (e : Object) (rest : List ℕ)
+        → entry_at bytes ≡ Ok (e, rest) → entry_at (bytes ++ more) ≡ Ok (e, rest ++ more) }
+    ensures bad { (bytes more : List ℕ) → entry_at bytes ≡ Err Bad → entry_at (bytes ++ more) ≡ Err Bad }
+    ensures short { (bytes : List ℕ) → 76440 ≤ length bytes → entry_at bytes ≢ Err Short }
+    ensures most { (bytes : List ℕ) (e : Object) (rest : List ℕ)
+        → entry_at bytes ≡ Ok (e, rest) → length bytes ≤ 76440 + length rest }
 {}
