@@ -5,7 +5,7 @@ use Rattle.std.specs.Ordering.{is_eq, is_lt, eq_by_cmp}
 use Rattle.std.specs.declared.cmp.Ordering.{Ordering}
 use Rattle.std.specs.declared.cmp.Ordering.TheVariants.{Less, Equal, Greater}
 use Rattle.std.proofs.lemmas.Cmp.{nat_list_cmp_total, tied_itself}
-use Rattle.std.specs.FinMap.{find, put, get, entries, from_sorted, get-entries, get-from_sorted, get-insert, get-remove, entries_sorted, same_map, slice_cmp-IsAntisymmetric, nat_cmp-IsAntisymmetric, insert as map_insert}
+use Rattle.std.specs.FinMap.{find, put, get, entries, from_sorted, get-entries, get-from_sorted, get-insert, get-remove, entries_sorted, same_map, slice_cmp-IsAntisymmetric, nat_cmp-IsAntisymmetric, insert as map_insert, empty, get-empty}
 use Rattle.std.specs.Option.{option_or}
 use Rattle.std.proofs.lemmas.Cmp.{eq_by_cmp_equiv}
 use Rattle.std.specs.FinMap.Entries.{below_all, by_order, is_sorted-put, where_key, is_sorted-where_key, find-put, find-where_key}
@@ -124,6 +124,19 @@ pub over_over : (a b c : Edits) → over (over a b) c ≡ over a (over b c)
 over_over a b c = same _ _ (λ q.
     get_over (over a b) c q ∙ ap (λ f. option_or f (get c q)) (get_over a b q) ∙ or_or (get a q) (get b q) (get c q)
     ∙ sym (get_over a (over b c) q ∙ ap (option_or (get a q)) (get_over b c q)))
+
+one_or : (b : Bool) (c : Change) (had : Option Change) → option_or (cond b (Some c) None) had ≡ cond b (Some c) had
+one_or true c had = refl
+one_or false c had = refl
+
+-- one change over others is that change put into them
+pub over_one : (path : List ℕ) (change : Change) (old : Edits) → over (map_insert empty path change) old ≡ map_insert old path change
+over_one path change old = same _ _ (λ q.
+    let ties = eq_by_cmp byte_order q path in
+    get_over (map_insert empty path change) old q
+    ∙ ap (λ c. option_or c (get old q)) (get-insert nat_list_cmp_total empty path change q ∙ ap (cond ties (Some change)) (get-empty byte_order q))
+    ∙ one_or ties change (get old q)
+    ∙ sym (get-insert nat_list_cmp_total old path change q))
 
 -- ---- lists
 

@@ -1,6 +1,6 @@
 -- What a merged map has at each path, the paths of two maps, and the paths that conflict.
-use Rattle.std.proofs.Common.{◌≡◌, ℕ, ◌+◌, ◌<◌, ◌≤◌, ◌&&◌, ◌||◌, T, Bool, true, false, cond, List, [], ◌∷◌, ◌++◌, Some, None, Option, is_some, map, length, take, get_or, append-nil, refl, sym, ap, subst, ◌∙◌}
-use Rattle.std.specs.List.{list_any, filter, AllByRecursion}
+use Rattle.std.proofs.Common.{arith, ◌≡◌, ℕ, ◌+◌, ◌<◌, ◌≤◌, ◌&&◌, ◌||◌, T, Bool, true, false, cond, List, [], ◌∷◌, ◌++◌, Some, None, Option, is_some, map, length, take, get_or, append-nil, refl, sym, ap, subst, ◌∙◌}
+use Rattle.std.specs.List.{Contains, list_any, filter, AllByRecursion}
 use Rattle.std.specs.List.Sorted.{IsStrictlySortedBy}
 use Rattle.std.specs.FinMap.Entries.{below_all}
 use Rattle.std.proofs.lemmas.List.Elements.{filter-append}
@@ -16,9 +16,11 @@ use Rattle.std.specs.FinMap.{find, get, entries, entries_sorted, insert, empty, 
 use Rattle.lake_base.specs.Entry.{Object}
 use Rattle.lake_base.specs.Maps.{byte_order, ByteMap, Ascend}
 use Rattle.lake_base.specs.KeyMap.{Objects, Edits, apply, said}
-use Rattle.lake_base.specs.Merging.{merged, merged_at, merged_value, with_value, side_of, Gives, ArePathsOf, HasPathsToo, AreConflicts}
+use Rattle.lake_base.specs.Merging.{merged, merged_at, merged_value, with_value, side_of, Leaves, ArePathsOf, HasPathsToo, IsConflict, AreConflicts}
 use Rattle.lake_base.specs.declared.entry.Change.{Change}
 use Rattle.lake_base.specs.declared.entry.Change.TheVariants.{Put, Delete}
+use denote.Enum.Bare.{sameb}
+use Rattle.lake_base.specs.contracts.merging.Side.{the_type}
 use Rattle.lake_base.specs.declared.merging.Side.{Side}
 use Rattle.lake_base.specs.declared.merging.Side.TheVariants.{Source, Destination, Neither}
 use Rattle.lake_base.specs.declared.commit.Strategy.{Strategy}
@@ -169,7 +171,7 @@ paths_both base source first second one two path =
 pub nothing_said : (changes : Edits) (dest : Objects) → changes ≡ empty → (q : List ℕ) → said (get changes q) (get dest q) ≡ get dest q
 nothing_said changes dest e q = ap (λ m. said (get m q) (get dest q)) e ∙ ap (λ c. said c (get dest q)) (get-empty byte_order q)
 
-said_given : (b : Bool) (c : Change) (value : Option Object) (old : Option Change) (had : Option Object) → Gives c value → said (cond b (Some c) old) had ≡ cond b value (said old had)
+said_given : (b : Bool) (c : Change) (value : Option Object) (old : Option Change) (had : Option Object) → Leaves c value → said (cond b (Some c) old) had ≡ cond b value (said old had)
 said_given true (Put entry) value old had gives = sym gives
 said_given true Delete value old had gives = sym gives
 said_given false c value old had gives = refl
@@ -180,7 +182,7 @@ module _ (strategy : Strategy) (base source dest : Objects) {X : Type 0} where
   Merges changes items = (q : List ℕ) → said (get changes q) (get dest q) ≡ cond (among items q) (value_at strategy base source dest q) (get dest q)
 
   pub merges_next : (changes new : Edits) (p : List ℕ) (c : Change) (items : List (List ℕ × X)) (i : ℕ) (item : List ℕ × X) → i < length items → item ≡ get_or items i item
-      → p ≡ item.0 → new ≡ insert changes p c → Gives c (value_at strategy base source dest item.0) → Merges changes (take i items) → Merges new (take (i + 1) items)
+      → p ≡ item.0 → new ≡ insert changes p c → Leaves c (value_at strategy base source dest item.0) → Merges changes (take i items) → Merges new (take (i + 1) items)
   merges_next changes new p c items i item lt is same puts gives so_far q =
       let value = value_at strategy base source dest in
       let had = get dest q in
@@ -221,6 +223,12 @@ is_neither Source = false
 is_neither Destination = false
 is_neither Neither = true
 
+-- what a test against Neither tells
+pub told_neither : (side : Side) → sameb the_type side Neither ≡ is_neither side
+told_neither Source = refl
+told_neither Destination = refl
+told_neither Neither = refl
+
 module _ (base source dest : Objects) where
   abbrev pub conflicts_at : List ℕ → Bool
   conflicts_at path = is_neither (side_of (get base path) (get source path) (get dest path))
@@ -244,7 +252,7 @@ module _ (base source dest : Objects) where
       ∙ ap (filter conflicts_at) (map-append (λ (e : List ℕ × X). e.0) (take i items) (item ∷ []))
       ∙ filter-append conflicts_at (map (λ (e : List ℕ × X). e.0) (take i items)) (item.0 ∷ []))
 
-  neither : (side : Side) → is_neither side ≡ true → side ≡ Neither
+  pub neither : (side : Side) → is_neither side ≡ true → side ≡ Neither
   neither Source e = cc
   neither Destination e = cc
   neither Neither e = refl
@@ -273,3 +281,10 @@ module _ (base source dest : Objects) where
               Contains-from_any same_path q _ (any q ∙ ap (λ b. b && list_any (ties q) (keys paths)) kept ∙ among),
         );
       })
+
+  -- where none of the paths of base and source conflicts, no path does
+  pub no_conflict : (paths : Edits) (items : List (List ℕ × Change)) (i : ℕ) → length items ≤ i → items ≡ entries paths → ArePathsOf base source paths
+      → [] ≡ conflicting (take i items) → (path : List ℕ) × IsConflict base source dest path → ⊥
+  no_conflict paths items i past is of none conflict =
+      let within : Contains [] conflict.0 = ((conflicts_all paths items i past is of [] none).all conflict.0).1 conflict.1 in
+      absurd (omega (arith, within.1))

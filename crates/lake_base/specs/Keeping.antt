@@ -1,8 +1,8 @@
 -- Which commits the rules of retention keep.
-use Rattle.std.specs.Prelude.{◌≡◌, ◌≤◌, ◌-◌, ◌*◌, ◌⊎◌, ℕ, List, [], ◌∷◌, Option, Some, None, if◌then◌else◌}
+use Rattle.std.specs.Prelude.{◌≡◌, ◌≤◌, ◌-◌, ◌*◌, ◌⊎◌, ℕ, List, [], ◌∷◌, Option, Some, None, IsSome, if◌then◌else◌}
 use Rattle.std.specs.List.{Contains}
 use Rattle.std.specs.Str.{bytes_eq}
-use Rattle.lake_base.specs.Ancestry.{Graph, back, date, first_parent, IsOnWalk}
+use Rattle.lake_base.specs.Ancestry.{Graph, commit_of, back, date, first_parent, IsOnWalk}
 use Rattle.lake_base.specs.Settings.{Retention}
 use Rattle.lake_base.specs.declared.digest.Digest.{Digest}
 use Rattle.lake_base.specs.declared.settings.BranchDays.{BranchDays}
@@ -42,9 +42,13 @@ pub record IsYoung (graph : Graph) (heads : List (List ℕ × Digest)) (rules : 
   pub apart : (head : List ℕ × Digest) → Contains heads head → IsOnWalk graph head.1 id → ⊥
   pub dated : cutoff now rules.default_days ≤ date graph id
 
--- A commit is kept: by rules where it is a head, or tagged, or followed on a walk, or young beside all walks;
--- without rules always.
-abbrev pub IsKept : Graph → List (List ℕ × Digest) → List Digest → Option Retention → ℕ → Digest → Type 0
-IsKept graph heads tags None now id = Unit {0}
-IsKept graph heads tags (Some rules) now id =
+-- Of the commits, those are kept: by rules each that is a head, or tagged, or followed on a walk, or young
+-- beside all walks; without rules all.
+abbrev pub IsKeptBy : Graph → List (List ℕ × Digest) → List Digest → Option Retention → ℕ → Digest → Type 0
+IsKeptBy graph heads tags None now id = Unit {0}
+IsKeptBy graph heads tags (Some rules) now id =
     IsHead heads id ⊎ (Contains tags id ⊎ (IsFollowed graph heads rules now id ⊎ IsYoung graph heads rules now id))
+
+-- it is a commit of the graph, and one of those that are kept
+abbrev pub IsKept : Graph → List (List ℕ × Digest) → List Digest → Option Retention → ℕ → Digest → Type 0
+IsKept graph heads tags rules now id = IsSome (commit_of graph id) × IsKeptBy graph heads tags rules now id

@@ -51,9 +51,9 @@ unfoldable pub merged : Strategy → Objects → Objects → Objects → Objects
 merged strategy base source dest = merged_at strategy base source dest (keys base ++ keys source)
 
 -- a change that leaves this value at its path
-abbrev pub Gives : Change → Option Object → Type 0
-Gives (Put entry) value = value ≡ Some entry
-Gives Delete value = value ≡ None
+abbrev pub Leaves : Change → Option Object → Type 0
+Leaves (Put entry) value = value ≡ Some entry
+Leaves Delete value = value ≡ None
 
 -- changes at just the paths that base or source has
 abbrev pub ArePathsOf : Objects → Objects → Edits → Type 0
@@ -71,3 +71,13 @@ IsConflict base source dest path = side_of (get base path) (get source path) (ge
 pub record AreConflicts (base source dest : Objects) (paths : List (List ℕ)) : Type 0 where
   pub ascending : Ascending paths
   pub all : (path : List ℕ) → Contains paths path ↔ IsConflict base source dest path
+
+-- a merge without a strategy is refused where a path conflicts
+abbrev pub IsRefused : Strategy → Objects → Objects → Objects → Type 0
+IsRefused strategy base source dest = (strategy ≡ Refuse) × ((path : List ℕ) × IsConflict base source dest path)
+
+-- a merge's answer: none where it is refused, and else the merged map
+abbrev pub AnswersMerge : Strategy → Objects → Objects → Objects → Option Objects → Type 0
+AnswersMerge strategy base source dest None = IsRefused strategy base source dest
+AnswersMerge strategy base source dest (Some map) =
+    (IsRefused strategy base source dest → ⊥) × (map ≡ merged strategy base source dest)

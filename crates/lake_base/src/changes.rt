@@ -1,6 +1,7 @@
 //! Changes: what is put or deleted at which paths.
 ghost use Rattle.std.specs.Prelude.{◌≡◌, OnOk, OnErr, IfOk, option_copied};
 ghost use Rattle.std.specs.FinMap as map;
+ghost use Rattle.lake_base.specs.KeyMap.{over};
 
 use crate::entry::Change;
 use crate::names::Path;
@@ -70,6 +71,18 @@ impl Changes {
     {
         put_at(&mut self.changes, path, change)
     }
+
+    /// These changes over older ones: what these say at their paths, and the older ones elsewhere.
+    pub fn over(&self, alloc: Global, old: &Changes) -> Result<Changes, NoMemory>
+        ensures { IfOk result (λ changes. changes ≡ over self.now old.now) }
+    {
+        let mut changes = old.copy(alloc)?;
+        for (path, change) in self.as_slice() {
+            changes.set(path.copy(alloc)?, change.copy(alloc)?)?;
+        }
+        Ok(changes)
+    }
+
     /// Equal changes.
     pub fn copy(&self, alloc: Global) -> Result<Changes, NoMemory>
         ensures { IfOk result (λ copy. copy ≡ self.now) }

@@ -5,12 +5,12 @@
 //! are dated 1,100,000, 1,000,000 and 0; the rule is one day, and now is 1,300,000, so that the cutoff is
 //! 1,213,600. C2 is kept as a head. C1 follows C2, which is dated before the cutoff, and isn't kept; nor is the
 //! first commit, which follows C1. Had C2 been dated 1,213,600, C1 would be kept, whatever its own date.
-ghost use Rattle.std.specs.Prelude.{◌≡◌, ◌↔◌, IsTrue, option_copied};
+ghost use Rattle.std.specs.Prelude.{◌≡◌, ◌↔◌, IsTrue, Some, option_copied};
 ghost use Rattle.std.specs.List.{Contains};
 ghost use Rattle.lake_base.specs.Ancestry.{graph_of, IsGraph, IsOnWalk};
-ghost use Rattle.lake_base.specs.Keeping.{cutoff, days_of, IsHead, IsFollower, IsFollowed, IsYoung, IsKept};
+ghost use Rattle.lake_base.specs.Keeping.{cutoff, days_of, IsHead, IsFollower, IsFollowed, IsYoung, IsKept, IsKeptBy};
 
-use crate::ancestry::{date, first_parent, generation, is_on_walk};
+use crate::ancestry::{commit_of, date, first_parent, generation, is_on_walk};
 use crate::commit::{CommitId, CommitRecord};
 use crate::names::RefName;
 use crate::settings::Rules;
@@ -35,10 +35,10 @@ pub fn days_of(rules: &Rules, branch: &RefName) -> u32
     rules.default_days
 }
 
-/// Whether a commit is kept: without rules always; by rules where it is the head of a branch, or tagged; or
-/// where on some branch's walk of first parents the commit that it follows has a date at or after that
-/// branch's cutoff; or where it lies on no branch's walk and its own date is at or after the default cutoff.
-/// It takes no memory.
+/// Whether a commit of the graph is kept: without rules always; by rules where it is the head of a branch, or
+/// tagged; or where on some branch's walk of first parents the commit that it follows has a date at or after
+/// that branch's cutoff; or where it lies on no branch's walk and its own date is at or after the default
+/// cutoff. An id of no commit is not kept. It takes no memory.
 pub fn is_kept(
     commits: &[(CommitId, CommitRecord)],
     heads: &[(RefName, CommitId)],
@@ -50,9 +50,25 @@ pub fn is_kept(
     requires { IsGraph (graph_of commits.now) }
     ensures { IsTrue result ↔ IsKept (graph_of commits.now) heads.now tags.now (option_copied rules.entry) now id.now }
 {
-    let Some(rules) = rules else {
-        return true;
-    };
+    commit_of(commits, id).is_some()
+        && match rules {
+            Some(rules) => is_kept_by(commits, heads, tags, rules, now, id),
+            None => true,
+        }
+}
+
+// Whether the rules keep it, where it is a commit.
+fn is_kept_by(
+    commits: &[(CommitId, CommitRecord)],
+    heads: &[(RefName, CommitId)],
+    tags: &[CommitId],
+    rules: &Rules,
+    now: u64,
+    id: &CommitId,
+) -> bool
+    requires { IsGraph (graph_of commits.now) }
+    ensures { IsTrue result ↔ IsKeptBy (graph_of commits.now) heads.now tags.now (Some rules.now) now id.now }
+{
     is_head(heads, id)
         || is_among(tags, id)
         || is_followed(commits, heads, rules, now, id)

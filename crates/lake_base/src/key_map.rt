@@ -4,6 +4,7 @@ ghost use Rattle.std.specs.Option.{option_or};
 ghost use Rattle.std.specs.FinMap as map;
 ghost use Rattle.lake_base.specs.Maps.{Ascend, IsParted};
 ghost use Rattle.lake_base.specs.KeyMap.{Objects, Edits, apply, over, said, left_by};
+ghost use Rattle.lake_base.specs.declared.entry.Change.{Change as AnyChange};
 
 use crate::changes::Changes;
 use crate::entry::{Change, Entry};
@@ -86,7 +87,8 @@ impl KeyMap {
 }
 
 /// What changes say at their paths and a map elsewhere, and what new changes say at theirs and old ones
-/// elsewhere. Changes over changes are applied as one after the other. (A law: it does nothing.)
+/// elsewhere. Changes over changes are applied as one after the other. One change over others is that change
+/// set in them. (A law: it does nothing.)
 pub fn laws_of_changes()
     ensures applied { (changes : Edits) (old : Objects) (path : List ℕ)
         → map.get (apply changes old) path ≡ said (map.get changes path) (map.get old path) }
@@ -94,6 +96,8 @@ pub fn laws_of_changes()
         → map.get (over new old) path ≡ option_or (map.get new path) (map.get old path) }
     ensures in_turn { (new old : Edits) (under : Objects)
         → apply (over new old) under ≡ apply new (apply old under) }
+    ensures one { (path : List ℕ) (change : AnyChange) (old : Edits)
+        → over (map.insert map.empty path change) old ≡ map.insert old path change }
     ensures together { (a b c : Edits) → over (over a b) c ≡ over a (over b c) }
 {}
 

@@ -5,7 +5,7 @@ ghost use Rattle.lake_base.specs.Entry.{Object};
 ghost use Rattle.lake_base.specs.KeyMap.{Objects};
 ghost use Rattle.lake_base.specs.Sameness.{same_place, same_pair, same_entry, same_value};
 ghost use Rattle.std.specs.Cmp.Lexicographic.{pointwise};
-ghost use Rattle.lake_base.specs.Merging.{side_of, merged, merged_value, Gives, ArePathsOf, HasPathsToo, AreConflicts};
+ghost use Rattle.lake_base.specs.Merging.{side_of, merged, merged_value, Leaves, ArePathsOf, HasPathsToo, IsConflict, AreConflicts, AnswersMerge};
 ghost use Rattle.lake_base.specs.declared.commit.Strategy.{Strategy as Choice};
 
 use crate::changes::Changes;
@@ -66,23 +66,24 @@ pub fn side_of(base: Option<&Entry>, source: Option<&Entry>, dest: Option<&Entry
     }
 }
 
-/// The merged map: at each path the value of its side. Where a path conflicts it has the source's with
-/// `SourceWins`, and else the destination's; a refusing merge is one without conflicts.
+/// The merged map: at each path the value of its side, and where a path conflicts the source's or the
+/// destination's, as the strategy says. None exactly where the merge is refused: without a strategy, where a
+/// path conflicts.
 pub fn merged(
     alloc: Global,
     base: &KeyMap,
     source: &KeyMap,
     dest: &KeyMap,
     strategy: Strategy,
-) -> Result<KeyMap, NoMemory>
-    ensures { IfOk result (λ map. map ≡ merged strategy base.now source.now dest.now) }
+) -> Result<Option<KeyMap>, NoMemory>
+    ensures { IfOk result (AnswersMerge strategy base.now source.now dest.now) }
 {
-    let mut changes = Changes::new(alloc);
-    for (path, _) in paths_of(alloc, base, source)?.as_slice() {
-        let change = change_at(alloc, base, source, dest, strategy, path)?;
-        changes.set(path.copy(alloc)?, change)?;
+    let paths = paths_of(alloc, base, source)?;
+    if strategy == Strategy::Refuse && has_conflict(base, source, dest, &paths) {
+        return Ok(None);
     }
-    dest.apply(alloc, &changes)
+    let map = merged_along(alloc, base, source, dest, strategy, &paths)?;
+    Ok(Some(map))
 }
 
 /// At each path the merged map has the merged value. (A law: it does nothing.)
@@ -177,7 +178,7 @@ fn change_at(
     strategy: Strategy,
     path: &Path,
 ) -> Result<Change, NoMemory>
-    ensures { IfOk result (λ change. Gives change (merged_value strategy (get base.now path.now) (get source.now path.now) (get dest.now path.now))) }
+    ensures { IfOk result (λ change. Leaves change (merged_value strategy (get base.now path.now) (get source.now path.now) (get dest.now path.now))) }
 {
     let from_source = match side_at(base, source, dest, path) {
         Side::Source => true,
@@ -193,6 +194,39 @@ fn change_at(
         Some(entry) => Ok(Change::Put(entry.copy(alloc)?)),
         None => Ok(Change::Delete),
     }
+}
+
+// Whether one of the paths conflicts.
+fn has_conflict(base: &KeyMap, source: &KeyMap, dest: &KeyMap, paths: &Changes) -> bool
+    requires { ArePathsOf base.now source.now paths.now }
+    ensures { IsTrue result ↔ (path : List ℕ) × IsConflict base.now source.now dest.now path }
+{
+    for (path, _) in paths.as_slice() {
+        if side_at(base, source, dest, path) == Side::Neither {
+            return true;
+        }
+    }
+    false
+}
+
+// The map with the merged value at each of the paths.
+fn merged_along(
+    alloc: Global,
+    base: &KeyMap,
+    source: &KeyMap,
+    dest: &KeyMap,
+    strategy: Strategy,
+    paths: &Changes,
+) -> Result<KeyMap, NoMemory>
+    requires { ArePathsOf base.now source.now paths.now }
+    ensures { IfOk result (λ map. map ≡ merged strategy base.now source.now dest.now) }
+{
+    let mut changes = Changes::new(alloc);
+    for (path, _) in paths.as_slice() {
+        let change = change_at(alloc, base, source, dest, strategy, path)?;
+        changes.set(path.copy(alloc)?, change)?;
+    }
+    dest.apply(alloc, &changes)
 }
 
 // The paths that base or source has, with a change at each that means nothing.

@@ -146,6 +146,21 @@ fn changes_are_put_and_deleted(rt: HostRuntime) -> Result<(), Fail> {
     Ok(())
 }
 
+#[test]
+fn newer_changes_stand_over_older_ones(rt: HostRuntime) -> Result<(), Fail> {
+    let alloc = rt.alloc();
+    let (mut old, mut new) = (Changes::new(alloc), Changes::new(alloc));
+    put(alloc, &mut old, b"a", 1)?;
+    put(alloc, &mut old, b"b", 2)?;
+    put(alloc, &mut new, b"b", 3)?;
+    put(alloc, &mut new, b"c", 4)?;
+    let map = KeyMap::new(alloc).apply(alloc, &new.over(alloc, &old)?)?;
+    assert_eq!(rt; size_at(alloc, &map, b"a")?, 1);
+    assert_eq!(rt; size_at(alloc, &map, b"b")?, 3);
+    assert_eq!(rt; size_at(alloc, &map, b"c")?, 4);
+    Ok(())
+}
+
 // Whether a page of one item after this name has this one, a prefix or an object.
 fn page_has(
     alloc: Global,

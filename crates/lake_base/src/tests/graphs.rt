@@ -146,6 +146,7 @@ fn a_commit_beside_all_walks_is_kept_by_its_own_date(rt: HostRuntime) -> Result<
     assert!(rt; is_graph(commits) && is_kept(commits, &[], &[], Some(&rules), 1186400, &Y));
     assert!(rt; is_graph(commits) && !is_kept(commits, &[], &[], Some(&rules), 1186401, &Y));
     assert!(rt; is_graph(commits) && is_kept(commits, &[], &[], None, 1186401, &ROOT));
+    assert!(rt; is_graph(commits) && !is_kept(commits, &[], &[N], None, 1186401, &N));
     Ok(())
 }
 

@@ -14,11 +14,14 @@ fn map_of(alloc: Global, size: u8) -> Result<KeyMap, Fail> {
 // The sizes of base, source and destination.
 type Three = (u8, u8, u8);
 
-fn merged_size(alloc: Global, three: Three, strategy: Strategy) -> Result<u64, Fail> {
+// The size after the merge, and none where it is refused.
+fn merged_size(alloc: Global, three: Three, strategy: Strategy) -> Result<Option<u64>, Fail> {
     let (base, source) = (map_of(alloc, three.0)?, map_of(alloc, three.1)?);
     let dest = map_of(alloc, three.2)?;
-    let map = merged(alloc, &base, &source, &dest, strategy)?;
-    size_at(alloc, &map, b"p")
+    match merged(alloc, &base, &source, &dest, strategy)? {
+        Some(map) => Ok(Some(size_at(alloc, &map, b"p")?)),
+        None => Ok(None),
+    }
 }
 
 fn conflict_count(alloc: Global, three: Three) -> Result<usize, Fail> {
@@ -38,9 +41,12 @@ fn a_change_of_one_side_is_taken(rt: HostRuntime) -> Result<(), Fail> {
         ((0, 1, 1), 1),
     ] {
         assert_eq!(rt; conflict_count(alloc, three)?, 0);
-        assert_eq!(rt; merged_size(alloc, three, Strategy::Refuse)?, size);
-        assert_eq!(rt; merged_size(alloc, three, Strategy::SourceWins)?, size);
-        assert_eq!(rt; merged_size(alloc, three, Strategy::DestWins)?, size);
+        assert_eq!(rt; merged_size(alloc, three, Strategy::Refuse)?, Some(size));
+        assert_eq!(rt;
+            merged_size(alloc, three, Strategy::SourceWins)?,
+            Some(size)
+        );
+        assert_eq!(rt; merged_size(alloc, three, Strategy::DestWins)?, Some(size));
     }
     Ok(())
 }
@@ -55,8 +61,12 @@ fn the_strategy_decides_a_conflict(rt: HostRuntime) -> Result<(), Fail> {
         ((1, 2, 0), 2, 0),
     ] {
         assert_eq!(rt; conflict_count(alloc, three)?, 1);
-        assert_eq!(rt; merged_size(alloc, three, Strategy::SourceWins)?, source);
-        assert_eq!(rt; merged_size(alloc, three, Strategy::DestWins)?, dest);
+        assert_eq!(rt; merged_size(alloc, three, Strategy::Refuse)?, None);
+        assert_eq!(rt;
+            merged_size(alloc, three, Strategy::SourceWins)?,
+            Some(source)
+        );
+        assert_eq!(rt; merged_size(alloc, three, Strategy::DestWins)?, Some(dest));
     }
     Ok(())
 }

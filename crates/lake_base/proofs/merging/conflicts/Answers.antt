@@ -1,26 +1,17 @@
-use Rattle.std.proofs.Common.{◌≡◌, ◌∙◌, ◌++◌, ◌∷◌, [], List, ℕ, take, refl, sym, ap}
-use denote.Enum.Bare.{sameb}
-use Rattle.lake_base.specs.contracts.merging.Side.{the_type}
-use Rattle.lake_base.specs.declared.merging.Side.{Side}
-use Rattle.lake_base.specs.declared.merging.Side.TheVariants.{Source, Destination, Neither}
+use Rattle.std.proofs.Common.{◌≡◌, ◌∙◌, ◌++◌, ◌∷◌, [], List, ℕ, take, sym, ap}
 use Rattle.std.proofs.lemmas.Bool.{false≢true}
 use Rattle.lake_base.proofs.merging.conflicts.Goals.{then-eq+in_ok-copy+in_ok-push, else-eq}
-use Rattle.lake_base.proofs.Merges.{conflicting, conflicts_at, is_neither, conflicting_next, conflicts_all}
+use Rattle.lake_base.proofs.Merges.{told_neither, conflicting, conflicts_at, is_neither, conflicting_next, conflicts_all}
 use Rattle.lake_base.proofs.merging.conflicts.Goals as goal
 
 pub loop-path-init : goal.loop-path-init
 loop-path-init c = c.new-paths.ensures.items
 
-told : (side : Side) → sameb the_type side Neither ≡ is_neither side
-told Source = refl
-told Destination = refl
-told Neither = refl
-
 pub loop-path-preserved : goal.loop-path-preserved
 loop-path-preserved c =
     let item = c.loop-path-item.result in
     let so_far : List (List ℕ) = conflicting c.args.base.now c.args.source.now c.args.dest.now (take c.loop-path.path-index c.as_slice-path-items.result.now) in
-    let answer : c.eq.result ≡ conflicts_at c.args.base.now c.args.source.now c.args.dest.now item.0 = c.eq.ensures ∙ told c.side_at.result ∙ ap is_neither c.side_at.ensures in
+    let answer : c.eq.result ≡ conflicts_at c.args.base.now c.args.source.now c.args.dest.now item.0 = c.eq.ensures ∙ told_neither c.side_at.result ∙ ap is_neither c.side_at.ensures in
     conflicting_next c.args.base.now c.args.source.now c.args.dest.now c.as_slice-path-items.result.now c.loop-path.path-index item c.loop-path-test.true c.loop-path-item.is
     c.if-eq.paths.items
     (λ conflict. elim c.if-eq.branch [

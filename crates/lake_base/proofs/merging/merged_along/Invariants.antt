@@ -1,6 +1,6 @@
 use Rattle.std.proofs.Common.{take}
 use Rattle.lake_base.proofs.Merges.{Merges}
-use Rattle.lake_base.proofs.merging.merged.Given as goal
+use Rattle.lake_base.proofs.merging.merged_along.Given as goal
 
 -- at the paths so far, the changes say the merged values
 abbrev pub invariant-loop-path : goal.invariant-loop-path

@@ -3,7 +3,7 @@ use Rattle.std.proofs.lemmas.Result.{IfOk-weaker}
 use Rattle.lake_base.specs.KeyMap.{apply}
 use Rattle.lake_base.specs.Merging.{merged}
 use Rattle.lake_base.proofs.Merges.{nothing_said, merges_next, merges_all}
-use Rattle.lake_base.proofs.merging.merged.Goals as goal
+use Rattle.lake_base.proofs.merging.merged_along.Goals as goal
 
 pub loop-path-init : goal.loop-path-init
 loop-path-init c = nothing_said c.new-changes.result c.args.dest.now c.new-changes.ensures
@@ -18,6 +18,6 @@ pub returns : goal.returns
 returns c =
     IfOk-weaker c.apply.result (λ map. map ≡ apply c.loop-path.changes c.args.dest.now) (λ map. map ≡ merged c.args.strategy c.args.base.now c.args.source.now c.args.dest.now)
     (λ map is.
-    is ∙ merges_all c.args.strategy c.args.base.now c.args.source.now c.args.dest.now c.loop-path.changes c.in_ok-paths_of.field-0
-    c.as_slice-path-items.result.now c.loop-path.path-index c.loop-path-test.false c.as_slice-path-items.ensures c.in_ok-paths_of.ensures c.loop-path.invariant)
+    is ∙ merges_all c.args.strategy c.args.base.now c.args.source.now c.args.dest.now c.loop-path.changes c.args.paths.now
+    c.as_slice-path-items.result.now c.loop-path.path-index c.loop-path-test.false c.as_slice-path-items.ensures c.requires c.loop-path.invariant)
     c.apply.ensures
