@@ -59,9 +59,9 @@ fn put_row(out: &mut Vec<u8>, path: &Path, entry: &Entry) -> Result<(), NoMemory
     Ok(())
 }
 
-/// Appends what a metarange says of a range of these rows, whose file has this digest. There is at least one
-/// row, and fewer than 2^32.
-pub fn put_range_line(
+// Appends what a metarange says of a range of these rows, whose file has this digest. There is at least one
+// row, and fewer than 2^32.
+pub(crate) fn put_range_line(
     out: &mut Vec<u8>,
     name: &Digest,
     rows: &[(Path, Entry)],
