@@ -1,13 +1,14 @@
 -- What one call after another appends, and the files of a tree, range by range.
-use Rattle.std.proofs.Common.{◌≡◌, ℕ, zero, suc, ◌+◌, ◌<◌, List, [], ◌∷◌, ◌++◌, length, get_or, take, map, refl, sym, ap, ◌∙◌, append_assoc, arith}
-use Rattle.std.specs.Int.{w32, to_be_bytes}
+use Rattle.std.proofs.Common.{◌≡◌, ℕ, zero, suc, ◌+◌, ◌-◌, ◌<◌, List, [], ◌∷◌, ◌++◌, length, get_or, take, map, refl, sym, ap, ◌∙◌, append_assoc, arith}
 use Rattle.std.specs.List.{flat_map}
 use Rattle.std.proofs.lemmas.List.{take_more, append-nil, map-append}
 use Rattle.std.proofs.lemmas.List.Concat.{flat_map-append}
+use Rattle.lake_base.specs.Digest.{sha256}
 use Rattle.lake_base.specs.Entry.{Object}
-use Rattle.lake_base.specs.Spelling.{path_at, range_spelling, range_line, metarange_spelling}
+use Rattle.lake_base.specs.Spelling.{path_at, range_spelling, line_of, metarange_spelling}
 use Rattle.lake_base.specs.Cutting.{ranges}
 use Rattle.lake_base.specs.declared.cutting.Cut.{Cut}
+use Rattle.lake_base.specs.declared.files.RangeLine.{RangeLine}
 use Rattle.lake_base.proofs.Cuts.{ranges_none}
 
 -- ---- appends
@@ -37,6 +38,11 @@ path_is [] i d lt = absurd (omega arith)
 path_is (row ∷ rows) zero d lt = refl
 path_is (row ∷ rows) (suc i) d lt = path_is rows i d (omega arith)
 
+-- what is said of a range of these rows, part by part
+pub line_is : (rows : List (List ℕ × Object)) (line : RangeLine) → line.name.0 ≡ sha256 (range_spelling rows) → line.rows ≡ length rows → line.first ≡ path_at rows 0 → line.last ≡ path_at rows (length rows - 1) → line ≡ line_of rows
+unfolding line_of
+line_is rows line name len first last = λ i. record { name = record { 0 = name i }; rows = len i; first = first i; last = last i }
+
 -- ---- files
 
 -- one more file, and one range less
@@ -47,24 +53,19 @@ made_more f g done y x xs rest all made is same =
     ∙ ap (λ c. map g done ++ c ∷ map f rest) same ∙ sym (ap (λ l. map g done ++ map f l) is) ∙ made
 
 -- one more line, and one range less
-pub said_more : {A : Type 0} (h : A → List ℕ) (old new : List ℕ) (x : A) (xs rest : List A) (all : List ℕ)
-    → old ++ flat_map h xs ≡ all → xs ≡ x ∷ rest → new ≡ old ++ h x → new ++ flat_map h rest ≡ all
-said_more h old new x xs rest all said is more =
-    ap (λ l. l ++ flat_map h rest) more ∙ append_assoc old (h x) (flat_map h rest) ∙ sym (ap (λ l. old ++ flat_map h l) is) ∙ said
+pub said_more : {A B : Type 0} (h : A → B) (old : List B) (line : B) (x : A) (xs rest : List A) (all : List B)
+    → old ++ map h xs ≡ all → xs ≡ x ∷ rest → line ≡ h x → (old ++ line ∷ []) ++ map h rest ≡ all
+said_more h old line x xs rest all said is same =
+    append_assoc old (line ∷ []) (map h rest) ∙ ap (λ y. old ++ y ∷ map h rest) same ∙ sym (ap (λ l. old ++ map h l) is) ∙ said
 
 -- the files, once no row is left
-pub tree_is : {B : Type 0} (g : B → List ℕ) (cut : Cut) (rows rest : List (List ℕ × Object)) (done : List B) (y : B) (lines : List ℕ) (n : ℕ)
-    → rest ≡ [] → length done + length (ranges cut rest) ≡ length (ranges cut rows)
-    → map g done ++ map range_spelling (ranges cut rest) ≡ map range_spelling (ranges cut rows)
-    → lines ++ flat_map range_line (ranges cut rest) ≡ flat_map range_line (ranges cut rows)
-    → n ≡ length done → g y ≡ 1 ∷ (to_be_bytes w32 n ++ lines)
-    → g y ∷ map g done ≡ metarange_spelling (ranges cut rows) ∷ map range_spelling (ranges cut rows)
-unfolding metarange_spelling
-tree_is g cut rows rest done y lines n none counted made said n-is head =
+pub tree_is : {B : Type 0} (g : B → List ℕ) (cut : Cut) (rows rest : List (List ℕ × Object)) (done : List B) (y : B) (lines : List RangeLine)
+    → rest ≡ [] → map g done ++ map range_spelling (ranges cut rest) ≡ map range_spelling (ranges cut rows)
+    → lines ++ map line_of (ranges cut rest) ≡ map line_of (ranges cut rows)
+    → g y ≡ metarange_spelling lines
+    → g y ∷ map g done ≡ metarange_spelling (map line_of (ranges cut rows)) ∷ map range_spelling (ranges cut rows)
+tree_is g cut rows rest done y lines none made said head =
     let nothing : ranges cut rest ≡ [] = ap (ranges cut) none ∙ ranges_none cut in
-    let zero_left = ap length nothing in
     let all_made : map g done ≡ map range_spelling (ranges cut rows) = sym (append-nil (map g done)) ∙ sym (ap (λ r. map g done ++ map range_spelling r) nothing) ∙ made in
-    let all_said : lines ≡ flat_map range_line (ranges cut rows) = sym (append-nil lines) ∙ sym (ap (λ r. lines ++ flat_map range_line r) nothing) ∙ said in
-    let all_counted : n ≡ length (ranges cut rows) = omega arith in
-    ap (λ l. g y ∷ l) all_made ∙ ap (λ h. h ∷ map range_spelling (ranges cut rows))
-    (head ∙ ap (λ k. 1 ∷ (to_be_bytes w32 k ++ lines)) all_counted ∙ ap (λ l. 1 ∷ (to_be_bytes w32 (length (ranges cut rows)) ++ l)) all_said)
+    let all_said : lines ≡ map line_of (ranges cut rows) = sym (append-nil lines) ∙ sym (ap (λ r. lines ++ map line_of r) nothing) ∙ said in
+    ap (λ l. g y ∷ l) all_made ∙ ap (λ h. h ∷ map range_spelling (ranges cut rows)) (head ∙ ap metarange_spelling all_said)
