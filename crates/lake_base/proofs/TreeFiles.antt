@@ -1,13 +1,16 @@
 -- What one call after another appends, and the files of a tree, range by range.
 use Rattle.std.proofs.Common.{◌≡◌, ℕ, zero, suc, ◌+◌, ◌-◌, ◌<◌, List, [], ◌∷◌, ◌++◌, length, get_or, take, map, refl, sym, ap, ◌∙◌, append_assoc, arith}
+use Rattle.std.specs.FinMap.{entries}
 use Rattle.std.specs.List.{flat_map}
 use Rattle.std.proofs.lemmas.List.{take_more, append-nil, map-append}
 use Rattle.std.proofs.lemmas.List.Concat.{flat_map-append}
 use Rattle.lake_base.specs.Digest.{sha256}
 use Rattle.lake_base.specs.Entry.{Object}
-use Rattle.lake_base.specs.Spelling.{path_at, range_spelling, line_of, metarange_spelling}
-use Rattle.lake_base.specs.Cutting.{ranges}
+use Rattle.lake_base.specs.Spelling.{path_at, range_spelling, line_of, metarange_spelling, file_name}
+use Rattle.lake_base.specs.Cutting.{ranges, files, tree_id}
+use Rattle.lake_base.specs.KeyMap.{Objects}
 use Rattle.lake_base.specs.declared.cutting.Cut.{Cut}
+use Rattle.lake_base.specs.declared.digest.Digest.{Digest}
 use Rattle.lake_base.specs.declared.files.RangeLine.{RangeLine}
 use Rattle.lake_base.proofs.Cuts.{ranges_none}
 
@@ -69,3 +72,23 @@ tree_is g cut rows rest done y lines none made said head =
     let all_made : map g done ≡ map range_spelling (ranges cut rows) = sym (append-nil (map g done)) ∙ sym (ap (λ r. map g done ++ map range_spelling r) nothing) ∙ made in
     let all_said : lines ≡ map line_of (ranges cut rows) = sym (append-nil lines) ∙ sym (ap (λ r. lines ++ map line_of r) nothing) ∙ said in
     ap (λ l. g y ∷ l) all_made ∙ ap (λ h. h ∷ map range_spelling (ranges cut rows)) (head ∙ ap metarange_spelling all_said)
+
+-- ---- ids
+
+-- a digest of a file's bytes is its name
+pub named : (digest : Digest) (bytes : List ℕ) → digest.0 ≡ sha256 bytes → digest ≡ file_name bytes
+named digest bytes is = λ i. record { 0 = is i }
+
+-- the files of a tree aren't none
+pub some_file : {B : Type 0} (g : B → List ℕ) (cut : Cut) (objects : Objects) (all : List B) → map g all ≡ files cut objects → 0 < length all
+unfolding files
+some_file g cut objects [] is = absurd cc
+some_file g cut objects (file ∷ all) is = omega arith
+
+-- the first of them is the metarange, by which the tree is known
+pub first_file : {B : Type 0} (g : B → List ℕ) (cut : Cut) (objects : Objects) (all : List B) (d : B) → map g all ≡ files cut objects → file_name (g (get_or all 0 d)) ≡ tree_id cut objects
+unfolding files tree_id
+first_file g cut objects [] d is = absurd cc
+first_file g cut objects (file ∷ all) d is =
+    let head : g file ≡ metarange_spelling (map line_of (ranges cut (entries objects))) = cc in
+    ap file_name head

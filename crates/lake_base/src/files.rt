@@ -9,13 +9,14 @@
 //! Numbers have their high byte first. A file is known by its SHA-256. The metarange of an empty map is
 //! `0100000000`.
 ghost use Rattle.std.specs.Prelude.{◌≡◌, ◌++◌, ◌<◌, ◌^◌, length, map, IfOk, OnOk};
+ghost use Rattle.std.specs.FinMap.{len};
 ghost use Rattle.std.specs.List.{flat_map};
 ghost use Rattle.std.specs.Int.{w16, to_be_bytes};
-ghost use Rattle.lake_base.specs.Cutting.{files};
+ghost use Rattle.lake_base.specs.Cutting.{files, tree_id};
 ghost use Rattle.lake_base.specs.Digest.{sha256};
-ghost use Rattle.lake_base.specs.Spelling.{row_spelling, range_spelling, line_of, line_spelling, metarange_spelling, commit_spelling};
+ghost use Rattle.lake_base.specs.Spelling.{row_spelling, range_spelling, line_of, line_spelling, metarange_spelling, commit_spelling, commit_id};
 
-use crate::commit::CommitRecord;
+use crate::commit::{CommitId, CommitRecord};
 use crate::cutting::{Cut, first_range};
 use crate::digest::Digest;
 use crate::entry::Entry;
@@ -153,7 +154,8 @@ pub fn commit_bytes(alloc: Global, commit: &CommitRecord) -> Result<Vec<u8>, NoM
 /// whose counts a file may not hold, is answered as want of memory.
 pub fn files(alloc: Global, objects: &KeyMap, cut: &Cut) -> Result<Vec<Vec<u8>>, NoMemory>
     requires { 0 < cut.now.modulus }
-    ensures { IfOk result (λ all. map (λ file. file.items) all.items ≡ files cut.now objects.now) }
+    ensures spelled { IfOk result (λ all. map (λ file. file.items) all.items ≡ files cut.now objects.now) }
+    ensures few { OnOk result (len objects.now < 2 ^ 32) }
 {
     let mut rest = objects.as_slice();
     if rest.len() >= 4294967296 {
@@ -171,6 +173,23 @@ pub fn files(alloc: Global, objects: &KeyMap, cut: &Cut) -> Result<Vec<Vec<u8>>,
     let metarange = metarange_bytes(alloc, lines.as_slice())?;
     ranges.insert(0, metarange)?;
     Ok(ranges)
+}
+
+/// The id of the tree of a map: the SHA-256 of its metarange. It is refused where `files` is.
+pub fn tree_id(alloc: Global, objects: &KeyMap, cut: &Cut) -> Result<Digest, NoMemory>
+    requires { 0 < cut.now.modulus }
+    ensures { IfOk result (λ id. id ≡ tree_id cut.now objects.now) }
+{
+    let all = files(alloc, objects, cut)?;
+    Ok(Digest::of(all[0].as_slice()))
+}
+
+/// The id of a commit: the SHA-256 of its bytes.
+pub fn commit_id(alloc: Global, commit: &CommitRecord) -> Result<CommitId, NoMemory>
+    ensures { IfOk result (λ id. id ≡ commit_id commit.now) }
+{
+    let bytes = commit_bytes(alloc, commit)?;
+    Ok(Digest::of(bytes.as_slice()))
 }
 
 // Appends the ids of parents behind two bytes of count.

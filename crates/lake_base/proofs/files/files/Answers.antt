@@ -1,5 +1,6 @@
 use Rattle.std.proofs.Common.{◌∷◌, ◌++◌, length, map, ap, ◌∙◌, arith}
 use Rattle.std.proofs.lemmas.List.{length_push}
+use Rattle.std.specs.FinMap.{len-entries}
 use Rattle.lake_base.specs.Cutting.{files, ranges}
 use Rattle.lake_base.specs.Spelling.{range_spelling, line_of, metarange_spelling}
 use Rattle.lake_base.proofs.Cuts.{IsFirst, first_of, ranges_few, some_left, none_left}
@@ -48,9 +49,14 @@ metarange_bytes-requires c =
     let all = ap length c.as_slice-2.ensures.value in
     omega arith
 
-pub returns : goal.returns
+pub returns-clause-few : goal.returns-clause-few
+returns-clause-few c =
+    let all = ap length c.as_slice-rest.ensures in
+    omega (arith, len-entries c.args.objects.now)
+
+pub returns-clause-spelled : goal.returns-clause-spelled
 unfolding files
-returns c =
+returns-clause-spelled c =
     let cut = c.args.cut.now in
     let rows = c.as_slice-rest.result.now in
     ap (map (λ file. file.items)) c.in_ok-insert.ensures.items
