@@ -1,7 +1,8 @@
 -- What one call after another appends, and the files of a tree, range by range.
-use Rattle.std.proofs.Common.{◌≡◌, ℕ, zero, suc, ◌+◌, ◌-◌, ◌<◌, List, [], ◌∷◌, ◌++◌, length, get_or, take, map, refl, sym, ap, ◌∙◌, append_assoc, arith}
+use Rattle.std.proofs.Common.{T, ◌≡◌, ℕ, zero, suc, ◌+◌, ◌-◌, ◌<◌, List, [], ◌∷◌, ◌++◌, length, get_or, take, map, refl, sym, ap, subst, ◌∙◌, append_assoc, add-one, arith}
 use Rattle.std.specs.FinMap.{entries}
-use Rattle.std.specs.List.{flat_map}
+use Rattle.std.specs.FinMap.Entries.{below_all}
+use Rattle.std.specs.List.{flat_map, AllByRecursion}
 use Rattle.std.proofs.lemmas.List.{take_more, append-nil, map-append}
 use Rattle.std.proofs.lemmas.List.Concat.{flat_map-append}
 use Rattle.lake_base.specs.Digest.{sha256}
@@ -9,9 +10,11 @@ use Rattle.lake_base.specs.Entry.{Object}
 use Rattle.lake_base.specs.Spelling.{path_at, range_spelling, line_of, metarange_spelling, file_name}
 use Rattle.lake_base.specs.Cutting.{ranges, files, tree_id}
 use Rattle.lake_base.specs.KeyMap.{Objects}
+use Rattle.lake_base.specs.Maps.{byte_order, Ascend}
 use Rattle.lake_base.specs.declared.cutting.Cut.{Cut}
 use Rattle.lake_base.specs.declared.digest.Digest.{Digest}
 use Rattle.lake_base.specs.declared.files.RangeLine.{RangeLine}
+use Rattle.lake_base.proofs.Ascending.{first, second, both, head_below, tail_ascends}
 use Rattle.lake_base.proofs.Cuts.{ranges_none}
 
 -- ---- appends
@@ -35,6 +38,15 @@ flat_more f out old new xs i x lt is written more =
     ∙ ap (λ b. flat_map f (take i xs) ++ b) (append-nil (f (get_or xs i x)) ∙ ap f (sym is)) in
     more ∙ ap (λ b. b ++ f x) written ∙ append_assoc out (flat_map f (take i xs)) (f x) ∙ ap (λ b. out ++ b) (sym one)
 
+-- one more item that P holds of
+pub all_more : {X : Type 0} (P : X → Type 0) (xs : List X) (i : ℕ) (x : X) → i < length xs → x ≡ get_or xs i x → AllByRecursion P (take i xs) → P x → AllByRecursion P (take (i + 1) xs)
+all_more {X = X} P xs i x lt is before here = subst (λ n. AllByRecursion P (take n xs)) (sym (add-one i)) (step xs i lt is before)
+  where
+    step : (xs : List X) (i : ℕ) → i < length xs → x ≡ get_or xs i x → AllByRecursion P (take i xs) → AllByRecursion P (take (suc i) xs)
+    step [] i lt is before = absurd (omega arith)
+    step (y ∷ xs) zero lt is before = (subst P is here, tt)
+    step (y ∷ xs) (suc i) lt is before = (before.0, step xs i (omega arith) is before.1)
+
 -- the path at a place
 pub path_is : (rows : List (List ℕ × Object)) (i : ℕ) (d : List ℕ × Object) → i < length rows → (get_or rows i d).0 ≡ path_at rows i
 path_is [] i d lt = absurd (omega arith)
@@ -44,7 +56,7 @@ path_is (row ∷ rows) (suc i) d lt = path_is rows i d (omega arith)
 -- what is said of a range of these rows, part by part
 pub line_is : (rows : List (List ℕ × Object)) (line : RangeLine) → line.name.0 ≡ sha256 (range_spelling rows) → line.rows ≡ length rows → line.first ≡ path_at rows 0 → line.last ≡ path_at rows (length rows - 1) → line ≡ line_of rows
 unfolding line_of
-line_is rows line name len first last = λ i. record { name = record { 0 = name i }; rows = len i; first = first i; last = last i }
+line_is rows line name len low high = λ i. record { name = record { 0 = name i }; rows = len i; first = low i; last = high i }
 
 -- ---- files
 
@@ -72,6 +84,19 @@ tree_is g cut rows rest done y lines none made said head =
     let all_made : map g done ≡ map range_spelling (ranges cut rows) = sym (append-nil (map g done)) ∙ sym (ap (λ r. map g done ++ map range_spelling r) nothing) ∙ made in
     let all_said : lines ≡ map line_of (ranges cut rows) = sym (append-nil lines) ∙ sym (ap (λ r. lines ++ map line_of r) nothing) ∙ said in
     ap (λ l. g y ∷ l) all_made ∙ ap (λ h. h ∷ map range_spelling (ranges cut rows)) (head ∙ ap metarange_spelling all_said)
+
+-- ---- paths that ascend
+
+below_front : (key : List ℕ) (n : ℕ) (rows : List (List ℕ × Object)) → T (below_all byte_order key rows) → T (below_all byte_order key (take n rows))
+below_front key zero rows h = tt
+below_front key (suc n) [] h = tt
+below_front key (suc n) (row ∷ rows) h = both _ _ (first _ _ h) (below_front key n rows (second _ _ h))
+
+-- a front of rows whose paths ascend
+pub ascends_take : (n : ℕ) (rows : List (List ℕ × Object)) → Ascend rows → Ascend (take n rows)
+ascends_take zero rows h = tt
+ascends_take (suc n) [] h = tt
+ascends_take (suc n) (row ∷ rows) h = both _ _ (below_front row.0 n rows (head_below row rows h)) (ascends_take n rows (tail_ascends row rows h))
 
 -- ---- ids
 

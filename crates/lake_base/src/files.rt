@@ -10,11 +10,12 @@
 //! `0100000000`.
 ghost use Rattle.std.specs.Prelude.{◌≡◌, ◌++◌, ◌<◌, ◌^◌, length, map, IfOk, OnOk};
 ghost use Rattle.std.specs.FinMap.{len};
-ghost use Rattle.std.specs.List.{flat_map};
+ghost use Rattle.std.specs.List.{flat_map, AllByRecursion};
 ghost use Rattle.std.specs.Int.{w16, to_be_bytes};
 ghost use Rattle.lake_base.specs.Cutting.{files, tree_id};
 ghost use Rattle.lake_base.specs.Digest.{sha256};
-ghost use Rattle.lake_base.specs.Spelling.{row_spelling, range_spelling, line_of, line_spelling, metarange_spelling, commit_spelling, commit_id};
+ghost use Rattle.lake_base.specs.Maps.{Ascend};
+ghost use Rattle.lake_base.specs.Spelling.{row_spelling, range_spelling, line_of, line_spelling, metarange_spelling, commit_spelling, commit_id, IsRow, IsRange, IsSpelledCommit};
 
 use crate::commit::{CommitId, CommitRecord};
 use crate::cutting::{Cut, first_range};
@@ -50,12 +51,15 @@ impl RangeLine {
     }
 }
 
-/// The one spelling of a range of these rows. There is at least one row, and fewer than 2^32.
+/// The one spelling of a range of these rows. There is at least one row, and fewer than 2^32, and their paths
+/// strictly ascend.
 #[tactic(auto, unfolding(crate::specs::Spelling::range_spelling))]
 pub fn range_bytes(alloc: Global, rows: &[(Path, Entry)]) -> Result<Vec<u8>, NoMemory>
     requires some { 0 < length rows.now }
     requires few { length rows.now < 2 ^ 32 }
-    ensures { IfOk result (λ bytes. bytes.items ≡ range_spelling rows.now) }
+    requires ascend { Ascend rows.now }
+    ensures spelled { IfOk result (λ bytes. bytes.items ≡ range_spelling rows.now) }
+    ensures limits { OnOk result (IsRange rows.now) }
 {
     let mut out = Vec::new(alloc);
     out.push(1)?;
@@ -66,7 +70,8 @@ pub fn range_bytes(alloc: Global, rows: &[(Path, Entry)]) -> Result<Vec<u8>, NoM
 
 // Appends rows.
 fn put_rows(out: &mut Vec<u8>, rows: &[(Path, Entry)]) -> Result<(), NoMemory>
-    ensures { OnOk result (out.new.items ≡ out.old.items ++ flat_map row_spelling rows.now) }
+    ensures spelled { OnOk result (out.new.items ≡ out.old.items ++ flat_map row_spelling rows.now) }
+    ensures limits { OnOk result (AllByRecursion IsRow rows.now) }
 {
     for (path, entry) in rows {
         put_row(out, path, entry)?;
@@ -76,7 +81,8 @@ fn put_rows(out: &mut Vec<u8>, rows: &[(Path, Entry)]) -> Result<(), NoMemory>
 
 // Appends a row.
 fn put_row(out: &mut Vec<u8>, path: &Path, entry: &Entry) -> Result<(), NoMemory>
-    ensures { OnOk result (out.new.items ≡ out.old.items ++ row_spelling (path.now, entry.now)) }
+    ensures spelled { OnOk result (out.new.items ≡ out.old.items ++ row_spelling (path.now, entry.now)) }
+    ensures limits { OnOk result (IsRow (path.now, entry.now)) }
 {
     put_text(out, path.as_slice())?;
     put_entry(out, entry)?;
@@ -134,7 +140,8 @@ fn line_of(alloc: Global, rows: &[(Path, Entry)], name: Digest) -> Result<RangeL
 
 /// The one spelling of a commit.
 pub fn commit_bytes(alloc: Global, commit: &CommitRecord) -> Result<Vec<u8>, NoMemory>
-    ensures { IfOk result (λ bytes. bytes.items ≡ commit_spelling commit.now) }
+    ensures spelled { IfOk result (λ bytes. bytes.items ≡ commit_spelling commit.now) }
+    ensures limits { OnOk result (IsSpelledCommit commit.now) }
 {
     let mut out = Vec::new(alloc);
     out.push(1)?;
@@ -142,8 +149,8 @@ pub fn commit_bytes(alloc: Global, commit: &CommitRecord) -> Result<Vec<u8>, NoM
     out.extend_from_slice(&commit.generation.to_be_bytes())?;
     out.extend_from_slice(&commit.date.to_be_bytes())?;
     put_parents(&mut out, commit.parents.as_slice())?;
-    put_text(&mut out, commit.committer.as_slice())?;
-    let message = commit.message.as_slice();
+    put_text(&mut out, commit.committer.as_str().as_bytes())?;
+    let message = commit.message.as_str().as_bytes();
     out.extend_from_slice(&(message.len() as u32).to_be_bytes())?;
     out.extend_from_slice(message)?;
     put_metadata(&mut out, &commit.metadata)?;

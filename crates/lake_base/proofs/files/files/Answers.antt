@@ -1,16 +1,22 @@
-use Rattle.std.proofs.Common.{◌∷◌, ◌++◌, length, map, ap, ◌∙◌, arith}
+use Rattle.std.proofs.Common.{◌∷◌, ◌++◌, length, map, ap, sym, subst, ◌∙◌, arith}
 use Rattle.std.proofs.lemmas.List.{length_push}
-use Rattle.std.specs.FinMap.{len-entries}
-use Rattle.lake_base.specs.Cutting.{files, ranges}
+use Rattle.std.specs.FinMap.{len-entries, entries_sorted}
+use Rattle.lake_base.specs.Cutting.{files, ranges, first_len}
+use Rattle.lake_base.specs.Maps.{Ascend}
 use Rattle.lake_base.specs.Spelling.{range_spelling, line_of, metarange_spelling}
+use Rattle.lake_base.proofs.Ascending.{ascends_drop}
 use Rattle.lake_base.proofs.Cuts.{IsFirst, first_of, ranges_few, some_left, none_left}
-use Rattle.lake_base.proofs.TreeFiles.{made_more, said_more, tree_is}
+use Rattle.lake_base.proofs.TreeFiles.{made_more, said_more, tree_is, ascends_take}
 use Rattle.lake_base.proofs.files.files.Goals as goal
 
 pub range_bytes-requires-clause-some : goal.range_bytes-requires-clause-some
 range_bytes-requires-clause-some c =
     (first_of c.args.cut.now c.loop-rest.rest.now c.first_range.result.0.now c.first_range.result.1.now (some_left c.loop-rest.rest.now c.is_empty.result c.is_empty.ensures c.loop-rest-test.true)
     c.first_range.ensures.front c.first_range.ensures.rest).some
+
+pub range_bytes-requires-clause-ascend : goal.range_bytes-requires-clause-ascend
+range_bytes-requires-clause-ascend c =
+    subst Ascend (sym c.first_range.ensures.front) (ascends_take (first_len c.args.cut.now c.loop-rest.rest.now) c.loop-rest.rest.now c.loop-rest.invariant.ascend)
 
 pub line_of-requires-clause-some : goal.line_of-requires-clause-some
 line_of-requires-clause-some c =
@@ -21,6 +27,19 @@ pub loop-rest-smaller : goal.loop-rest-smaller
 loop-rest-smaller c =
     (first_of c.args.cut.now c.loop-rest.rest.now c.first_range.result.0.now c.first_range.result.1.now (some_left c.loop-rest.rest.now c.is_empty.result c.is_empty.ensures c.loop-rest-test.true)
     c.first_range.ensures.front c.first_range.ensures.rest).shorter
+
+pub loop-rest-init : goal.loop-rest-init
+loop-rest-init c =
+    let cut = c.args.cut.now in
+    let rows = c.as_slice-rest.result.now in
+    let none = ap length c.new-lines.ensures.items in
+    record {
+      few = omega arith;
+      ascend = subst Ascend (sym c.as_slice-rest.ensures) (entries_sorted c.args.objects.now);
+      counted = omega arith;
+      made = ap (λ done. map (λ file. file.items) done ++ map range_spelling (ranges cut rows)) c.new-ranges.ensures.items;
+      said = ap (λ lines. lines ++ map line_of (ranges cut rows)) c.new-lines.ensures.items;
+    }
 
 pub loop-rest-preserved : goal.loop-rest-preserved
 loop-rest-preserved c =
@@ -34,10 +53,11 @@ loop-rest-preserved c =
     let one = length_push c.loop-rest.lines.items c.in_ok-line_of.field-0 in
     record {
       few = omega arith;
+      ascend = subst Ascend (sym c.first_range.ensures.rest) (ascends_drop (first_len cut rest) rest c.loop-rest.invariant.ascend);
       counted = omega arith;
       made = ap (λ done. map (λ file. file.items) done ++ map range_spelling (ranges cut left)) c.in_ok-push-2.ensures.items
           ∙ made_more range_spelling (λ file. file.items) c.loop-rest.ranges.items c.in_ok-bytes.bytes front (ranges cut rest) (ranges cut left) (map range_spelling (ranges cut c.as_slice-rest.result.now))
-          c.loop-rest.invariant.made first.cons c.in_ok-bytes.ensures;
+          c.loop-rest.invariant.made first.cons c.in_ok-bytes.ensures.spelled;
       said = ap (λ lines. lines ++ map line_of (ranges cut left)) c.in_ok-push.ensures.items
           ∙ said_more line_of c.loop-rest.lines.items c.in_ok-line_of.field-0 front (ranges cut rest) (ranges cut left) (map line_of (ranges cut c.as_slice-rest.result.now))
           c.loop-rest.invariant.said first.cons c.in_ok-line_of.ensures;
