@@ -1,13 +1,20 @@
 -- What one call after another appends, and the files of a tree, range by range.
-use Rattle.std.proofs.Common.{◌≡◌, ℕ, zero, suc, ◌+◌, ◌<◌, List, [], ◌∷◌, ◌++◌, length, get_or, take, map, refl, sym, ap, ◌∙◌, append_assoc, arith}
-use Rattle.std.specs.Int.{w32, to_be_bytes}
-use Rattle.std.specs.List.{flat_map}
+use Rattle.std.proofs.Common.{T, ◌≡◌, ℕ, zero, suc, ◌+◌, ◌-◌, ◌<◌, List, [], ◌∷◌, ◌++◌, length, get_or, take, map, refl, sym, ap, subst, ◌∙◌, append_assoc, add-one, arith}
+use Rattle.std.specs.FinMap.{entries}
+use Rattle.std.specs.FinMap.Entries.{below_all}
+use Rattle.std.specs.List.{flat_map, AllByRecursion}
 use Rattle.std.proofs.lemmas.List.{take_more, append-nil, map-append}
 use Rattle.std.proofs.lemmas.List.Concat.{flat_map-append}
+use Rattle.lake_base.specs.Digest.{sha256}
 use Rattle.lake_base.specs.Entry.{Object}
-use Rattle.lake_base.specs.Spelling.{path_at, range_spelling, range_line, metarange_spelling}
-use Rattle.lake_base.specs.Cutting.{ranges}
+use Rattle.lake_base.specs.Spelling.{path_at, range_spelling, line_of, metarange_spelling, file_name}
+use Rattle.lake_base.specs.Cutting.{ranges, files, tree_id}
+use Rattle.lake_base.specs.KeyMap.{Objects}
+use Rattle.lake_base.specs.Maps.{byte_order, Ascend}
 use Rattle.lake_base.specs.declared.cutting.Cut.{Cut}
+use Rattle.lake_base.specs.declared.digest.Digest.{Digest}
+use Rattle.lake_base.specs.declared.files.RangeLine.{RangeLine}
+use Rattle.lake_base.proofs.Ascending.{first, second, both, head_below, tail_ascends}
 use Rattle.lake_base.proofs.Cuts.{ranges_none}
 
 -- ---- appends
@@ -31,11 +38,25 @@ flat_more f out old new xs i x lt is written more =
     ∙ ap (λ b. flat_map f (take i xs) ++ b) (append-nil (f (get_or xs i x)) ∙ ap f (sym is)) in
     more ∙ ap (λ b. b ++ f x) written ∙ append_assoc out (flat_map f (take i xs)) (f x) ∙ ap (λ b. out ++ b) (sym one)
 
+-- one more item that P holds of
+pub all_more : {X : Type 0} (P : X → Type 0) (xs : List X) (i : ℕ) (x : X) → i < length xs → x ≡ get_or xs i x → AllByRecursion P (take i xs) → P x → AllByRecursion P (take (i + 1) xs)
+all_more {X = X} P xs i x lt is before here = subst (λ n. AllByRecursion P (take n xs)) (sym (add-one i)) (step xs i lt is before)
+  where
+    step : (xs : List X) (i : ℕ) → i < length xs → x ≡ get_or xs i x → AllByRecursion P (take i xs) → AllByRecursion P (take (suc i) xs)
+    step [] i lt is before = absurd (omega arith)
+    step (y ∷ xs) zero lt is before = (subst P is here, tt)
+    step (y ∷ xs) (suc i) lt is before = (before.0, step xs i (omega arith) is before.1)
+
 -- the path at a place
 pub path_is : (rows : List (List ℕ × Object)) (i : ℕ) (d : List ℕ × Object) → i < length rows → (get_or rows i d).0 ≡ path_at rows i
 path_is [] i d lt = absurd (omega arith)
 path_is (row ∷ rows) zero d lt = refl
 path_is (row ∷ rows) (suc i) d lt = path_is rows i d (omega arith)
+
+-- what is said of a range of these rows, part by part
+pub line_is : (rows : List (List ℕ × Object)) (line : RangeLine) → line.name.0 ≡ sha256 (range_spelling rows) → line.rows ≡ length rows → line.first ≡ path_at rows 0 → line.last ≡ path_at rows (length rows - 1) → line ≡ line_of rows
+unfolding line_of
+line_is rows line name len low high = λ i. record { name = record { 0 = name i }; rows = len i; first = low i; last = high i }
 
 -- ---- files
 
@@ -47,24 +68,52 @@ made_more f g done y x xs rest all made is same =
     ∙ ap (λ c. map g done ++ c ∷ map f rest) same ∙ sym (ap (λ l. map g done ++ map f l) is) ∙ made
 
 -- one more line, and one range less
-pub said_more : {A : Type 0} (h : A → List ℕ) (old new : List ℕ) (x : A) (xs rest : List A) (all : List ℕ)
-    → old ++ flat_map h xs ≡ all → xs ≡ x ∷ rest → new ≡ old ++ h x → new ++ flat_map h rest ≡ all
-said_more h old new x xs rest all said is more =
-    ap (λ l. l ++ flat_map h rest) more ∙ append_assoc old (h x) (flat_map h rest) ∙ sym (ap (λ l. old ++ flat_map h l) is) ∙ said
+pub said_more : {A B : Type 0} (h : A → B) (old : List B) (line : B) (x : A) (xs rest : List A) (all : List B)
+    → old ++ map h xs ≡ all → xs ≡ x ∷ rest → line ≡ h x → (old ++ line ∷ []) ++ map h rest ≡ all
+said_more h old line x xs rest all said is same =
+    append_assoc old (line ∷ []) (map h rest) ∙ ap (λ y. old ++ y ∷ map h rest) same ∙ sym (ap (λ l. old ++ map h l) is) ∙ said
 
 -- the files, once no row is left
-pub tree_is : {B : Type 0} (g : B → List ℕ) (cut : Cut) (rows rest : List (List ℕ × Object)) (done : List B) (y : B) (lines : List ℕ) (n : ℕ)
-    → rest ≡ [] → length done + length (ranges cut rest) ≡ length (ranges cut rows)
-    → map g done ++ map range_spelling (ranges cut rest) ≡ map range_spelling (ranges cut rows)
-    → lines ++ flat_map range_line (ranges cut rest) ≡ flat_map range_line (ranges cut rows)
-    → n ≡ length done → g y ≡ 1 ∷ (to_be_bytes w32 n ++ lines)
-    → g y ∷ map g done ≡ metarange_spelling (ranges cut rows) ∷ map range_spelling (ranges cut rows)
-unfolding metarange_spelling
-tree_is g cut rows rest done y lines n none counted made said n-is head =
+pub tree_is : {B : Type 0} (g : B → List ℕ) (cut : Cut) (rows rest : List (List ℕ × Object)) (done : List B) (y : B) (lines : List RangeLine)
+    → rest ≡ [] → map g done ++ map range_spelling (ranges cut rest) ≡ map range_spelling (ranges cut rows)
+    → lines ++ map line_of (ranges cut rest) ≡ map line_of (ranges cut rows)
+    → g y ≡ metarange_spelling lines
+    → g y ∷ map g done ≡ metarange_spelling (map line_of (ranges cut rows)) ∷ map range_spelling (ranges cut rows)
+tree_is g cut rows rest done y lines none made said head =
     let nothing : ranges cut rest ≡ [] = ap (ranges cut) none ∙ ranges_none cut in
-    let zero_left = ap length nothing in
     let all_made : map g done ≡ map range_spelling (ranges cut rows) = sym (append-nil (map g done)) ∙ sym (ap (λ r. map g done ++ map range_spelling r) nothing) ∙ made in
-    let all_said : lines ≡ flat_map range_line (ranges cut rows) = sym (append-nil lines) ∙ sym (ap (λ r. lines ++ flat_map range_line r) nothing) ∙ said in
-    let all_counted : n ≡ length (ranges cut rows) = omega arith in
-    ap (λ l. g y ∷ l) all_made ∙ ap (λ h. h ∷ map range_spelling (ranges cut rows))
-    (head ∙ ap (λ k. 1 ∷ (to_be_bytes w32 k ++ lines)) all_counted ∙ ap (λ l. 1 ∷ (to_be_bytes w32 (length (ranges cut rows)) ++ l)) all_said)
+    let all_said : lines ≡ map line_of (ranges cut rows) = sym (append-nil lines) ∙ sym (ap (λ r. lines ++ map line_of r) nothing) ∙ said in
+    ap (λ l. g y ∷ l) all_made ∙ ap (λ h. h ∷ map range_spelling (ranges cut rows)) (head ∙ ap metarange_spelling all_said)
+
+-- ---- paths that ascend
+
+below_front : (key : List ℕ) (n : ℕ) (rows : List (List ℕ × Object)) → T (below_all byte_order key rows) → T (below_all byte_order key (take n rows))
+below_front key zero rows h = tt
+below_front key (suc n) [] h = tt
+below_front key (suc n) (row ∷ rows) h = both _ _ (first _ _ h) (below_front key n rows (second _ _ h))
+
+-- a front of rows whose paths ascend
+pub ascends_take : (n : ℕ) (rows : List (List ℕ × Object)) → Ascend rows → Ascend (take n rows)
+ascends_take zero rows h = tt
+ascends_take (suc n) [] h = tt
+ascends_take (suc n) (row ∷ rows) h = both _ _ (below_front row.0 n rows (head_below row rows h)) (ascends_take n rows (tail_ascends row rows h))
+
+-- ---- ids
+
+-- a digest of a file's bytes is its name
+pub named : (digest : Digest) (bytes : List ℕ) → digest.0 ≡ sha256 bytes → digest ≡ file_name bytes
+named digest bytes is = λ i. record { 0 = is i }
+
+-- the files of a tree aren't none
+pub some_file : {B : Type 0} (g : B → List ℕ) (cut : Cut) (objects : Objects) (all : List B) → map g all ≡ files cut objects → 0 < length all
+unfolding files
+some_file g cut objects [] is = absurd cc
+some_file g cut objects (file ∷ all) is = omega arith
+
+-- the first of them is the metarange, by which the tree is known
+pub first_file : {B : Type 0} (g : B → List ℕ) (cut : Cut) (objects : Objects) (all : List B) (d : B) → map g all ≡ files cut objects → file_name (g (get_or all 0 d)) ≡ tree_id cut objects
+unfolding files tree_id
+first_file g cut objects [] d is = absurd cc
+first_file g cut objects (file ∷ all) d is =
+    let head : g file ≡ metarange_spelling (map line_of (ranges cut (entries objects))) = cc in
+    ap file_name head

@@ -7,8 +7,9 @@ use Rattle.std.specs.Str.{bytes_eq}
 use Rattle.lake_base.specs.Entry.{Object}
 use Rattle.lake_base.specs.KeyMap.{Objects}
 use Rattle.lake_base.specs.Sameness.{same_row}
-use Rattle.lake_base.specs.Spelling.{row_spelling, range_spelling, metarange_spelling}
+use Rattle.lake_base.specs.Spelling.{row_spelling, range_spelling, metarange_spelling, line_of, file_name}
 use Rattle.lake_base.specs.declared.cutting.Cut.{Cut}
+use Rattle.lake_base.specs.declared.digest.Digest.{Digest}
 
 -- FNV-1a of 64 bits: each byte is taken in by XOR, and then the sum multiplied by the prime, modulo 2^64.
 abbrev pub fnv_from : ℕ → List ℕ → ℕ
@@ -55,7 +56,11 @@ ranges cut rows = ranges_within (length rows) cut rows
 
 -- the files of a tree: the metarange, and then the ranges in order
 unfoldable pub files : Cut → Objects → List (List ℕ)
-files cut objects = metarange_spelling (ranges cut (entries objects)) ∷ map range_spelling (ranges cut (entries objects))
+files cut objects = metarange_spelling (map line_of (ranges cut (entries objects))) ∷ map range_spelling (ranges cut (entries objects))
+
+-- a tree is known by the SHA-256 of its metarange
+unfoldable pub tree_id : Cut → Objects → Digest
+tree_id cut objects = file_name (metarange_spelling (map line_of (ranges cut (entries objects))))
 
 -- a row before the segments of the rows after it
 abbrev pub before_segments : Cut → List ℕ × Object → List (List (List ℕ × Object)) → List (List (List ℕ × Object))

@@ -1,15 +1,19 @@
 -- The one spelling of each value as bytes: the project's own formats, numbers with their high byte first.
-use Rattle.std.specs.Prelude.{◌≡◌, ◌<◌, ◌≤◌, ◌-◌, ◌^◌, ℕ, false, true, List, [], ◌∷◌, ◌++◌, length, slice_get, slice_index, codes, nat_eq, option_map}
+use Rattle.std.specs.Prelude.{◌≡◌, ◌<◌, ◌≤◌, ◌-◌, ◌^◌, ℕ, false, true, List, [], ◌∷◌, ◌++◌, length, slice_get, slice_index, codes, nat_eq, option_map, None}
 use Rattle.std.specs.Option.{unwrap_or}
 use Rattle.std.specs.List.{flat_map, starts_with, AllByRecursion}
 use Rattle.std.specs.Int.{w16, w32, w64, to_be_bytes}
 use Rattle.std.specs.Str.{is_utf8}
-use Rattle.lake_base.specs.Commit.{Commit}
+use Rattle.lake_base.specs.Commit.{Commit, IsCommit}
 use Rattle.lake_base.specs.Digest.{sha256}
 use Rattle.lake_base.specs.Entry.{Object}
+use Rattle.lake_base.specs.Maps.{Ascend}
+use Rattle.lake_base.specs.Names.{path_fault}
 use Rattle.lake_base.specs.Pairs.{ArePairs}
+use Rattle.lake_base.specs.declared.digest.Digest.{Digest}
 use Rattle.lake_base.specs.declared.entry.Place.{Place}
 use Rattle.lake_base.specs.declared.entry.Place.TheVariants.{Own, External}
+use Rattle.lake_base.specs.declared.files.RangeLine.{RangeLine}
 
 -- two bytes of length, and that many bytes
 abbrev pub short_text : List ℕ → List ℕ
@@ -44,14 +48,21 @@ range_spelling rows = 1 ∷ (to_be_bytes w32 (length rows) ++ flat_map row_spell
 abbrev pub path_at : List (List ℕ × Object) → ℕ → List ℕ
 path_at rows at = unwrap_or (option_map (λ row. row.0) (slice_get rows at)) []
 
--- what a metarange says of a range: its name, the SHA-256 of its file; its count of rows; its first path and its last
-unfoldable pub range_line : List (List ℕ × Object) → List ℕ
-range_line rows =
-    sha256 (range_spelling rows) ++ (to_be_bytes w32 (length rows) ++ (short_text (path_at rows 0) ++ short_text (path_at rows (length rows - 1))))
+-- the SHA-256 of a file's bytes, by which it is known
+abbrev pub file_name : List ℕ → Digest
+file_name bytes = record { 0 = sha256 bytes }
+
+-- what is said of a range of these rows: its file's name, its count of rows, its first path and its last
+unfoldable pub line_of : List (List ℕ × Object) → RangeLine
+line_of rows = record { name = file_name (range_spelling rows); rows = length rows; first = path_at rows 0; last = path_at rows (length rows - 1) }
+
+-- what is said of a range: its name, its count of rows in four bytes, its first path and its last
+unfoldable pub line_spelling : RangeLine → List ℕ
+line_spelling line = line.name.0 ++ (to_be_bytes w32 line.rows ++ (short_text line.first ++ short_text line.last))
 
 -- a metarange, version 1: the count of ranges in four bytes, and what is said of each
-unfoldable pub metarange_spelling : List (List (List ℕ × Object)) → List ℕ
-metarange_spelling ranges = 1 ∷ (to_be_bytes w32 (length ranges) ++ flat_map range_line ranges)
+unfoldable pub metarange_spelling : List RangeLine → List ℕ
+metarange_spelling lines = 1 ∷ (to_be_bytes w32 (length lines) ++ flat_map line_spelling lines)
 
 -- a text behind four bytes of length
 abbrev pub long_text : List ℕ → List ℕ
@@ -64,6 +75,10 @@ commit_spelling c =
     1 ∷ (c.meta_range.0 ++ (to_be_bytes w64 c.generation ++ (to_be_bytes w64 c.date
     ++ (to_be_bytes w16 (length c.parents) ++ (flat_map (λ parent. parent.0) c.parents
     ++ (short_text c.committer ++ (long_text c.message ++ pairs_spelling c.metadata)))))))
+
+-- a commit is known by the SHA-256 of its bytes
+abbrev pub commit_id : Commit → Digest
+commit_id c = file_name (commit_spelling c)
 
 abbrev pub AreBytes : List ℕ → Type 0
 AreBytes bytes = (i : ℕ) → slice_index bytes i < 256
@@ -102,3 +117,23 @@ pub record IsEntry (e : Object) : Type 0 where
   pub mtime : e.mtime < 2 ^ 64
   pub content_type : IsText 0 255 e.content_type
   pub metadata : IsMetadata e.metadata
+
+-- a row within its limits
+abbrev pub IsRow : List ℕ × Object → Type 0
+IsRow row = (path_fault row.0 ≡ None) × IsEntry row.1
+
+-- the rows of a range within their limits: at least one, fewer than 2^32, paths strictly ascending
+pub record IsRange (rows : List (List ℕ × Object)) : Type 0 where
+  pub some : 1 ≤ length rows
+  pub few : length rows < 2 ^ 32
+  pub ascend : Ascend rows
+  pub each : AllByRecursion IsRow rows
+
+-- a commit within its limits, its texts UTF-8
+pub record IsSpelledCommit (c : Commit) : Type 0 where
+  pub commit : IsCommit c.generation c.parents c.committer c.message
+  pub generation : c.generation < 2 ^ 64
+  pub date : c.date < 2 ^ 64
+  pub committer : is_utf8 c.committer ≡ true
+  pub message : is_utf8 c.message ≡ true
+  pub metadata : IsMetadata c.metadata

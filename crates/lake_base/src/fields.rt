@@ -197,8 +197,8 @@ pub fn metadata_at(alloc: Global, bytes: &[u8]) -> Result<(Pairs, &[u8]), EntryF
     Ok((Pairs::of(pairs), rest))
 }
 
-/// Appends a text behind two bytes of length.
-pub fn put_text(out: &mut Vec<u8>, text: &[u8]) -> Result<(), NoMemory>
+// Appends a text behind two bytes of length. Where it is refused, part of it may have been appended.
+pub(crate) fn put_text(out: &mut Vec<u8>, text: &[u8]) -> Result<(), NoMemory>
     requires { length text.now < 2 ^ 16 }
     ensures { OnOk result (out.new.items ≡ out.old.items ++ short_text text.now) }
 {
@@ -207,8 +207,8 @@ pub fn put_text(out: &mut Vec<u8>, text: &[u8]) -> Result<(), NoMemory>
     Ok(())
 }
 
-/// Appends metadata behind two bytes of count.
-pub fn put_metadata(out: &mut Vec<u8>, pairs: &Pairs) -> Result<(), NoMemory>
+// Appends metadata behind two bytes of count. Where it is refused, part of it may have been appended.
+pub(crate) fn put_metadata(out: &mut Vec<u8>, pairs: &Pairs) -> Result<(), NoMemory>
     ensures spelled { OnOk result (out.new.items ≡ out.old.items ++ pairs_spelling pairs.now) }
     ensures limits { OnOk result (IsMetadata pairs.now) }
 {

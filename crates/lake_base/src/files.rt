@@ -8,14 +8,16 @@
 //!
 //! Numbers have their high byte first. A file is known by its SHA-256. The metarange of an empty map is
 //! `0100000000`.
-ghost use Rattle.std.specs.Prelude.{◌≡◌, ◌∷◌, ◌++◌, ◌<◌, ◌^◌, length, map, IfOk, OnOk};
-ghost use Rattle.std.specs.List.{flat_map};
-ghost use Rattle.std.specs.Int.{w16, w32, to_be_bytes};
-ghost use Rattle.lake_base.specs.Cutting.{files};
+ghost use Rattle.std.specs.Prelude.{◌≡◌, ◌++◌, ◌<◌, ◌^◌, length, map, IfOk, OnOk};
+ghost use Rattle.std.specs.FinMap.{len};
+ghost use Rattle.std.specs.List.{flat_map, AllByRecursion};
+ghost use Rattle.std.specs.Int.{w16, to_be_bytes};
+ghost use Rattle.lake_base.specs.Cutting.{files, tree_id};
 ghost use Rattle.lake_base.specs.Digest.{sha256};
-ghost use Rattle.lake_base.specs.Spelling.{row_spelling, range_spelling, range_line, commit_spelling};
+ghost use Rattle.lake_base.specs.Maps.{Ascend};
+ghost use Rattle.lake_base.specs.Spelling.{row_spelling, range_spelling, line_of, line_spelling, metarange_spelling, commit_spelling, commit_id, IsRow, IsRange, IsSpelledCommit};
 
-use crate::commit::CommitRecord;
+use crate::commit::{CommitId, CommitRecord};
 use crate::cutting::{Cut, first_range};
 use crate::digest::Digest;
 use crate::entry::Entry;
@@ -26,12 +28,38 @@ use crate::outside::NoMemory;
 use crate::spelling::put_entry;
 use std::alloc::Global;
 
-/// The one spelling of a range of these rows. There is at least one row, and fewer than 2^32.
+/// What a metarange says of a range: the SHA-256 of its file, its count of rows, its first and its last path.
+#[derive(Debug, Drop)]
+pub struct RangeLine {
+    pub name: Digest,
+    pub rows: u32,
+    pub first: Path,
+    pub last: Path,
+}
+
+impl RangeLine {
+    /// An equal one.
+    pub fn copy(&self, alloc: Global) -> Result<RangeLine, NoMemory>
+        ensures { IfOk result (λ copy. copy ≡ self.now) }
+    {
+        Ok(RangeLine {
+            name: self.name,
+            rows: self.rows,
+            first: self.first.copy(alloc)?,
+            last: self.last.copy(alloc)?,
+        })
+    }
+}
+
+/// The one spelling of a range of these rows. There is at least one row, and fewer than 2^32, and their paths
+/// strictly ascend.
 #[tactic(auto, unfolding(crate::specs::Spelling::range_spelling))]
 pub fn range_bytes(alloc: Global, rows: &[(Path, Entry)]) -> Result<Vec<u8>, NoMemory>
     requires some { 0 < length rows.now }
     requires few { length rows.now < 2 ^ 32 }
-    ensures { IfOk result (λ bytes. bytes.items ≡ range_spelling rows.now) }
+    requires ascend { Ascend rows.now }
+    ensures spelled { IfOk result (λ bytes. bytes.items ≡ range_spelling rows.now) }
+    ensures limits { OnOk result (IsRange rows.now) }
 {
     let mut out = Vec::new(alloc);
     out.push(1)?;
@@ -42,7 +70,8 @@ pub fn range_bytes(alloc: Global, rows: &[(Path, Entry)]) -> Result<Vec<u8>, NoM
 
 // Appends rows.
 fn put_rows(out: &mut Vec<u8>, rows: &[(Path, Entry)]) -> Result<(), NoMemory>
-    ensures { OnOk result (out.new.items ≡ out.old.items ++ flat_map row_spelling rows.now) }
+    ensures spelled { OnOk result (out.new.items ≡ out.old.items ++ flat_map row_spelling rows.now) }
+    ensures limits { OnOk result (AllByRecursion IsRow rows.now) }
 {
     for (path, entry) in rows {
         put_row(out, path, entry)?;
@@ -52,35 +81,67 @@ fn put_rows(out: &mut Vec<u8>, rows: &[(Path, Entry)]) -> Result<(), NoMemory>
 
 // Appends a row.
 fn put_row(out: &mut Vec<u8>, path: &Path, entry: &Entry) -> Result<(), NoMemory>
-    ensures { OnOk result (out.new.items ≡ out.old.items ++ row_spelling (path.now, entry.now)) }
+    ensures spelled { OnOk result (out.new.items ≡ out.old.items ++ row_spelling (path.now, entry.now)) }
+    ensures limits { OnOk result (IsRow (path.now, entry.now)) }
 {
     put_text(out, path.as_slice())?;
     put_entry(out, entry)?;
     Ok(())
 }
 
-/// Appends what a metarange says of a range of these rows, whose file has this digest. There is at least one
-/// row, and fewer than 2^32.
-pub fn put_range_line(
-    out: &mut Vec<u8>,
-    name: &Digest,
-    rows: &[(Path, Entry)],
-) -> Result<(), NoMemory>
+/// The one spelling of a metarange that says this of its ranges. There are fewer than 2^32.
+#[tactic(auto, unfolding(crate::specs::Spelling::metarange_spelling))]
+pub fn metarange_bytes(alloc: Global, lines: &[RangeLine]) -> Result<Vec<u8>, NoMemory>
+    requires { length lines.now < 2 ^ 32 }
+    ensures { IfOk result (λ bytes. bytes.items ≡ metarange_spelling lines.now) }
+{
+    let mut out = Vec::new(alloc);
+    out.push(1)?;
+    out.extend_from_slice(&(lines.len() as u32).to_be_bytes())?;
+    put_range_lines(&mut out, lines)?;
+    Ok(out)
+}
+
+// Appends what is said of ranges.
+fn put_range_lines(out: &mut Vec<u8>, lines: &[RangeLine]) -> Result<(), NoMemory>
+    ensures { OnOk result (out.new.items ≡ out.old.items ++ flat_map line_spelling lines.now) }
+{
+    for line in lines {
+        put_range_line(out, line)?;
+    }
+    Ok(())
+}
+
+// Appends what is said of a range. Where it is refused, part of it may have been appended.
+pub(crate) fn put_range_line(out: &mut Vec<u8>, line: &RangeLine) -> Result<(), NoMemory>
+    ensures { OnOk result (out.new.items ≡ out.old.items ++ line_spelling line.now) }
+{
+    out.extend_from_slice(&line.name.0)?;
+    out.extend_from_slice(&line.rows.to_be_bytes())?;
+    put_text(out, line.first.as_slice())?;
+    put_text(out, line.last.as_slice())?;
+    Ok(())
+}
+
+// What is said of a range of these rows, whose file has this name.
+fn line_of(alloc: Global, rows: &[(Path, Entry)], name: Digest) -> Result<RangeLine, NoMemory>
     requires some { 0 < length rows.now }
     requires few { length rows.now < 2 ^ 32 }
-    requires named { name.now.0 ≡ sha256 (range_spelling rows.now) }
-    ensures { OnOk result (out.new.items ≡ out.old.items ++ range_line rows.now) }
+    requires named { name.0 ≡ sha256 (range_spelling rows.now) }
+    ensures { IfOk result (λ line. line ≡ line_of rows.now) }
 {
-    out.extend_from_slice(&name.0)?;
-    out.extend_from_slice(&(rows.len() as u32).to_be_bytes())?;
-    put_text(out, rows[0].0.as_slice())?;
-    put_text(out, rows[rows.len() - 1].0.as_slice())?;
-    Ok(())
+    Ok(RangeLine {
+        name,
+        rows: rows.len() as u32,
+        first: rows[0].0.copy(alloc)?,
+        last: rows[rows.len() - 1].0.copy(alloc)?,
+    })
 }
 
 /// The one spelling of a commit.
 pub fn commit_bytes(alloc: Global, commit: &CommitRecord) -> Result<Vec<u8>, NoMemory>
-    ensures { IfOk result (λ bytes. bytes.items ≡ commit_spelling commit.now) }
+    ensures spelled { IfOk result (λ bytes. bytes.items ≡ commit_spelling commit.now) }
+    ensures limits { OnOk result (IsSpelledCommit commit.now) }
 {
     let mut out = Vec::new(alloc);
     out.push(1)?;
@@ -88,8 +149,8 @@ pub fn commit_bytes(alloc: Global, commit: &CommitRecord) -> Result<Vec<u8>, NoM
     out.extend_from_slice(&commit.generation.to_be_bytes())?;
     out.extend_from_slice(&commit.date.to_be_bytes())?;
     put_parents(&mut out, commit.parents.as_slice())?;
-    put_text(&mut out, commit.committer.as_slice())?;
-    let message = commit.message.as_slice();
+    put_text(&mut out, commit.committer.as_str().as_bytes())?;
+    let message = commit.message.as_str().as_bytes();
     out.extend_from_slice(&(message.len() as u32).to_be_bytes())?;
     out.extend_from_slice(message)?;
     put_metadata(&mut out, &commit.metadata)?;
@@ -100,7 +161,8 @@ pub fn commit_bytes(alloc: Global, commit: &CommitRecord) -> Result<Vec<u8>, NoM
 /// whose counts a file may not hold, is answered as want of memory.
 pub fn files(alloc: Global, objects: &KeyMap, cut: &Cut) -> Result<Vec<Vec<u8>>, NoMemory>
     requires { 0 < cut.now.modulus }
-    ensures { IfOk result (λ all. map (λ file. file.items) all.items ≡ files cut.now objects.now) }
+    ensures spelled { IfOk result (λ all. map (λ file. file.items) all.items ≡ files cut.now objects.now) }
+    ensures few { OnOk result (len objects.now < 2 ^ 32) }
 {
     let mut rest = objects.as_slice();
     if rest.len() >= 4294967296 {
@@ -111,24 +173,30 @@ pub fn files(alloc: Global, objects: &KeyMap, cut: &Cut) -> Result<Vec<Vec<u8>>,
     while !rest.is_empty() {
         let (range, left) = first_range(rest, cut);
         let bytes = range_bytes(alloc, range)?;
-        put_range_line(&mut lines, &Digest::of(bytes.as_slice()), range)?;
+        lines.push(line_of(alloc, range, Digest::of(bytes.as_slice()))?)?;
         ranges.push(bytes)?;
         rest = left;
     }
-    let metarange = metarange_of(alloc, ranges.len() as u32, lines.as_slice())?;
+    let metarange = metarange_bytes(alloc, lines.as_slice())?;
     ranges.insert(0, metarange)?;
     Ok(ranges)
 }
 
-// A metarange of so many ranges, of which these bytes say what is said.
-fn metarange_of(alloc: Global, count: u32, lines: &[u8]) -> Result<Vec<u8>, NoMemory>
-    ensures { IfOk result (λ bytes. bytes.items ≡ 1 ∷ (to_be_bytes w32 count ++ lines.now)) }
+/// The id of the tree of a map: the SHA-256 of its metarange. It is refused where `files` is.
+pub fn tree_id(alloc: Global, objects: &KeyMap, cut: &Cut) -> Result<Digest, NoMemory>
+    requires { 0 < cut.now.modulus }
+    ensures { IfOk result (λ id. id ≡ tree_id cut.now objects.now) }
 {
-    let mut out = Vec::new(alloc);
-    out.push(1)?;
-    out.extend_from_slice(&count.to_be_bytes())?;
-    out.extend_from_slice(lines)?;
-    Ok(out)
+    let all = files(alloc, objects, cut)?;
+    Ok(Digest::of(all[0].as_slice()))
+}
+
+/// The id of a commit: the SHA-256 of its bytes.
+pub fn commit_id(alloc: Global, commit: &CommitRecord) -> Result<CommitId, NoMemory>
+    ensures { IfOk result (λ id. id ≡ commit_id commit.now) }
+{
+    let bytes = commit_bytes(alloc, commit)?;
+    Ok(Digest::of(bytes.as_slice()))
 }
 
 // Appends the ids of parents behind two bytes of count.

@@ -33,8 +33,8 @@ pub fn entry_bytes(alloc: Global, entry: &Entry) -> Result<Vec<u8>, NoMemory>
     Ok(out)
 }
 
-/// Appends the spelling of the entry.
-pub fn put_entry(out: &mut Vec<u8>, entry: &Entry) -> Result<(), NoMemory>
+// Appends the spelling of the entry. Where it is refused, part of it may have been appended.
+pub(crate) fn put_entry(out: &mut Vec<u8>, entry: &Entry) -> Result<(), NoMemory>
     ensures spelled { OnOk result (out.new.items ≡ out.old.items ++ entry_spelling entry.now) }
     ensures limits { OnOk result (IsEntry entry.now) }
 {

@@ -3,7 +3,7 @@ ghost use Rattle.std.specs.Prelude.{◌<◌};
 
 use super::*;
 use crate::cutting::{first_range, fnv1a, is_break, row_len};
-use crate::files::{commit_bytes, files, range_bytes};
+use crate::files::{commit_bytes, commit_id, files, tree_id};
 use crate::segments::changed_ranges;
 
 // The range of the object of 5 bytes at `s3://x` under the path `a`.
@@ -129,5 +129,15 @@ fn files_are_spelled_to_the_byte(rt: HostRuntime) -> Result<(), Fail> {
     assert!(rt; metarange.as_slice()[5..].starts_with(&Digest::of(&RANGE).0));
     let commit = graphs::commit(alloc, &[], 1, 0)?;
     assert!(rt; commit_bytes(alloc, &commit)?.as_slice() == COMMIT.as_slice());
+    Ok(())
+}
+
+#[test]
+fn ids_are_sums_of_files(rt: HostRuntime) -> Result<(), Fail> {
+    let alloc = rt.alloc();
+    let tree = tree_id(alloc, &KeyMap::new(alloc), &USUAL_CUT)?;
+    assert!(rt; tree == Digest::of(&[1, 0, 0, 0, 0]));
+    let commit = graphs::commit(alloc, &[], 1, 0)?;
+    assert!(rt; commit_id(alloc, &commit)? == Digest::of(&COMMIT));
     Ok(())
 }

@@ -5,10 +5,12 @@ use Rattle.lake_base.specs.Spelling.{commit_spelling, short_text, pairs_spelling
 use Rattle.lake_base.proofs.TreeFiles.{nine}
 use Rattle.lake_base.proofs.files.commit_bytes.Goals as goal
 
-pub returns : goal.returns
+pub returns-clause-spelled : goal.returns-clause-spelled
 unfolding commit_spelling
-returns c =
+returns-clause-spelled c =
     let m = c.commit.inside in
+    let committer = c.as_bytes.ensures.value ∙ c.as_str.ensures.bytes in
+    let message = c.as_bytes-message.ensures.value ∙ c.as_str-2.ensures.bytes in
     nine (1 ∷ []) m.meta_range.0 (to_be_bytes w64 m.generation) (to_be_bytes w64 m.date) (to_be_bytes w16 (length m.parents)) (flat_map (λ parent. parent.0) m.parents)
     (short_text m.committer) (to_be_bytes w32 (length m.message)) m.message (pairs_spelling m.metadata)
     c.put_metadata.new.out.items c.push.new.self.items c.extend_from_slice.new.self.items c.extend_from_slice-2.new.self.items c.extend_from_slice-3.new.self.items
@@ -18,8 +20,8 @@ returns c =
     (c.in_ok-extend_from_slice-2.ensures.items ∙ ap (λ b. c.extend_from_slice.new.self.items ++ b) c.to_be_bytes.ensures)
     (c.in_ok-extend_from_slice-3.ensures.items ∙ ap (λ b. c.extend_from_slice-2.new.self.items ++ b) c.to_be_bytes-2.ensures)
     (c.in_ok-put_parents.ensures ∙ ap (λ p. c.extend_from_slice-3.new.self.items ++ (to_be_bytes w16 (length p) ++ flat_map (λ parent. parent.0) p)) c.as_slice.ensures)
-    (c.in_ok-put_text.ensures ∙ ap (λ t. c.put_parents.new.out.items ++ short_text t) c.as_slice-2.ensures)
-    (c.in_ok-extend_from_slice-4.ensures.items ∙ ap (λ b. c.put_text.new.out.items ++ b) (c.to_be_bytes-3.ensures ∙ ap (λ t. to_be_bytes w32 (length t)) c.as_slice-message.ensures))
-    (c.in_ok-extend_from_slice-5.ensures.items ∙ ap (λ t. c.extend_from_slice-4.new.self.items ++ t) c.as_slice-message.ensures)
+    (c.in_ok-put_text.ensures ∙ ap (λ t. c.put_parents.new.out.items ++ short_text t) committer)
+    (c.in_ok-extend_from_slice-4.ensures.items ∙ ap (λ b. c.put_text.new.out.items ++ b) (c.to_be_bytes-3.ensures ∙ ap (λ t. to_be_bytes w32 (length t)) message))
+    (c.in_ok-extend_from_slice-5.ensures.items ∙ ap (λ t. c.extend_from_slice-4.new.self.items ++ t) message)
     c.in_ok-put_metadata.ensures.spelled
     ∙ ap commit_spelling c.commit.view_is

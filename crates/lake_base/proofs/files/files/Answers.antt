@@ -1,11 +1,12 @@
-use Rattle.std.proofs.Common.{◌∷◌, ◌++◌, length, map, ap, ◌∙◌, arith}
-use Rattle.std.specs.Int.{w32, to_be_bytes}
-use Rattle.std.specs.List.{flat_map}
+use Rattle.std.proofs.Common.{◌∷◌, ◌++◌, length, map, ap, sym, subst, ◌∙◌, arith}
 use Rattle.std.proofs.lemmas.List.{length_push}
-use Rattle.lake_base.specs.Cutting.{files, ranges}
-use Rattle.lake_base.specs.Spelling.{range_spelling, range_line, metarange_spelling}
+use Rattle.std.specs.FinMap.{len-entries, entries_sorted}
+use Rattle.lake_base.specs.Cutting.{files, ranges, first_len}
+use Rattle.lake_base.specs.Maps.{Ascend}
+use Rattle.lake_base.specs.Spelling.{range_spelling, line_of, metarange_spelling}
+use Rattle.lake_base.proofs.Ascending.{ascends_drop}
 use Rattle.lake_base.proofs.Cuts.{IsFirst, first_of, ranges_few, some_left, none_left}
-use Rattle.lake_base.proofs.TreeFiles.{made_more, said_more, tree_is}
+use Rattle.lake_base.proofs.TreeFiles.{made_more, said_more, tree_is, ascends_take}
 use Rattle.lake_base.proofs.files.files.Goals as goal
 
 pub range_bytes-requires-clause-some : goal.range_bytes-requires-clause-some
@@ -13,8 +14,12 @@ range_bytes-requires-clause-some c =
     (first_of c.args.cut.now c.loop-rest.rest.now c.first_range.result.0.now c.first_range.result.1.now (some_left c.loop-rest.rest.now c.is_empty.result c.is_empty.ensures c.loop-rest-test.true)
     c.first_range.ensures.front c.first_range.ensures.rest).some
 
-pub put_range_line-requires-clause-some : goal.put_range_line-requires-clause-some
-put_range_line-requires-clause-some c =
+pub range_bytes-requires-clause-ascend : goal.range_bytes-requires-clause-ascend
+range_bytes-requires-clause-ascend c =
+    subst Ascend (sym c.first_range.ensures.front) (ascends_take (first_len c.args.cut.now c.loop-rest.rest.now) c.loop-rest.rest.now c.loop-rest.invariant.ascend)
+
+pub line_of-requires-clause-some : goal.line_of-requires-clause-some
+line_of-requires-clause-some c =
     (first_of c.args.cut.now c.loop-rest.rest.now c.first_range.result.0.now c.first_range.result.1.now (some_left c.loop-rest.rest.now c.is_empty.result c.is_empty.ensures c.loop-rest-test.true)
     c.first_range.ensures.front c.first_range.ensures.rest).some
 
@@ -22,6 +27,19 @@ pub loop-rest-smaller : goal.loop-rest-smaller
 loop-rest-smaller c =
     (first_of c.args.cut.now c.loop-rest.rest.now c.first_range.result.0.now c.first_range.result.1.now (some_left c.loop-rest.rest.now c.is_empty.result c.is_empty.ensures c.loop-rest-test.true)
     c.first_range.ensures.front c.first_range.ensures.rest).shorter
+
+pub loop-rest-init : goal.loop-rest-init
+loop-rest-init c =
+    let cut = c.args.cut.now in
+    let rows = c.as_slice-rest.result.now in
+    let none = ap length c.new-lines.ensures.items in
+    record {
+      few = omega arith;
+      ascend = subst Ascend (sym c.as_slice-rest.ensures) (entries_sorted c.args.objects.now);
+      counted = omega arith;
+      made = ap (λ done. map (λ file. file.items) done ++ map range_spelling (ranges cut rows)) c.new-ranges.ensures.items;
+      said = ap (λ lines. lines ++ map line_of (ranges cut rows)) c.new-lines.ensures.items;
+    }
 
 pub loop-rest-preserved : goal.loop-rest-preserved
 loop-rest-preserved c =
@@ -32,30 +50,38 @@ loop-rest-preserved c =
     let first : IsFirst cut rest front left = first_of cut rest front left (some_left rest c.is_empty.result c.is_empty.ensures c.loop-rest-test.true) c.first_range.ensures.front c.first_range.ensures.rest in
     let cons = ap length first.cons in
     let pushed = ap length c.in_ok-push.ensures.items in
-    let one = length_push c.loop-rest.ranges.items c.in_ok-bytes.bytes in
+    let one = length_push c.loop-rest.lines.items c.in_ok-line_of.field-0 in
     record {
       few = omega arith;
+      ascend = subst Ascend (sym c.first_range.ensures.rest) (ascends_drop (first_len cut rest) rest c.loop-rest.invariant.ascend);
       counted = omega arith;
-      made = ap (λ done. map (λ file. file.items) done ++ map range_spelling (ranges cut left)) c.in_ok-push.ensures.items
+      made = ap (λ done. map (λ file. file.items) done ++ map range_spelling (ranges cut left)) c.in_ok-push-2.ensures.items
           ∙ made_more range_spelling (λ file. file.items) c.loop-rest.ranges.items c.in_ok-bytes.bytes front (ranges cut rest) (ranges cut left) (map range_spelling (ranges cut c.as_slice-rest.result.now))
-          c.loop-rest.invariant.made first.cons c.in_ok-bytes.ensures;
-      said = said_more range_line c.loop-rest.lines.items c.put_range_line.new.out.items front (ranges cut rest) (ranges cut left) (flat_map range_line (ranges cut c.as_slice-rest.result.now))
-          c.loop-rest.invariant.said first.cons c.in_ok-put_range_line.ensures;
+          c.loop-rest.invariant.made first.cons c.in_ok-bytes.ensures.spelled;
+      said = ap (λ lines. lines ++ map line_of (ranges cut left)) c.in_ok-push.ensures.items
+          ∙ said_more line_of c.loop-rest.lines.items c.in_ok-line_of.field-0 front (ranges cut rest) (ranges cut left) (map line_of (ranges cut c.as_slice-rest.result.now))
+          c.loop-rest.invariant.said first.cons c.in_ok-line_of.ensures;
     }
 
-pub overflow_cast-len : goal.overflow_cast-len
-overflow_cast-len c =
+pub metarange_bytes-requires : goal.metarange_bytes-requires
+metarange_bytes-requires c =
     let few = ranges_few c.args.cut.now c.as_slice-rest.result.now in
+    let all = ap length c.as_slice-2.ensures.value in
     omega arith
 
-pub returns : goal.returns
+pub returns-clause-few : goal.returns-clause-few
+returns-clause-few c =
+    let all = ap length c.as_slice-rest.ensures in
+    omega (arith, len-entries c.args.objects.now)
+
+pub returns-clause-spelled : goal.returns-clause-spelled
 unfolding files
-returns c =
+returns-clause-spelled c =
     let cut = c.args.cut.now in
     let rows = c.as_slice-rest.result.now in
     ap (map (λ file. file.items)) c.in_ok-insert.ensures.items
-    ∙ tree_is (λ file. file.items) cut rows c.loop-rest.rest.now c.loop-rest.ranges.items c.in_ok-metarange.metarange c.loop-rest.lines.items c.len.result
+    ∙ tree_is (λ file. file.items) cut rows c.loop-rest.rest.now c.loop-rest.ranges.items c.in_ok-metarange.metarange c.loop-rest.lines.items
     (none_left c.loop-rest.rest.now c.is_empty.result c.is_empty.ensures c.loop-rest-test.false)
-    c.loop-rest.invariant.counted c.loop-rest.invariant.made c.loop-rest.invariant.said (omega arith)
-    (c.in_ok-metarange.ensures ∙ ap (λ l. 1 ∷ (to_be_bytes w32 c.len.result ++ l)) c.as_slice-2.ensures.value)
-    ∙ ap (λ r. metarange_spelling (ranges cut r) ∷ map range_spelling (ranges cut r)) c.as_slice-rest.ensures
+    c.loop-rest.invariant.made c.loop-rest.invariant.said
+    (c.in_ok-metarange.ensures ∙ ap metarange_spelling c.as_slice-2.ensures.value)
+    ∙ ap (λ r. metarange_spelling (map line_of (ranges cut r)) ∷ map range_spelling (ranges cut r)) c.as_slice-rest.ensures

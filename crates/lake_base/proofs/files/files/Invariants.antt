@@ -1,16 +1,17 @@
 use Rattle.std.proofs.Common.{◌≡◌, ◌+◌, ◌≤◌, ◌++◌, length, map}
-use Rattle.std.specs.List.{flat_map}
 use Rattle.lake_base.specs.Cutting.{ranges}
-use Rattle.lake_base.specs.Spelling.{range_spelling, range_line}
+use Rattle.lake_base.specs.Maps.{Ascend}
+use Rattle.lake_base.specs.Spelling.{range_spelling, line_of}
 use Rattle.lake_base.proofs.files.files.Given as goal
 
--- the files and the lines so far are those of the ranges before the rest
+-- the files and the lines so far are those of the ranges before the rest, whose paths ascend
 abbrev pub invariant-loop-rest : goal.invariant-loop-rest
 invariant-loop-rest l = record {
   few : length l.rest ≤ length l.initial.rest;
-  counted : length l.ranges.items + length (ranges l.cut l.rest) ≡ length (ranges l.cut l.initial.rest);
+  ascend : Ascend l.rest;
+  counted : length l.lines.items + length (ranges l.cut l.rest) ≡ length (ranges l.cut l.initial.rest);
   made : map (λ file. file.items) l.ranges.items ++ map range_spelling (ranges l.cut l.rest) ≡ map range_spelling (ranges l.cut l.initial.rest);
-  said : l.lines.items ++ flat_map range_line (ranges l.cut l.rest) ≡ flat_map range_line (ranges l.cut l.initial.rest);
+  said : l.lines.items ++ map line_of (ranges l.cut l.rest) ≡ map line_of (ranges l.cut l.initial.rest);
 }
 
 abbrev pub decreases-loop-rest : goal.decreases-loop-rest

@@ -1,0 +1,8 @@
+use Rattle.std.proofs.Common.{◌≡◌, ◌++◌, take}
+use Rattle.std.specs.List.{flat_map}
+use Rattle.lake_base.specs.Spelling.{line_spelling}
+use Rattle.lake_base.proofs.files.put_range_lines.Given as goal
+
+-- the lines so far are written
+abbrev pub invariant-loop-line : goal.invariant-loop-line
+invariant-loop-line l = l.out.items ≡ l.fn.out.items ++ flat_map line_spelling (take l.line-index l.lines)

@@ -1,0 +1,16 @@
+use Rattle.std.proofs.Common.{ap, ◌∙◌, rules}
+use Rattle.lake_base.specs.Digest.{sha256}
+use Rattle.lake_base.specs.Spelling.{file_name}
+use Rattle.lake_base.proofs.TreeFiles.{named, some_file, first_file}
+use Rattle.lake_base.proofs.files.tree_id.Goals as goal
+
+pub index-requires : goal.index-requires
+index-requires c =
+    let some = some_file (λ file. file.items) c.args.cut.now c.args.objects.now c.in_ok-all.all.items c.in_ok-all.ensures.spelled in
+    search rules
+
+pub returns : goal.returns
+returns c =
+    let bytes = c.as_slice.ensures.value ∙ ap (λ file. file.items) c.index.ensures in
+    named c.of.result _ (c.of.ensures ∙ ap sha256 bytes)
+    ∙ first_file (λ file. file.items) c.args.cut.now c.args.objects.now c.in_ok-all.all.items c.index.result.now c.in_ok-all.ensures.spelled
