@@ -1,6 +1,5 @@
 use Rattle.std.proofs.Common.{ap, ◌∙◌, rules}
 use Rattle.lake_base.specs.Digest.{sha256}
-use Rattle.lake_base.specs.Spelling.{file_name}
 use Rattle.lake_base.proofs.TreeFiles.{named, some_file, first_file}
 use Rattle.lake_base.proofs.files.tree_id.Goals as goal
 
