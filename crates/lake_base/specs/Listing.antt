@@ -32,6 +32,7 @@ item_from (Some text) key entry = item.Prefix text
 abbrev pub item_of : List ℕ → List ℕ → List ℕ → Object → Item
 item_of prefix delimiter key entry = item_from (common_prefix prefix delimiter key) key entry
 
+-- the name of an item: its path, or the common prefix
 abbrev pub item_name : Item → List ℕ
 item_name (item.Object path entry) = path
 item_name (item.Prefix text) = text
@@ -64,6 +65,7 @@ above after items = filter (λ i. is_lt (byte_order after i.0)) items
 abbrev pub still : PageQuery → List (List ℕ × Object) → List Item
 still query es = map (λ i. i.1) (above query.after (items_of query es))
 
+-- the items of a map above `after`, in byte order of their names
 abbrev pub items_above : PageQuery → Objects → List Item
 items_above query objects = still query (entries objects)
 

@@ -24,6 +24,7 @@ abbrev pub place_spelling : Place → List ℕ
 place_spelling (Own number digest) = 0 ∷ (to_be_bytes w64 number ++ digest.0)
 place_spelling (External at checksum) = 1 ∷ (short_text at ++ short_text checksum)
 
+-- a key and its value, each behind two bytes of length
 abbrev pub pair_spelling : List ℕ × List ℕ → List ℕ
 pair_spelling pair = short_text pair.0 ++ short_text pair.1
 
@@ -80,6 +81,7 @@ commit_spelling c =
 abbrev pub commit_id : Commit → Digest
 commit_id c = file_name (commit_spelling c)
 
+-- each is below 256
 abbrev pub AreBytes : List ℕ → Type 0
 AreBytes bytes = (i : ℕ) → slice_index bytes i < 256
 
@@ -101,6 +103,7 @@ pub record IsExternal (at checksum : List ℕ) : Type 0 where
   pub foreign : starts_with nat_eq at (codes "lake://") ≡ false
   pub sum : IsText 0 128 checksum
 
+-- a place within its limits, all of it UTF-8
 abbrev pub IsSpelledPlace : Place → Type 0
 IsSpelledPlace (Own number digest) = IsOwn number digest.0
 IsSpelledPlace (External at checksum) = IsExternal at checksum

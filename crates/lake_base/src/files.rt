@@ -51,7 +51,7 @@ impl RangeLine {
     }
 }
 
-/// The one spelling of a range of these rows. There is at least one row, and fewer than 2^32, and their paths
+/// The spelling of a range of these rows. There is at least one row, and fewer than 2^32, and their paths
 /// strictly ascend.
 #[tactic(auto, unfolding(crate::specs::Spelling::range_spelling))]
 pub fn range_bytes(alloc: Global, rows: &[(Path, Entry)]) -> Result<Vec<u8>, NoMemory>
@@ -89,7 +89,7 @@ fn put_row(out: &mut Vec<u8>, path: &Path, entry: &Entry) -> Result<(), NoMemory
     Ok(())
 }
 
-/// The one spelling of a metarange that says this of its ranges. There are fewer than 2^32.
+/// The spelling of a metarange that says this of its ranges. There are fewer than 2^32.
 #[tactic(auto, unfolding(crate::specs::Spelling::metarange_spelling))]
 pub fn metarange_bytes(alloc: Global, lines: &[RangeLine]) -> Result<Vec<u8>, NoMemory>
     requires { length lines.now < 2 ^ 32 }
@@ -138,7 +138,7 @@ fn line_of(alloc: Global, rows: &[(Path, Entry)], name: Digest) -> Result<RangeL
     })
 }
 
-/// The one spelling of a commit.
+/// The spelling of a commit.
 pub fn commit_bytes(alloc: Global, commit: &CommitRecord) -> Result<Vec<u8>, NoMemory>
     ensures spelled { IfOk result (λ bytes. bytes.items ≡ commit_spelling commit.now) }
     ensures limits { OnOk result (IsSpelledCommit commit.now) }
