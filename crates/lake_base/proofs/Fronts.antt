@@ -13,7 +13,6 @@ use Rattle.std.specs.Str.{is_utf8, IsUtf8, IsCharBoundary}
 use Rattle.std.proofs.lemmas.Str.{IsUtf8-from_is_utf8, is_utf8-from_IsUtf8, IsCharBoundary-start, IsUtf8-append, IsUtf8-take}
 use Rattle.lake_base.specs.Maps.{byte_order}
 use Rattle.lake_base.specs.Names.{path_fault}
-use Rattle.lake_base.specs.declared.names.TheConstants.{PATH_LIMIT}
 use Rattle.lake_base.specs.declared.names.NameFault.TheVariants.{Empty, TooLong, NotUtf8}
 use Rattle.lake_base.specs.Entry.{Object}
 use Rattle.lake_base.specs.Listing.{through, common_prefix, item_from, item_of, item_name}
@@ -297,4 +296,4 @@ both_none false false true x y z e = refl
 both_none false false false x y z e = cc
 
 pub path_utf8 : (path : List ℕ) → path_fault path ≡ None → is_utf8 path ≡ true
-path_utf8 path e = both_none (eqb (length path) 0) (ltb PATH_LIMIT (length path)) (is_utf8 path) Empty TooLong NotUtf8 e
+path_utf8 path e = both_none (eqb (length path) 0) (ltb 1024 (length path)) (is_utf8 path) Empty TooLong NotUtf8 e

@@ -25,7 +25,7 @@ pub record IsRemark (committer message : List ℕ) : Type 0 where
   pub short : length committer ≤ 128
   pub short_message : length message ≤ 65536
 
--- a first generation of 1, and at most two parents
+-- a generation of at least 1, at most two parents, and a remark within its limits
 pub record IsCommit (generation : ℕ) (parents : List Digest) (committer message : List ℕ) : Type 0 where
   pub remark : IsRemark committer message
   pub counted : 1 ≤ generation

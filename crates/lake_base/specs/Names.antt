@@ -2,7 +2,6 @@
 use Rattle.std.specs.Prelude.{is_none, take, min, ◌≡◌, ◌==◌, ◌&&◌, ◌||◌, ◌+◌, ℕ, Bool, not, nat_lt, nat_le, if◌then◌else◌, List, length, drop, slice_index, position, Option, Some, None, option_map, Result, Ok, Err}
 use Rattle.std.specs.Str.{is_utf8}
 use Rattle.std.specs.Option.{option_or}
-use Rattle.lake_base.specs.declared.names.TheConstants.{PATH_LIMIT}
 use Rattle.lake_base.specs.declared.names.NameFault.{NameFault}
 use Rattle.lake_base.specs.declared.names.NameFault.TheVariants.{Empty, TooShort, TooLong, NotUtf8, BadByte, NoMemory}
 
@@ -22,7 +21,7 @@ text_fault most bytes = if nat_lt most (length bytes) then Some TooLong else if 
 
 -- a path is UTF-8 of 1 to 1,024 bytes
 abbrev pub path_fault : List ℕ → Option NameFault
-path_fault bytes = if length bytes == 0 then Some Empty else text_fault PATH_LIMIT bytes
+path_fault bytes = if length bytes == 0 then Some Empty else text_fault 1024 bytes
 
 -- a decimal digit of ASCII
 abbrev pub is_digit : ℕ → Bool

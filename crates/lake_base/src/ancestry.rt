@@ -10,8 +10,8 @@
 //!          \   / \          base of R and M: R
 //!            Y --- N        first parents back from M: M, X, R
 //! ```
-ghost use Rattle.std.specs.Prelude.{◌≡◌, ◌↔◌, ◌≤◌, ◌^◌, ℕ, IfSome, IsSome, IsTrue, Some, None, MatchOption, option_copied};
-ghost use Rattle.lake_base.specs.Ancestry.{Graph, graph_of, commit_of, parents, generation, date, due_after, IsGraph, IsDue, IsReachedWithin, IsAncestor, IsCommon, comes_first, first_of, IsBase, back, first_parent, IsOnWalk};
+ghost use Rattle.std.specs.Prelude.{◌≡◌, ◌↔◌, ◌≤◌, ◌^◌, IsSome, IsTrue, Some, None, MatchOption, option_copied};
+ghost use Rattle.lake_base.specs.Ancestry.{graph_of, commit_of, parents, generation, date, due_after, IsGraph, IsDue, IsReachedWithin, IsAncestor, IsCommon, comes_first, first_of, IsBase, back, first_parent, IsOnWalk};
 ghost use Rattle.lake_base.specs.declared.digest.Digest.{Digest as Id};
 
 use crate::commit::{CommitId, CommitRecord};

@@ -19,7 +19,7 @@ use crate::names::Path;
 use crate::pairs::Pairs;
 
 /// How trees are cut: a range has at most `max_bytes` bytes of rows, unless it has one row, and ends after a
-/// break key. It is one key in `modulus` on average. Calls that take one ask for a modulus above 0.
+/// break key; one key in `modulus` is one, on average. Calls that take one ask for a modulus above 0.
 #[derive(Clone, Copy, Debug, PartialEq, Eq)]
 pub struct Cut {
     pub max_bytes: u64,

@@ -7,7 +7,7 @@
 //! first commit, which follows C1. Had C2 been dated 1,213,600, C1 would be kept, whatever its own date.
 ghost use Rattle.std.specs.Prelude.{◌≡◌, ◌↔◌, IsTrue, Some, option_copied};
 ghost use Rattle.std.specs.List.{Contains};
-ghost use Rattle.lake_base.specs.Ancestry.{graph_of, IsGraph, IsOnWalk};
+ghost use Rattle.lake_base.specs.Ancestry.{graph_of, IsGraph};
 ghost use Rattle.lake_base.specs.Keeping.{cutoff, days_of, IsHead, IsFollower, IsFollowed, IsYoung, IsKept, IsKeptBy};
 
 use crate::ancestry::{commit_of, date, first_parent, generation, is_on_walk};

@@ -1,6 +1,6 @@
 //! The words of the lake: names and texts, digests, entries and changes, key maps and their pages, the formats of
 //! bytes, and the traits of the outside. What the crates above share of merges, graphs, trees and rules is
-//! defined here, and beside each definition stands a plain, slow function that has it as its contract.
+//! defined here, and beside it stand plain, slow functions whose contracts are these definitions.
 //!
 //! - `text`, `names`: texts, paths and the names of repositories, branches and tags, each read from bytes.
 //! - `digest`: SHA-256.

@@ -37,7 +37,7 @@ pub struct PageQuery {
 /// One line of a listing.
 #[derive(Debug, Drop)]
 pub enum Item {
-    /// A key in which no delimiter stands after the prefix.
+    /// A key in which no delimiter stands after the prefix, or any key where the delimiter is empty.
     Object { path: Path, entry: Entry },
     /// What keys have in common up to the first delimiter after the prefix.
     Prefix(Text),

@@ -201,6 +201,24 @@ fn set(alloc: Global, pairs: &mut Pairs, key: &[u8]) -> Result<bool, Fail> {
 }
 
 #[test]
+fn a_body_fits_by_its_size_and_its_digest(rt: HostRuntime) -> Result<(), Fail> {
+    let alloc = rt.alloc();
+    let entry = Entry {
+        place: Place::Own {
+            number: 0,
+            digest: Digest::of(b"hello"),
+        },
+        size: 5,
+        mtime: 0,
+        content_type: Text::read(alloc, b"", 255)?,
+        metadata: Pairs::new(alloc),
+    };
+    assert!(rt; entry.fits(b"hello"));
+    assert!(rt; !entry.fits(b"hullo"));
+    Ok(())
+}
+
+#[test]
 fn a_pair_outside_its_limits_is_refused(rt: HostRuntime) -> Result<(), Fail> {
     let alloc = rt.alloc();
     let mut pairs = Pairs::new(alloc);

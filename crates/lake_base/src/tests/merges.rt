@@ -39,6 +39,12 @@ fn a_change_of_one_side_is_taken(rt: HostRuntime) -> Result<(), Fail> {
         ((1, 0, 1), 0),
         ((1, 2, 2), 2),
         ((0, 1, 1), 1),
+        ((0, 0, 0), 0),
+        ((0, 0, 1), 1),
+        ((0, 1, 0), 1),
+        ((1, 0, 0), 0),
+        ((1, 1, 0), 0),
+        ((1, 1, 1), 1),
     ] {
         assert_eq!(rt; conflict_count(alloc, three)?, 0);
         assert_eq!(rt; merged_size(alloc, three, Strategy::Refuse)?, Some(size));
