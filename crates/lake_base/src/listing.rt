@@ -3,7 +3,7 @@
 //! A key that begins with the prefix is listed as the part up to and including the first delimiter after the
 //! prefix, or as itself where the delimiter is empty or doesn't occur there. Under the prefix `` and the
 //! delimiter `/` the keys `a/1`, `a/2` and `b` are listed as the common prefix `a/` and the object `b`.
-ghost use Rattle.std.specs.Prelude.{◌≡◌, ◌<◌, ◌≤◌, ◌↔◌, ℕ, true, List, [], length, map, take, Some, None, IfOk, IfSome, MatchOption, option_copied, nat_eq, nat_lt};
+ghost use Rattle.std.specs.Prelude.{◌≡◌, ◌<◌, ◌≤◌, ◌↔◌, ℕ, true, [], length, map, take, Some, None, IfOk, IfSome, MatchOption, option_copied, nat_eq, nat_lt};
 ghost use Rattle.std.specs.Bool.{MatchBool};
 ghost use Rattle.std.specs.List.{starts_with, Contains};
 ghost use Rattle.std.specs.FinMap.{entries};
