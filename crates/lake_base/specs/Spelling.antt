@@ -91,6 +91,11 @@ pub record IsText (least most : ℕ) (text : List ℕ) : Type 0 where
   pub short : length text ≤ most
   pub utf8 : is_utf8 text ≡ true
 
+-- a digest of 32 bytes
+pub record IsDigest (digest : List ℕ) : Type 0 where
+  pub long : length digest ≡ 32
+  pub bytes : AreBytes digest
+
 -- a number of 64 bits and a digest of 32 bytes
 pub record IsOwn (number : ℕ) (digest : List ℕ) : Type 0 where
   pub wide : number < 2 ^ 64
@@ -132,9 +137,11 @@ pub record IsRange (rows : List (List ℕ × Object)) : Type 0 where
   pub ascend : Ascend rows
   pub each : AllByRecursion IsRow rows
 
--- a commit within its limits, its texts UTF-8
+-- a commit within its limits, its texts UTF-8, and the ids that it names of 32 bytes
 pub record IsSpelledCommit (c : Commit) : Type 0 where
   pub commit : IsCommit c.generation c.parents c.committer c.message
+  pub meta_range : IsDigest c.meta_range.0
+  pub parents : AllByRecursion (λ parent. IsDigest parent.0) c.parents
   pub generation : c.generation < 2 ^ 64
   pub date : c.date < 2 ^ 64
   pub committer : is_utf8 c.committer ≡ true

@@ -15,7 +15,7 @@ ghost use Rattle.std.specs.Int.{w16, to_be_bytes};
 ghost use Rattle.lake_base.specs.Cutting.{files, tree_id};
 ghost use Rattle.lake_base.specs.Digest.{sha256};
 ghost use Rattle.lake_base.specs.Maps.{Ascend};
-ghost use Rattle.lake_base.specs.Spelling.{row_spelling, range_spelling, line_of, line_spelling, metarange_spelling, commit_spelling, commit_id, IsRow, IsRange, IsSpelledCommit};
+ghost use Rattle.lake_base.specs.Spelling.{row_spelling, range_spelling, line_of, line_spelling, metarange_spelling, commit_spelling, commit_id, IsDigest, IsRow, IsRange, IsSpelledCommit};
 
 use crate::commit::{CommitId, CommitRecord};
 use crate::cutting::{Cut, first_range};
@@ -116,7 +116,7 @@ fn put_range_lines(out: &mut Vec<u8>, lines: &[RangeLine]) -> Result<(), NoMemor
 pub(crate) fn put_range_line(out: &mut Vec<u8>, line: &RangeLine) -> Result<(), NoMemory>
     ensures { OnOk result (out.new.items ≡ out.old.items ++ line_spelling line.now) }
 {
-    out.extend_from_slice(&line.name.0)?;
+    put_digest(out, &line.name.0)?;
     out.extend_from_slice(&line.rows.to_be_bytes())?;
     put_text(out, line.first.as_slice())?;
     put_text(out, line.last.as_slice())?;
@@ -145,7 +145,7 @@ pub fn commit_bytes(alloc: Global, commit: &CommitRecord) -> Result<Vec<u8>, NoM
 {
     let mut out = Vec::new(alloc);
     out.push(1)?;
-    out.extend_from_slice(&commit.meta_range.0)?;
+    put_digest(&mut out, &commit.meta_range.0)?;
     out.extend_from_slice(&commit.generation.to_be_bytes())?;
     out.extend_from_slice(&commit.date.to_be_bytes())?;
     put_parents(&mut out, commit.parents.as_slice())?;
@@ -185,7 +185,8 @@ pub fn files(alloc: Global, objects: &KeyMap, cut: &Cut) -> Result<Vec<Vec<u8>>,
 /// The id of the tree of a map: the SHA-256 of its metarange. It is refused where `files` is.
 pub fn tree_id(alloc: Global, objects: &KeyMap, cut: &Cut) -> Result<Digest, NoMemory>
     requires { 0 < cut.now.modulus }
-    ensures { IfOk result (λ id. id ≡ tree_id cut.now objects.now) }
+    ensures id { IfOk result (λ id. id ≡ tree_id cut.now objects.now) }
+    ensures few { OnOk result (len objects.now < 2 ^ 32) }
 {
     let all = files(alloc, objects, cut)?;
     Ok(Digest::of(all[0].as_slice()))
@@ -202,11 +203,22 @@ pub fn commit_id(alloc: Global, commit: &CommitRecord) -> Result<CommitId, NoMem
 // Appends the ids of parents behind two bytes of count.
 fn put_parents(out: &mut Vec<u8>, parents: &[Digest]) -> Result<(), NoMemory>
     requires { length parents.now < 2 ^ 16 }
-    ensures { OnOk result (out.new.items ≡ out.old.items ++ (to_be_bytes w16 (length parents.now) ++ flat_map (λ parent. parent.0) parents.now)) }
+    ensures spelled { OnOk result (out.new.items ≡ out.old.items ++ (to_be_bytes w16 (length parents.now) ++ flat_map (λ parent. parent.0) parents.now)) }
+    ensures limits { OnOk result (AllByRecursion (λ parent. IsDigest parent.0) parents.now) }
 {
     out.extend_from_slice(&(parents.len() as u16).to_be_bytes())?;
     for parent in parents {
-        out.extend_from_slice(&parent.0)?;
+        put_digest(out, &parent.0)?;
     }
+    Ok(())
+}
+
+// Appends a digest.
+fn put_digest(out: &mut Vec<u8>, digest: &[u8]) -> Result<(), NoMemory>
+    requires { length digest.now ≡ 32 }
+    ensures spelled { OnOk result (out.new.items ≡ out.old.items ++ digest.now) }
+    ensures limits { IsDigest digest.now }
+{
+    out.extend_from_slice(digest)?;
     Ok(())
 }
