@@ -99,8 +99,7 @@ pub record IsDigest (digest : List ℕ) : Type 0 where
 -- a number of 64 bits and a digest of 32 bytes
 pub record IsOwn (number : ℕ) (digest : List ℕ) : Type 0 where
   pub wide : number < 2 ^ 64
-  pub long : length digest ≡ 32
-  pub bytes : AreBytes digest
+  pub sum : IsDigest digest
 
 -- an address that isn't the lake's own, and a checksum
 pub record IsExternal (at checksum : List ℕ) : Type 0 where
