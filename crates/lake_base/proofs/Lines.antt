@@ -1,5 +1,5 @@
 -- What is said of the ranges of rows whose paths ascend is in order.
-use Rattle.std.proofs.Common.{T, ◌≡◌, ℕ, zero, suc, ◌+◌, ◌-◌, ◌<◌, ◌≤◌, false, List, [], ◌∷◌, ◌++◌, length, get_or, take, drop, map, refl, sym, ap, subst, ◌∙◌, arith}
+use Rattle.std.proofs.Common.{T, ◌≡◌, ℕ, zero, suc, ◌-◌, ◌<◌, false, List, [], ◌∷◌, ◌++◌, length, get_or, take, drop, map, refl, sym, ap, subst, ◌∙◌, arith}
 use Rattle.std.specs.FinMap.Entries.{below_all}
 use Rattle.std.specs.List.{AllByRecursion}
 use Rattle.std.specs.Ordering.{is_gt}
@@ -22,6 +22,7 @@ all_at P [] i x lt is all = absurd (omega arith)
 all_at P (y ∷ xs) zero x lt is all = subst P (sym is) all.0
 all_at P (y ∷ xs) (suc i) x lt is all = all_at P xs i x (omega arith) is all.1
 
+-- a key below all keys is below those after a front
 below_drop : (key : List ℕ) (n : ℕ) (rows : List (List ℕ × Object)) → T (below_all byte_order key rows) → T (below_all byte_order key (drop n rows))
 below_drop key zero rows h = h
 below_drop key (suc n) [] h = h
@@ -65,6 +66,7 @@ front_some cut row rows =
     let long = length-take (first_len cut (row ∷ rows)) (row ∷ rows) in
     omega arith
 
+-- what is said of each range, for at most so many ranges
 spans_within : (cut : Cut) (n : ℕ) (rows : List (List ℕ × Object)) → Ascend rows → AllByRecursion IsSpan (map line_of (ranges_within n cut rows))
 spans_within cut zero rows h = tt
 spans_within cut (suc n) [] h = tt
@@ -87,9 +89,10 @@ last_below : (cut : Cut) (n m : ℕ) (rows : List (List ℕ × Object)) → Asce
 unfolding line_of
 last_below cut n m rows h some =
     below_next cut m (path_at (take n rows) (length (take n rows) - 1)) (drop n rows) (λ d left.
-        sym (ap (λ p. byte_order p (get_or (drop n rows) 0 d).0) (path_is (take n rows) (length (take n rows) - 1) d (omega arith)))
-        ∙ front_below n rows (length (take n rows) - 1) d h (omega arith) left)
+    sym (ap (λ p. byte_order p (get_or (drop n rows) 0 d).0) (path_is (take n rows) (length (take n rows) - 1) d (omega arith)))
+    ∙ front_below n rows (length (take n rows) - 1) d h (omega arith) left)
 
+-- each range is above the one before, for at most so many ranges
 follow_within : (cut : Cut) (n : ℕ) (rows : List (List ℕ × Object)) → Ascend rows → FollowOn (map line_of (ranges_within n cut rows))
 follow_within cut zero rows h = tt
 follow_within cut (suc n) [] h = tt

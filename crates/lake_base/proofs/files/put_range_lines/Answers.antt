@@ -1,4 +1,4 @@
-use Rattle.std.proofs.Common.{arith, sym, subst}
+use Rattle.std.proofs.Common.{arith}
 use Rattle.lake_base.specs.Spelling.{line_spelling, IsSpan, IsLine}
 use Rattle.lake_base.proofs.TreeFiles.{flat_more, all_more}
 use Rattle.lake_base.proofs.Lines.{all_at}
