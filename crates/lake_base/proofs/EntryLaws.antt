@@ -100,7 +100,7 @@ place_takes (zero ∷ bytes) place rest fits e =
     let both = takes_then bytes (to_be_bytes w64 p.number) p.middle p.digest rest n.0 d.0 in
     subst (λ (q : Place). Takes (0 ∷ bytes) (place_spelling q) rest × IsSpelledPlace q) (sym p.is) (
       record { parts = ap (λ (l : List ℕ). 0 ∷ l) both.parts; rest_fits = both.rest_fits },
-      record { wide = n.1; long = (bytes_take 32 p.middle p.digest rest p.digest_read).2; bytes = d.1 },
+      record { wide = n.1; sum = record { long = (bytes_take 32 p.middle p.digest rest p.digest_read).2; bytes = d.1 } },
     )
 place_takes (suc zero ∷ bytes) place rest fits e =
     let p = external_parts bytes place rest e in
@@ -117,7 +117,7 @@ pub place_again : (place : Place) (rest : List ℕ) → IsSpelledPlace place →
 unfolding place_at own_at external_at address_at
 place_again (Own number digest) rest is =
     let regrouped : (to_be_bytes w64 number ++ digest.0) ++ rest ≡ to_be_bytes w64 number ++ (digest.0 ++ rest) = append_assoc (to_be_bytes w64 number) digest.0 rest in
-    ap own_at regrouped ∙ rw (number_again w64 (2 ^ 64) wide64 number (digest.0 ++ rest) is.wide, bytes_again 32 digest.0 rest is.long) refl
+    ap own_at regrouped ∙ rw (number_again w64 (2 ^ 64) wide64 number (digest.0 ++ rest) is.wide, bytes_again 32 digest.0 rest is.sum.long) refl
 place_again (External at checksum) rest is =
     let regrouped : (short_text at ++ short_text checksum) ++ rest ≡ short_text at ++ (short_text checksum ++ rest) = append_assoc (short_text at) (short_text checksum) rest in
     ap external_at regrouped ∙ rw (text_again 1 2048 at (short_text checksum ++ rest) (lit< tt) is.address, is.foreign, text_again 0 128 checksum rest (lit< tt) is.sum) refl

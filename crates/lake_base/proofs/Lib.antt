@@ -10,6 +10,7 @@ pub mod Hexes
 pub mod Items
 pub mod Kept
 pub mod Lasts
+pub mod Lines
 pub mod Listed
 pub mod Merges
 pub mod Moments

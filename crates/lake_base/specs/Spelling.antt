@@ -3,11 +3,13 @@ use Rattle.std.specs.Prelude.{◌≡◌, ◌<◌, ◌≤◌, ◌-◌, ◌^◌, �
 use Rattle.std.specs.Option.{unwrap_or}
 use Rattle.std.specs.List.{flat_map, starts_with, AllByRecursion}
 use Rattle.std.specs.Int.{w16, w32, w64, to_be_bytes}
+use Rattle.std.specs.Ordering.{is_gt}
 use Rattle.std.specs.Str.{is_utf8}
+use Rattle.std.specs.declared.cmp.Ordering.TheVariants.{Less}
 use Rattle.lake_base.specs.Commit.{Commit, IsCommit}
 use Rattle.lake_base.specs.Digest.{sha256}
 use Rattle.lake_base.specs.Entry.{Object}
-use Rattle.lake_base.specs.Maps.{Ascend}
+use Rattle.lake_base.specs.Maps.{byte_order, Ascend}
 use Rattle.lake_base.specs.Names.{path_fault}
 use Rattle.lake_base.specs.Pairs.{ArePairs}
 use Rattle.lake_base.specs.declared.digest.Digest.{Digest}
@@ -91,11 +93,15 @@ pub record IsText (least most : ℕ) (text : List ℕ) : Type 0 where
   pub short : length text ≤ most
   pub utf8 : is_utf8 text ≡ true
 
+-- a digest of 32 bytes
+pub record IsDigest (digest : List ℕ) : Type 0 where
+  pub long : length digest ≡ 32
+  pub bytes : AreBytes digest
+
 -- a number of 64 bits and a digest of 32 bytes
 pub record IsOwn (number : ℕ) (digest : List ℕ) : Type 0 where
   pub wide : number < 2 ^ 64
-  pub long : length digest ≡ 32
-  pub bytes : AreBytes digest
+  pub sum : IsDigest digest
 
 -- an address that isn't the lake's own, and a checksum
 pub record IsExternal (at checksum : List ℕ) : Type 0 where
@@ -132,9 +138,47 @@ pub record IsRange (rows : List (List ℕ × Object)) : Type 0 where
   pub ascend : Ascend rows
   pub each : AllByRecursion IsRow rows
 
--- a commit within its limits, its texts UTF-8
+-- what is said of a range that has rows: at least one row, and a first path that is at most its last
+pub record IsSpan (line : RangeLine) : Type 0 where
+  pub some : 1 ≤ line.rows
+  pub order : is_gt (byte_order line.first line.last) ≡ false
+
+-- the path is below the first path of the first of these lines, where there is one
+abbrev pub IsBelowNext : List ℕ → List RangeLine → Type 0
+IsBelowNext path [] = Unit {0}
+IsBelowNext path (line ∷ lines) = byte_order path line.first ≡ Less
+
+-- each first path is above the last path of the line before
+abbrev pub FollowOn : List RangeLine → Type 0
+FollowOn [] = Unit {0}
+FollowOn (line ∷ lines) = IsBelowNext line.last lines × FollowOn lines
+
+-- what is said of ranges with rows, one after the other
+pub record AreInOrder (lines : List RangeLine) : Type 0 where
+  pub spans : AllByRecursion IsSpan lines
+  pub follow : FollowOn lines
+
+-- what is said of a range, within its limits: a name of 32 bytes, at least one row and fewer than 2^32, and a
+-- first path that is at most its last
+pub record IsLine (line : RangeLine) : Type 0 where
+  pub name : IsDigest line.name.0
+  pub some : 1 ≤ line.rows
+  pub wide : line.rows < 2 ^ 32
+  pub first : path_fault line.first ≡ None
+  pub last : path_fault line.last ≡ None
+  pub order : is_gt (byte_order line.first line.last) ≡ false
+
+-- what is said of ranges, within its limits: fewer than 2^32, one after the other
+pub record IsMetarange (lines : List RangeLine) : Type 0 where
+  pub few : length lines < 2 ^ 32
+  pub each : AllByRecursion IsLine lines
+  pub follow : FollowOn lines
+
+-- a commit within its limits, its texts UTF-8, and the ids that it names of 32 bytes
 pub record IsSpelledCommit (c : Commit) : Type 0 where
   pub commit : IsCommit c.generation c.parents c.committer c.message
+  pub meta_range : IsDigest c.meta_range.0
+  pub parents : AllByRecursion (λ parent. IsDigest parent.0) c.parents
   pub generation : c.generation < 2 ^ 64
   pub date : c.date < 2 ^ 64
   pub committer : is_utf8 c.committer ≡ true

@@ -15,7 +15,7 @@ ghost use Rattle.std.specs.Int.{w16, to_be_bytes};
 ghost use Rattle.lake_base.specs.Cutting.{files, tree_id};
 ghost use Rattle.lake_base.specs.Digest.{sha256};
 ghost use Rattle.lake_base.specs.Maps.{Ascend};
-ghost use Rattle.lake_base.specs.Spelling.{row_spelling, range_spelling, line_of, line_spelling, metarange_spelling, commit_spelling, commit_id, IsRow, IsRange, IsSpelledCommit};
+ghost use Rattle.lake_base.specs.Spelling.{row_spelling, range_spelling, line_of, line_spelling, metarange_spelling, commit_spelling, commit_id, IsDigest, IsRow, IsRange, IsSpan, AreInOrder, IsLine, IsMetarange, IsSpelledCommit};
 
 use crate::commit::{CommitId, CommitRecord};
 use crate::cutting::{Cut, first_range};
@@ -89,11 +89,14 @@ fn put_row(out: &mut Vec<u8>, path: &Path, entry: &Entry) -> Result<(), NoMemory
     Ok(())
 }
 
-/// The spelling of a metarange that says this of its ranges. There are fewer than 2^32.
+/// The spelling of a metarange that says this of its ranges. There are fewer than 2^32, each with a row and a
+/// first path that is at most its last and above the last path of the range before.
 #[tactic(auto, unfolding(crate::specs::Spelling::metarange_spelling))]
 pub fn metarange_bytes(alloc: Global, lines: &[RangeLine]) -> Result<Vec<u8>, NoMemory>
-    requires { length lines.now < 2 ^ 32 }
-    ensures { IfOk result (λ bytes. bytes.items ≡ metarange_spelling lines.now) }
+    requires few { length lines.now < 2 ^ 32 }
+    requires order { AreInOrder lines.now }
+    ensures spelled { IfOk result (λ bytes. bytes.items ≡ metarange_spelling lines.now) }
+    ensures limits { OnOk result (IsMetarange lines.now) }
 {
     let mut out = Vec::new(alloc);
     out.push(1)?;
@@ -104,7 +107,9 @@ pub fn metarange_bytes(alloc: Global, lines: &[RangeLine]) -> Result<Vec<u8>, No
 
 // Appends what is said of ranges.
 fn put_range_lines(out: &mut Vec<u8>, lines: &[RangeLine]) -> Result<(), NoMemory>
-    ensures { OnOk result (out.new.items ≡ out.old.items ++ flat_map line_spelling lines.now) }
+    requires { AllByRecursion IsSpan lines.now }
+    ensures spelled { OnOk result (out.new.items ≡ out.old.items ++ flat_map line_spelling lines.now) }
+    ensures limits { OnOk result (AllByRecursion IsLine lines.now) }
 {
     for line in lines {
         put_range_line(out, line)?;
@@ -114,9 +119,11 @@ fn put_range_lines(out: &mut Vec<u8>, lines: &[RangeLine]) -> Result<(), NoMemor
 
 // Appends what is said of a range. Where it is refused, part of it may have been appended.
 pub(crate) fn put_range_line(out: &mut Vec<u8>, line: &RangeLine) -> Result<(), NoMemory>
-    ensures { OnOk result (out.new.items ≡ out.old.items ++ line_spelling line.now) }
+    requires { IsSpan line.now }
+    ensures spelled { OnOk result (out.new.items ≡ out.old.items ++ line_spelling line.now) }
+    ensures limits { OnOk result (IsLine line.now) }
 {
-    out.extend_from_slice(&line.name.0)?;
+    put_digest(out, &line.name.0)?;
     out.extend_from_slice(&line.rows.to_be_bytes())?;
     put_text(out, line.first.as_slice())?;
     put_text(out, line.last.as_slice())?;
@@ -145,7 +152,7 @@ pub fn commit_bytes(alloc: Global, commit: &CommitRecord) -> Result<Vec<u8>, NoM
 {
     let mut out = Vec::new(alloc);
     out.push(1)?;
-    out.extend_from_slice(&commit.meta_range.0)?;
+    put_digest(&mut out, &commit.meta_range.0)?;
     out.extend_from_slice(&commit.generation.to_be_bytes())?;
     out.extend_from_slice(&commit.date.to_be_bytes())?;
     put_parents(&mut out, commit.parents.as_slice())?;
@@ -185,7 +192,8 @@ pub fn files(alloc: Global, objects: &KeyMap, cut: &Cut) -> Result<Vec<Vec<u8>>,
 /// The id of the tree of a map: the SHA-256 of its metarange. It is refused where `files` is.
 pub fn tree_id(alloc: Global, objects: &KeyMap, cut: &Cut) -> Result<Digest, NoMemory>
     requires { 0 < cut.now.modulus }
-    ensures { IfOk result (λ id. id ≡ tree_id cut.now objects.now) }
+    ensures id { IfOk result (λ id. id ≡ tree_id cut.now objects.now) }
+    ensures few { OnOk result (len objects.now < 2 ^ 32) }
 {
     let all = files(alloc, objects, cut)?;
     Ok(Digest::of(all[0].as_slice()))
@@ -202,11 +210,22 @@ pub fn commit_id(alloc: Global, commit: &CommitRecord) -> Result<CommitId, NoMem
 // Appends the ids of parents behind two bytes of count.
 fn put_parents(out: &mut Vec<u8>, parents: &[Digest]) -> Result<(), NoMemory>
     requires { length parents.now < 2 ^ 16 }
-    ensures { OnOk result (out.new.items ≡ out.old.items ++ (to_be_bytes w16 (length parents.now) ++ flat_map (λ parent. parent.0) parents.now)) }
+    ensures spelled { OnOk result (out.new.items ≡ out.old.items ++ (to_be_bytes w16 (length parents.now) ++ flat_map (λ parent. parent.0) parents.now)) }
+    ensures limits { OnOk result (AllByRecursion (λ parent. IsDigest parent.0) parents.now) }
 {
     out.extend_from_slice(&(parents.len() as u16).to_be_bytes())?;
     for parent in parents {
-        out.extend_from_slice(&parent.0)?;
+        put_digest(out, &parent.0)?;
     }
+    Ok(())
+}
+
+// Appends a digest.
+fn put_digest(out: &mut Vec<u8>, digest: &[u8]) -> Result<(), NoMemory>
+    requires { length digest.now ≡ 32 }
+    ensures spelled { OnOk result (out.new.items ≡ out.old.items ++ digest.now) }
+    ensures limits { IsDigest digest.now }
+{
+    out.extend_from_slice(digest)?;
     Ok(())
 }

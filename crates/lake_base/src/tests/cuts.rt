@@ -3,8 +3,11 @@ ghost use Rattle.std.specs.Prelude.{◌<◌};
 
 use super::*;
 use crate::cutting::{first_range, fnv1a, is_break, row_len};
-use crate::files::{commit_bytes, commit_id, files, tree_id};
-use crate::segments::changed_ranges;
+use crate::files::{
+    RangeLine, commit_bytes, commit_id, files, metarange_bytes, range_bytes, tree_id,
+};
+use crate::segments::{changed_ranges, first_segment};
+use std::cmp::Ordering;
 
 // The range of the object of 5 bytes at `s3://x` under the path `a`.
 const RANGE: [u8; 39] = [
@@ -140,4 +143,65 @@ fn ids_are_sums_of_files(rt: HostRuntime) -> Result<(), Fail> {
     let commit = graphs::commit(alloc, &[], 1, 0)?;
     assert!(rt; commit_id(alloc, &commit)? == Digest::of(&COMMIT));
     Ok(())
+}
+
+// The range of a map of one path; nothing for another map.
+fn range_of(alloc: Global, map: &KeyMap) -> Result<Vec<u8>, Fail> {
+    let rows = map.as_slice();
+    if rows.len() != 1 {
+        return Ok(Vec::new(alloc));
+    }
+    Ok(range_bytes(alloc, rows)?)
+}
+
+// The metarange of one range with rows; nothing where its paths are out of order.
+fn metarange_of(alloc: Global, line: RangeLine) -> Result<Vec<u8>, Fail> {
+    if line.rows == 0 || line.first.as_slice().cmp(line.last.as_slice()) == Ordering::Greater {
+        return Ok(Vec::new(alloc));
+    }
+    Ok(metarange_bytes(alloc, &[line])?)
+}
+
+// What is said of the range of `a` alone.
+fn line_of_a(alloc: Global) -> Result<RangeLine, Fail> {
+    Ok(RangeLine {
+        name: Digest::of(&RANGE),
+        rows: 1,
+        first: Path::read(alloc, b"a")?,
+        last: Path::read(alloc, b"a")?,
+    })
+}
+
+#[test]
+fn a_range_and_its_line_are_those_of_the_files(rt: HostRuntime) -> Result<(), Fail> {
+    let alloc = rt.alloc();
+    let map = map_of(alloc, &[b"a"])?;
+    assert!(rt; range_of(alloc, &map)?.as_slice() == RANGE.as_slice());
+    let line = line_of_a(alloc)?.copy(alloc)?;
+    let one = files(alloc, &map, &USUAL_CUT)?;
+    let [metarange, _] = one.as_slice() else {
+        return Ok(assert!(rt; false));
+    };
+    assert!(rt; metarange_of(alloc, line)?.as_slice() == metarange.as_slice());
+    Ok(())
+}
+
+#[test]
+fn a_segment_ends_after_its_break_key(rt: HostRuntime) -> Result<(), Fail> {
+    let alloc = rt.alloc();
+    let map = map_of(alloc, &[b"50", b"a", b"nq", b"z"])?;
+    let rows = map.as_slice();
+    if rows.is_empty() {
+        return Ok(assert!(rt; false));
+    }
+    let (segment, rest) = first_segment(rows, &USUAL_CUT);
+    assert_eq!(rt; segment.len(), 1);
+    assert_eq!(rt; rest.len(), 3);
+    Ok(())
+}
+
+#[test]
+fn the_usual_cut_has_a_mebibyte_and_one_break_in_1024(rt: HostRuntime) {
+    assert_eq!(rt; USUAL_CUT.max_bytes, 1048576);
+    assert_eq!(rt; USUAL_CUT.modulus, 1024);
 }

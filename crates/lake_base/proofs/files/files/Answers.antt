@@ -3,9 +3,10 @@ use Rattle.std.proofs.lemmas.List.{length_push}
 use Rattle.std.specs.FinMap.{len-entries, entries_sorted}
 use Rattle.lake_base.specs.Cutting.{files, ranges, first_len}
 use Rattle.lake_base.specs.Maps.{Ascend}
-use Rattle.lake_base.specs.Spelling.{range_spelling, line_of, metarange_spelling}
+use Rattle.lake_base.specs.Spelling.{range_spelling, line_of, metarange_spelling, AreInOrder}
 use Rattle.lake_base.proofs.Ascending.{ascends_drop}
 use Rattle.lake_base.proofs.Cuts.{IsFirst, first_of, ranges_few, some_left, none_left}
+use Rattle.lake_base.proofs.Lines.{lines_in_order}
 use Rattle.lake_base.proofs.TreeFiles.{made_more, said_more, tree_is, ascends_take}
 use Rattle.lake_base.proofs.files.files.Goals as goal
 
@@ -63,8 +64,16 @@ loop-rest-preserved c =
           c.loop-rest.invariant.said first.cons c.in_ok-line_of.ensures;
     }
 
-pub metarange_bytes-requires : goal.metarange_bytes-requires
-metarange_bytes-requires c =
+pub metarange_bytes-requires-clause-order : goal.metarange_bytes-requires-clause-order
+metarange_bytes-requires-clause-order c =
+    subst AreInOrder (sym c.as_slice-2.ensures.value)
+    (lines_in_order c.args.cut.now c.as_slice-rest.result.now c.loop-rest.rest.now c.loop-rest.lines.items
+    (subst Ascend (sym c.as_slice-rest.ensures) (entries_sorted c.args.objects.now))
+    (none_left c.loop-rest.rest.now c.is_empty.result c.is_empty.ensures c.loop-rest-test.false)
+    c.loop-rest.invariant.said)
+
+pub metarange_bytes-requires-clause-few : goal.metarange_bytes-requires-clause-few
+metarange_bytes-requires-clause-few c =
     let few = ranges_few c.args.cut.now c.as_slice-rest.result.now in
     let all = ap length c.as_slice-2.ensures.value in
     omega arith
@@ -83,5 +92,5 @@ returns-clause-spelled c =
     ∙ tree_is (λ file. file.items) cut rows c.loop-rest.rest.now c.loop-rest.ranges.items c.in_ok-metarange.metarange c.loop-rest.lines.items
     (none_left c.loop-rest.rest.now c.is_empty.result c.is_empty.ensures c.loop-rest-test.false)
     c.loop-rest.invariant.made c.loop-rest.invariant.said
-    (c.in_ok-metarange.ensures ∙ ap metarange_spelling c.as_slice-2.ensures.value)
+    (c.in_ok-metarange.ensures.spelled ∙ ap metarange_spelling c.as_slice-2.ensures.value)
     ∙ ap (λ r. metarange_spelling (map line_of (ranges cut r)) ∷ map range_spelling (ranges cut r)) c.as_slice-rest.ensures
