@@ -113,20 +113,31 @@ fn spelled_again(alloc: Global, bytes: &[u8]) -> Result<bool, Fail> {
 }
 
 #[test]
-fn entries_are_read_to_the_byte(rt: HostRuntime) -> Result<(), Fail> {
+fn an_entry_is_read_with_its_end(rt: HostRuntime) -> Result<(), Fail> {
     let alloc = rt.alloc();
     let (read, end) = entry_read(alloc, &LONGER, 0)?;
     assert_eq!(rt; end, 31);
-    assert!(rt;
-        matches!(&read.place, Place::External { at, .. } if at.as_slice() == b"s3://x".as_slice())
-    );
     assert!(rt; same_entry(&read, &entry(alloc, 5)?));
     assert!(rt; spelled_again(alloc, &SPELLED)?);
+    Ok(())
+}
+
+#[test]
+fn an_entry_of_the_vector_is_outside(rt: HostRuntime) -> Result<(), Fail> {
+    let entry = entry(rt.alloc(), 5)?;
+    assert!(rt;
+        matches!(&entry.place, Place::External { at, .. } if at.as_slice() == b"s3://x".as_slice())
+    );
+    Ok(())
+}
+
+#[test]
+fn breaches_of_an_entry_are_refused(rt: HostRuntime) {
+    let alloc = rt.alloc();
     assert!(rt; matches!(entry_read(alloc, &SPELLED[..30], 0), Err(EntryFault::Short)));
     let mut bad = SPELLED;
     bad[0] = 2;
     assert!(rt; matches!(entry_read(alloc, &bad, 0), Err(EntryFault::Bad)));
-    Ok(())
 }
 
 fn deleted(alloc: Global, map: &KeyMap, path: &[u8]) -> Result<KeyMap, Fail> {
@@ -146,22 +157,50 @@ fn changes_are_put_and_deleted(rt: HostRuntime) -> Result<(), Fail> {
     Ok(())
 }
 
+// Two changes of `a` and `b`, or of `b` and `c`.
+fn two(alloc: Global, first: &[u8], second: &[u8], size: u8) -> Result<Changes, Fail> {
+    let mut changes = Changes::new(alloc);
+    put(alloc, &mut changes, first, size)?;
+    put(alloc, &mut changes, second, size)?;
+    Ok(changes)
+}
+
+fn map_over(alloc: Global) -> Result<KeyMap, Fail> {
+    let (old, new) = (two(alloc, b"a", b"b", 1)?, two(alloc, b"b", b"c", 2)?);
+    Ok(KeyMap::new(alloc).apply(alloc, &new.over(alloc, &old)?)?)
+}
+
 #[test]
 fn newer_changes_stand_over_older_ones(rt: HostRuntime) -> Result<(), Fail> {
     let alloc = rt.alloc();
-    let (mut old, mut new) = (Changes::new(alloc), Changes::new(alloc));
-    put(alloc, &mut old, b"a", 1)?;
-    put(alloc, &mut old, b"b", 2)?;
-    put(alloc, &mut new, b"b", 3)?;
-    put(alloc, &mut new, b"c", 4)?;
-    let map = KeyMap::new(alloc).apply(alloc, &new.over(alloc, &old)?)?;
+    let map = map_over(alloc)?;
     assert_eq!(rt; size_at(alloc, &map, b"a")?, 1);
-    assert_eq!(rt; size_at(alloc, &map, b"b")?, 3);
-    assert_eq!(rt; size_at(alloc, &map, b"c")?, 4);
+    assert_eq!(rt; size_at(alloc, &map, b"b")?, 2);
+    assert_eq!(rt; size_at(alloc, &map, b"c")?, 2);
     Ok(())
 }
 
-// Whether a page of one item after this name has this one, a prefix or an object.
+fn query_after(alloc: Global, after: &[u8]) -> Result<PageQuery, Fail> {
+    Ok(PageQuery {
+        prefix: text(alloc, b"")?,
+        after: text(alloc, after)?,
+        amount: 1,
+        delimiter: text(alloc, b"/")?,
+    })
+}
+
+// Whether a page has just this item, a prefix or an object.
+fn is_page(page: &Page, name: &[u8], more: bool) -> bool {
+    match page.items.as_slice() {
+        [item] => {
+            let is_prefix = matches!(item, Item::Prefix(_));
+            item.name() == name && page.has_more == more && is_prefix == name.ends_with(b"/")
+        }
+        _ => false,
+    }
+}
+
+// Whether a page of one item after this name has this one.
 fn page_has(
     alloc: Global,
     map: &KeyMap,
@@ -169,20 +208,9 @@ fn page_has(
     name: &[u8],
     more: bool,
 ) -> Result<bool, Fail> {
-    let query = PageQuery {
-        prefix: text(alloc, b"")?,
-        after: text(alloc, after)?,
-        amount: 1,
-        delimiter: text(alloc, b"/")?,
-    };
-    let page = map.page(alloc, &query.copy(alloc)?)?.copy(alloc)?;
-    match page.items.as_slice() {
-        [item] => {
-            let is_prefix = matches!(item, Item::Prefix(_));
-            Ok(item.name() == name && page.has_more == more && is_prefix == name.ends_with(b"/"))
-        }
-        _ => Ok(false),
-    }
+    let query = query_after(alloc, after)?.copy(alloc)?;
+    let page = map.page(alloc, &query)?.copy(alloc)?;
+    Ok(is_page(&page, name, more))
 }
 
 #[test]
@@ -218,19 +246,19 @@ fn a_body_fits_by_its_size_and_its_digest(rt: HostRuntime) -> Result<(), Fail> {
     Ok(())
 }
 
+// What setting a pair beside none answers.
+fn answer(alloc: Global, key: &[u8], value: &[u8]) -> Result<Result<(), PairsFault>, Fail> {
+    let (key, value) = (text(alloc, key)?, text(alloc, value)?);
+    Ok(Pairs::new(alloc).set(key, value))
+}
+
 #[test]
 fn a_pair_outside_its_limits_is_refused(rt: HostRuntime) -> Result<(), Fail> {
     let alloc = rt.alloc();
-    let mut pairs = Pairs::new(alloc);
-    let (none, long) = (text(alloc, b"")?, text(alloc, &[b'k'; 129])?);
-    assert_eq!(rt; pairs.set(none, text(alloc, b"v")?), Err(PairsFault::Key));
-    assert_eq!(rt; pairs.set(long, text(alloc, b"v")?), Err(PairsFault::Key));
-    let value = text(alloc, &[b'v'; 1025])?;
-    assert_eq!(rt;
-        pairs.set(text(alloc, b"k")?, value),
-        Err(PairsFault::Value)
-    );
-    assert_eq!(rt; pairs.as_slice().len(), 0);
+    assert_eq!(rt; answer(alloc, b"", b"v")?, Err(PairsFault::Key));
+    assert_eq!(rt; answer(alloc, &[b'k'; 129], b"v")?, Err(PairsFault::Key));
+    assert_eq!(rt; answer(alloc, b"k", &[b'v'; 1025])?, Err(PairsFault::Value));
+    assert_eq!(rt; answer(alloc, &[b'k'; 128], &[b'v'; 1024])?, Ok(()));
     Ok(())
 }
 

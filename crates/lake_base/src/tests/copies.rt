@@ -121,35 +121,42 @@ fn protection_is_copied(rt: HostRuntime) -> Result<(), Fail> {
     Ok(())
 }
 
+// One rule for all branches.
+fn hooks(alloc: Global, deny: Deny) -> Result<HookRules, Fail> {
+    let mut rules = Vec::new(alloc);
+    let branch = Text::read(alloc, b"*", 255)?;
+    rules.push(HookRule { branch, deny })?;
+    Ok(HookRules {
+        rules: Sequence::of(rules),
+    })
+}
+
 #[test]
 fn hooks_are_copied(rt: HostRuntime) -> Result<(), Fail> {
     let alloc = rt.alloc();
-    let mut rules = Vec::new(alloc);
-    let branch = Text::read(alloc, b"ma*", 255)?;
-    let deny = Deny::RequireMeta(Text::read(alloc, b"owner", 128)?);
-    rules.push(HookRule { branch, deny })?;
-    let branch = Text::read(alloc, b"*", 255)?;
-    let deny = Deny::MaxSize(9);
-    rules.push(HookRule { branch, deny })?;
-    let hooks = HookRules {
-        rules: Sequence::of(rules),
-    };
-    let Note::Hooks(copy) = Note::Hooks(hooks).copy(alloc)? else {
+    let note = Note::Hooks(hooks(alloc, Deny::MaxSize(9))?);
+    let Note::Hooks(copy) = note.copy(alloc)? else {
         return Ok(assert!(rt; false));
     };
-    let [first, second] = copy.rules.as_slice() else {
-        return Ok(assert!(rt; false));
-    };
-    assert!(rt; first.branch.as_slice() == b"ma*".as_slice());
-    assert!(rt;
-        matches!(&first.deny, Deny::RequireMeta(key) if key.as_slice() == b"owner".as_slice())
-    );
-    assert!(rt; matches!(&second.deny, Deny::MaxSize(9)));
+    assert!(rt; matches!(copy.rules.as_slice(), [rule] if matches!(&rule.deny, Deny::MaxSize(9))));
     Ok(())
 }
 
 #[test]
-fn commits_are_copied(rt: HostRuntime) -> Result<(), Fail> {
+fn denials_are_copied(rt: HostRuntime) -> Result<(), Fail> {
+    let alloc = rt.alloc();
+    let deny = Deny::RequireMeta(Text::read(alloc, b"owner", 128)?).copy(alloc)?;
+    assert!(rt; matches!(&deny, Deny::RequireMeta(key) if key.as_slice() == b"owner".as_slice()));
+    let deny = Deny::DenyPrefix(Text::read(alloc, b"tmp/", 1024)?).copy(alloc)?;
+    assert!(rt;
+        matches!(&deny, Deny::DenyPrefix(prefix) if prefix.as_slice() == b"tmp/".as_slice())
+    );
+    assert!(rt; matches!(Deny::MaxChanges(3).copy(alloc)?, Deny::MaxChanges(3)));
+    Ok(())
+}
+
+#[test]
+fn remarks_are_copied(rt: HostRuntime) -> Result<(), Fail> {
     let alloc = rt.alloc();
     let about = About {
         committer: Text::read(alloc, b"me", 128)?,
@@ -160,9 +167,15 @@ fn commits_are_copied(rt: HostRuntime) -> Result<(), Fail> {
     let about = about.copy(alloc)?;
     assert_eq!(rt; about.date, 5);
     assert!(rt; about.message.as_slice() == b"hi".as_slice());
+    Ok(())
+}
+
+#[test]
+fn commits_are_copied(rt: HostRuntime) -> Result<(), Fail> {
+    let alloc = rt.alloc();
     let commit = graphs::commit(alloc, &[Digest([2; 32])], 2, 5)?.copy(alloc)?;
     assert!(rt; commit.generation == 2 && commit.date == 5);
     assert!(rt; matches!(commit.parents.as_slice(), [parent] if *parent == Digest([2; 32])));
-    assert!(rt; commit.committer.as_slice() == about.committer.as_slice());
+    assert!(rt; commit.committer.as_slice() == b"me".as_slice());
     Ok(())
 }

@@ -116,13 +116,19 @@ fn a_deletion_changes_one_range(rt: HostRuntime) -> Result<(), Fail> {
 }
 
 #[test]
-fn files_are_spelled_to_the_byte(rt: HostRuntime) -> Result<(), Fail> {
+fn no_rows_have_a_metarange_of_five_bytes(rt: HostRuntime) -> Result<(), Fail> {
     let alloc = rt.alloc();
     let none = files(alloc, &KeyMap::new(alloc), &USUAL_CUT)?;
     let [metarange] = none.as_slice() else {
         return Ok(assert!(rt; false));
     };
     assert!(rt; metarange.as_slice() == [1, 0, 0, 0, 0].as_slice());
+    Ok(())
+}
+
+#[test]
+fn files_are_spelled_to_the_byte(rt: HostRuntime) -> Result<(), Fail> {
+    let alloc = rt.alloc();
     let one = files(alloc, &map_of(alloc, &[b"a"])?, &USUAL_CUT)?;
     let [metarange, range] = one.as_slice() else {
         return Ok(assert!(rt; false));
@@ -130,6 +136,12 @@ fn files_are_spelled_to_the_byte(rt: HostRuntime) -> Result<(), Fail> {
     assert!(rt; range.as_slice() == RANGE.as_slice());
     assert_eq!(rt; metarange.as_slice().len(), 47);
     assert!(rt; metarange.as_slice()[5..].starts_with(&Digest::of(&RANGE).0));
+    Ok(())
+}
+
+#[test]
+fn commits_are_spelled_to_the_byte(rt: HostRuntime) -> Result<(), Fail> {
+    let alloc = rt.alloc();
     let commit = graphs::commit(alloc, &[], 1, 0)?;
     assert!(rt; commit_bytes(alloc, &commit)?.as_slice() == COMMIT.as_slice());
     Ok(())

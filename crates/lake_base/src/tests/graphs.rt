@@ -35,14 +35,28 @@ pub(super) fn commit(
     })
 }
 
+fn add(
+    alloc: Global,
+    commits: &mut Vec<(CommitId, CommitRecord)>,
+    id: CommitId,
+    parents: &[CommitId],
+    made: (u64, u64),
+) -> Result<(), Fail>
+    requires few { length parents.now ≤ 2 }
+    requires some { 1 ≤ made.0 }
+{
+    let commit = commit(alloc, parents, made.0, made.1)?;
+    Ok(commits.push((id, commit))?)
+}
+
 // A first commit; two upon it; and two merges of these, whose parents stand the one and the other way round.
 fn crossed(alloc: Global) -> Result<Vec<(CommitId, CommitRecord)>, Fail> {
     let mut commits = Vec::new(alloc);
-    commits.push((N, commit(alloc, &[Y, X], 3, 0)?))?;
-    commits.push((M, commit(alloc, &[X, Y], 3, 0)?))?;
-    commits.push((Y, commit(alloc, &[ROOT], 2, 0)?))?;
-    commits.push((X, commit(alloc, &[ROOT], 2, 0)?))?;
-    commits.push((ROOT, commit(alloc, &[], 1, 0)?))?;
+    add(alloc, &mut commits, N, &[Y, X], (3, 0))?;
+    add(alloc, &mut commits, M, &[X, Y], (3, 0))?;
+    add(alloc, &mut commits, Y, &[ROOT], (2, 0))?;
+    add(alloc, &mut commits, X, &[ROOT], (2, 0))?;
+    add(alloc, &mut commits, ROOT, &[], (1, 0))?;
     Ok(commits)
 }
 
@@ -86,9 +100,9 @@ fn ancestors_are_reached_by_parents(rt: HostRuntime) -> Result<(), Fail> {
 fn a_generation_that_is_not_due_makes_no_graph(rt: HostRuntime) -> Result<(), Fail> {
     let alloc = rt.alloc();
     let mut commits = Vec::new(alloc);
-    commits.push((X, commit(alloc, &[ROOT], 3, 0)?))?;
+    add(alloc, &mut commits, X, &[ROOT], (3, 0))?;
     assert!(rt; !is_graph(commits.as_slice()));
-    commits.push((ROOT, commit(alloc, &[], 1, 0)?))?;
+    add(alloc, &mut commits, ROOT, &[], (1, 0))?;
     assert!(rt; !is_graph(commits.as_slice()));
     Ok(())
 }
@@ -96,9 +110,9 @@ fn a_generation_that_is_not_due_makes_no_graph(rt: HostRuntime) -> Result<(), Fa
 // A first commit of date 0, X upon it of date 1,000,000, and Y upon that of date 1,100,000.
 fn chain(alloc: Global) -> Result<Vec<(CommitId, CommitRecord)>, Fail> {
     let mut commits = Vec::new(alloc);
-    commits.push((ROOT, commit(alloc, &[], 1, 0)?))?;
-    commits.push((X, commit(alloc, &[ROOT], 2, 1000000)?))?;
-    commits.push((Y, commit(alloc, &[X], 3, 1100000)?))?;
+    add(alloc, &mut commits, ROOT, &[], (1, 0))?;
+    add(alloc, &mut commits, X, &[ROOT], (2, 1000000))?;
+    add(alloc, &mut commits, Y, &[X], (3, 1100000))?;
     Ok(commits)
 }
 
