@@ -122,9 +122,10 @@ fn protection_is_copied(rt: HostRuntime) -> Result<(), Fail> {
 }
 
 // One rule for all branches.
-fn hooks(alloc: Global, deny: Deny) -> Result<HookRules, Fail> {
+fn hooks(alloc: Global) -> Result<HookRules, Fail> {
     let mut rules = Vec::new(alloc);
     let branch = Text::read(alloc, b"*", 255)?;
+    let deny = Deny::MaxSize(9);
     rules.push(HookRule { branch, deny })?;
     Ok(HookRules {
         rules: Sequence::of(rules),
@@ -134,7 +135,7 @@ fn hooks(alloc: Global, deny: Deny) -> Result<HookRules, Fail> {
 #[test]
 fn hooks_are_copied(rt: HostRuntime) -> Result<(), Fail> {
     let alloc = rt.alloc();
-    let note = Note::Hooks(hooks(alloc, Deny::MaxSize(9))?);
+    let note = Note::Hooks(hooks(alloc)?);
     let Note::Hooks(copy) = note.copy(alloc)? else {
         return Ok(assert!(rt; false));
     };

@@ -105,9 +105,12 @@ fn sizes_and_counts_are_denied_above_their_limits(rt: HostRuntime) -> Result<(),
 // Two rules: an owner is required, and no change is allowed.
 fn hooks(alloc: Global) -> Result<HookRules, Fail> {
     let mut rules = Vec::new(alloc);
-    let owner = Deny::RequireMeta(Text::read(alloc, b"owner", 128)?);
-    rules.push(rule(alloc, owner)?)?;
-    rules.push(rule(alloc, Deny::MaxChanges(0))?)?;
+    let branch = Text::read(alloc, b"ma*", 255)?;
+    let deny = Deny::RequireMeta(Text::read(alloc, b"owner", 128)?);
+    rules.push(HookRule { branch, deny })?;
+    let branch = Text::read(alloc, b"ma*", 255)?;
+    let deny = Deny::MaxChanges(0);
+    rules.push(HookRule { branch, deny })?;
     Ok(HookRules {
         rules: Sequence::of(rules),
     })
