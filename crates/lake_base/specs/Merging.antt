@@ -1,6 +1,6 @@
 -- The three-way merge of key maps, path by path (lakeFS documentation, merge).
 use Rattle.std.specs.Prelude.{◌≡◌, ◌↔◌, ◌||◌, ℕ, List, [], ◌∷◌, ◌++◌, Option, Some, None, if◌then◌else◌}
-use Rattle.std.specs.FinMap.{get, insert, remove, keys, contains_key}
+use Rattle.std.specs.FinMap.{empty, get, insert, remove, keys, contains_key}
 use Rattle.std.specs.List.{Contains}
 use Rattle.lake_base.specs.Entry.{Object}
 use Rattle.lake_base.specs.KeyMap.{Objects, Edits}
@@ -12,6 +12,11 @@ use Rattle.lake_base.specs.declared.commit.Strategy.{Strategy}
 use Rattle.lake_base.specs.declared.commit.Strategy.TheVariants.{Refuse, SourceWins, DestWins}
 use Rattle.lake_base.specs.declared.merging.Side.{Side}
 use Rattle.lake_base.specs.declared.merging.Side.TheVariants.{Source, Destination, Neither}
+
+-- the map of the merge base; where the commits have no common ancestor, the empty map is the base
+abbrev pub base_map : Option Objects → Objects
+base_map None = empty
+base_map (Some map) = map
 
 -- Whose value a path takes, where base, source and destination have these: where the source is as the base,
 -- the destination's; where the destination is as the base, the source's; where both are equal, the source's.

@@ -5,7 +5,7 @@ ghost use Rattle.lake_base.specs.Entry.{Object};
 ghost use Rattle.lake_base.specs.KeyMap.{Objects};
 ghost use Rattle.lake_base.specs.Sameness.{same_place, same_pair, same_entry, same_value};
 ghost use Rattle.std.specs.Cmp.Lexicographic.{pointwise};
-ghost use Rattle.lake_base.specs.Merging.{side_of, merged, merged_value, Leaves, ArePathsOf, HasPathsToo, IsConflict, AreConflicts, AnswersMerge};
+ghost use Rattle.lake_base.specs.Merging.{base_map, side_of, merged, merged_value, Leaves, ArePathsOf, HasPathsToo, IsConflict, AreConflicts, AnswersMerge};
 ghost use Rattle.lake_base.specs.declared.commit.Strategy.{Strategy as Choice};
 
 use crate::changes::Changes;
@@ -42,6 +42,16 @@ pub fn same_entry(entry: &Entry, other: &Entry) -> bool
 pub fn law_of_sameness()
     ensures { (entry other : Object) → IsTrue (same_entry entry other) ↔ (entry ≡ other) }
 {}
+
+/// The map of the merge base of two commits: the empty map, where they have no common ancestor.
+pub fn base_map(alloc: Global, found: Option<&KeyMap>) -> Result<KeyMap, NoMemory>
+    ensures { IfOk result (λ map. map ≡ base_map (option_copied found.entry)) }
+{
+    match found {
+        Some(map) => map.copy(alloc),
+        None => Ok(KeyMap::new(alloc)),
+    }
+}
 
 /// Whose value a path takes, where base, source and destination have these: where the source is as the base,
 /// the destination's; where the destination is as the base, the source's; where both are equal, the

@@ -1,6 +1,6 @@
 // The three-way merge at one path, with every way in which the three can differ.
 use super::*;
-use crate::merging::{conflicts, merged};
+use crate::merging::{base_map, conflicts, merged};
 
 // A map with an entry of this size at `p`; nothing where it is 0.
 fn map_of(alloc: Global, size: u8) -> Result<KeyMap, Fail> {
@@ -54,6 +54,15 @@ fn a_change_of_one_side_is_taken(rt: HostRuntime) -> Result<(), Fail> {
         );
         assert_eq!(rt; merged_size(alloc, three, Strategy::DestWins)?, Some(size));
     }
+    Ok(())
+}
+
+#[test]
+fn no_common_ancestor_is_an_empty_base(rt: HostRuntime) -> Result<(), Fail> {
+    let alloc = rt.alloc();
+    assert_eq!(rt; base_map(alloc, None)?.len(), 0);
+    let map = map_of(alloc, 7)?;
+    assert_eq!(rt; size_at(alloc, &base_map(alloc, Some(&map))?, b"p")?, 7);
     Ok(())
 }
 
