@@ -10,7 +10,7 @@ use Rattle.std.specs.Option.{option_or}
 use Rattle.std.proofs.lemmas.Cmp.{eq_by_cmp_equiv}
 use Rattle.std.specs.FinMap.Entries.{below_all, by_order, is_sorted-put, where_key, is_sorted-where_key, find-put, find-where_key}
 use Rattle.lake_base.specs.Entry.{Object}
-use Rattle.lake_base.specs.Maps.{byte_order, ByteMap, Ascend, IsParted}
+use Rattle.lake_base.specs.Maps.{byte_order, ByteMap, HasAscendingKeys, IsParted}
 use Rattle.lake_base.specs.KeyMap.{Objects, Edits, changed, changed_by, apply, put_over, over, said, left_by}
 use Rattle.lake_base.specs.declared.entry.Change.{Change}
 use Rattle.lake_base.specs.declared.entry.Change.TheVariants.{Put, Delete}
@@ -30,11 +30,11 @@ abbrev pub applied : List (List ℕ × Change) → List (List ℕ × Object) →
 applied [] es = es
 applied (c ∷ cs) es = applied cs (one c.0 c.1 es)
 
-one_ascends : (p : List ℕ) (c : Change) (es : List (List ℕ × Object)) → Ascend es → Ascend (one p c es)
+one_ascends : (p : List ℕ) (c : Change) (es : List (List ℕ × Object)) → HasAscendingKeys es → HasAscendingKeys (one p c es)
 one_ascends p (Put entry) es h = is_sorted-put byte_order nat_list_cmp_total p entry es h
 one_ascends p Delete es h = is_sorted-where_key byte_order _ es h
 
-pub applied_ascends : (cs : List (List ℕ × Change)) (es : List (List ℕ × Object)) → Ascend es → Ascend (applied cs es)
+pub applied_ascends : (cs : List (List ℕ × Change)) (es : List (List ℕ × Object)) → HasAscendingKeys es → HasAscendingKeys (applied cs es)
 applied_ascends [] es h = h
 applied_ascends (c ∷ cs) es h = applied_ascends cs (one c.0 c.1 es) (one_ascends c.0 c.1 es h)
 
@@ -72,7 +72,7 @@ get_changed : (p : List ℕ) (c : Change) (map : Objects) (q : List ℕ) → get
 get_changed p (Put entry) map q = get-insert nat_list_cmp_total map p entry q ∙ put_said _ entry (get map q)
 get_changed p Delete map q = get-remove nat_list_cmp_total map p q ∙ delete_said _ (get map q)
 
-get_changed_by : (cs : List (List ℕ × Change)) → Ascend cs → (map : Objects) (q : List ℕ) → get (changed_by cs map) q ≡ said (find byte_order q cs) (get map q)
+get_changed_by : (cs : List (List ℕ × Change)) → HasAscendingKeys cs → (map : Objects) (q : List ℕ) → get (changed_by cs map) q ≡ said (find byte_order q cs) (get map q)
 get_changed_by [] h map q = refl
 get_changed_by (c ∷ cs) h map q =
     get_changed_by cs (tail_ascends c cs h) (changed c.0 c.1 map) q
@@ -91,7 +91,7 @@ or_next q p c cs had h true e =
     ap (λ f. option_or f (Some c)) none
 or_next q p c cs had h false e = refl
 
-get_put_over : (cs : List (List ℕ × Change)) → Ascend cs → (old : Edits) (q : List ℕ) → get (put_over cs old) q ≡ option_or (find byte_order q cs) (get old q)
+get_put_over : (cs : List (List ℕ × Change)) → HasAscendingKeys cs → (old : Edits) (q : List ℕ) → get (put_over cs old) q ≡ option_or (find byte_order q cs) (get old q)
 get_put_over [] h old q = refl
 get_put_over (c ∷ cs) h old q =
     get_put_over cs (tail_ascends c cs h) (map_insert old c.0 c.1) q
@@ -157,7 +157,7 @@ find_one : (p : List ℕ) (c : Change) (es : List (List ℕ × Object)) (q : Lis
 find_one p (Put entry) es q = find-put byte_order nat_list_cmp_total q p entry es ∙ put_said _ entry (find byte_order q es)
 find_one p Delete es q = find_others p q es ∙ delete_said _ (find byte_order q es)
 
-find_applied : (cs : List (List ℕ × Change)) → Ascend cs → (es : List (List ℕ × Object)) (q : List ℕ) → find byte_order q (applied cs es) ≡ said (find byte_order q cs) (find byte_order q es)
+find_applied : (cs : List (List ℕ × Change)) → HasAscendingKeys cs → (es : List (List ℕ × Object)) (q : List ℕ) → find byte_order q (applied cs es) ≡ said (find byte_order q cs) (find byte_order q es)
 find_applied [] h es q = refl
 find_applied (c ∷ cs) h es q =
     find_applied cs (tail_ascends c cs h) (one c.0 c.1 es) q
@@ -165,7 +165,7 @@ find_applied (c ∷ cs) h es q =
     ∙ said_next q c.0 c.1 cs (find byte_order q es) (head_below c cs h) _ refl
 
 -- the list after changes is the map after them
-pub map_applied : (cs : List (List ℕ × Change)) (es : List (List ℕ × Object)) → Ascend cs → Ascend es → from_sorted {R = byte_order} (applied cs es) ≡ apply (from_sorted cs) (from_sorted es)
+pub map_applied : (cs : List (List ℕ × Change)) (es : List (List ℕ × Object)) → HasAscendingKeys cs → HasAscendingKeys es → from_sorted {R = byte_order} (applied cs es) ≡ apply (from_sorted cs) (from_sorted es)
 map_applied cs es h k = same _ _ (λ q.
     get-from_sorted byte_order (applied cs es) q (applied_ascends cs es k) ∙ find_applied cs h es q
     ∙ sym (get_apply (from_sorted cs) (from_sorted es) q
@@ -227,7 +227,7 @@ others_parted es low high p parts = elim parts.whole as (λ _. others p es ≡ l
 ]
 
 -- one step of the merge: what is done, and what is left
-put_step : (done es low high : List (List ℕ × Object)) (p : List ℕ) (v : Object) (cs : List (List ℕ × Change)) → Ascend ((p, Put v) ∷ cs) → IsParted es p low high
+put_step : (done es low high : List (List ℕ × Object)) (p : List ℕ) (v : Object) (cs : List (List ℕ × Change)) → HasAscendingKeys ((p, Put v) ∷ cs) → IsParted es p low high
     → ((done ++ low) ++ (p, v) ∷ []) ++ applied cs high ≡ done ++ applied ((p, Put v) ∷ cs) es
 put_step done es low high p v cs h parts =
     append_assoc (done ++ low) ((p, v) ∷ []) (applied cs high) ∙ append_assoc done low ((p, v) ∷ applied cs high)
@@ -236,7 +236,7 @@ put_step done es low high p v cs h parts =
     ∙ applied_low cs p (head_below (p, Put v) cs h) low ((p, v) ∷ high) parts.lower
     ∙ ap (λ l. low ++ l) (applied_front cs (p, v) high (head_below (p, Put v) cs h))))
 
-delete_step : (done es low high : List (List ℕ × Object)) (p : List ℕ) (cs : List (List ℕ × Change)) → Ascend ((p, Delete) ∷ cs) → IsParted es p low high
+delete_step : (done es low high : List (List ℕ × Object)) (p : List ℕ) (cs : List (List ℕ × Change)) → HasAscendingKeys ((p, Delete) ∷ cs) → IsParted es p low high
     → (done ++ low) ++ applied cs high ≡ done ++ applied ((p, Delete) ∷ cs) es
 delete_step done es low high p cs h parts =
     append_assoc done low (applied cs high)
@@ -247,20 +247,20 @@ delete_step done es low high p cs h parts =
 nothing_more : {X : Type 0} (xs : List X) → xs ++ [] ≡ xs
 nothing_more xs = append-nil xs
 
-pub merge_step : (done es low high : List (List ℕ × Object)) (p : List ℕ) (c : Change) (cs : List (List ℕ × Change)) → Ascend ((p, c) ∷ cs) → IsParted es p low high
+pub merge_step : (done es low high : List (List ℕ × Object)) (p : List ℕ) (c : Change) (cs : List (List ℕ × Change)) → HasAscendingKeys ((p, c) ∷ cs) → IsParted es p low high
     → ((done ++ low) ++ left_by p c) ++ applied cs high ≡ done ++ applied ((p, c) ∷ cs) es
 merge_step done es low high p (Put v) cs h parts = put_step done es low high p v cs h parts
 merge_step done es low high p Delete cs h parts = ap (λ l. l ++ applied cs high) (append-nil (done ++ low)) ∙ delete_step done es low high p cs h parts
 
 -- one turn of the loop over the changes
 pub merge_turn : (done merged es low high entries : List (List ℕ × Object)) (changes : List (List ℕ × Change)) (i : ℕ) (item : List ℕ × Change)
-    → Ascend changes → i < length changes → item ≡ get_or changes i item → IsParted es item.0 low high
+    → HasAscendingKeys changes → i < length changes → item ≡ get_or changes i item → IsParted es item.0 low high
     → merged ≡ (done ++ low) ++ left_by item.0 item.1
     → done ++ applied (drop i changes) es ≡ entries
     → merged ++ applied (drop (i + 1) changes) high ≡ entries
 merge_turn done merged es low high entries changes i item h lt is parts merges whole =
     let next : drop i changes ≡ item ∷ drop (i + 1) changes = rw add-one (drop-cons changes i item lt ∙ ap (λ x. x ∷ drop (suc i) changes) (sym is)) in
-    let ascends : Ascend (item ∷ drop (i + 1) changes) = subst Ascend next (ascends_drop i changes h) in
+    let ascends : HasAscendingKeys (item ∷ drop (i + 1) changes) = subst HasAscendingKeys next (ascends_drop i changes h) in
     ap (λ m. m ++ applied (drop (i + 1) changes) high) merges
     ∙ merge_step done es low high item.0 item.1 (drop (i + 1) changes) ascends parts
     ∙ ap (λ cs. done ++ applied cs es) (sym next) ∙ whole

@@ -11,7 +11,7 @@ use Rattle.std.specs.FinMap.{find, put, entries-from_sorted, entries_sorted, fro
 use Rattle.std.specs.FinMap.Entries.{below_all, by_order, is_sorted-put}
 use Rattle.std.proofs.lemmas.List.{get_or_default}
 use Rattle.std.proofs.lemmas.Option.{get_or_from_slice_get, slice_get_within}
-use Rattle.lake_base.specs.Maps.{byte_order, ByteMap, Ascend, IsAt, IsGap, IsParted}
+use Rattle.lake_base.specs.Maps.{byte_order, ByteMap, HasAscendingKeys, IsAt, IsGap, IsParted}
 
 pub first : (a b : Bool) → T (a && b) → T a
 first true b h = tt
@@ -59,10 +59,10 @@ two_is_greater Equal h = absurd (omega (arith, h))
 two_is_greater Greater h = refl
 
 module _ {X : Type 0} where
-  pub head_below : (e : List ℕ × X) (es : List (List ℕ × X)) → Ascend (e ∷ es) → T (below_all byte_order e.0 es)
+  pub head_below : (e : List ℕ × X) (es : List (List ℕ × X)) → HasAscendingKeys (e ∷ es) → T (below_all byte_order e.0 es)
   head_below e es h = first _ _ h
 
-  pub tail_ascends : (e : List ℕ × X) (es : List (List ℕ × X)) → Ascend (e ∷ es) → Ascend es
+  pub tail_ascends : (e : List ℕ × X) (es : List (List ℕ × X)) → HasAscendingKeys (e ∷ es) → HasAscendingKeys es
   tail_ascends e es h = second _ _ h
 
   -- a key below all keys is below the one at a place
@@ -71,7 +71,7 @@ module _ {X : Type 0} where
   below_at k (e ∷ es) zero d h lt = less _ (first _ _ h)
   below_at k (e ∷ es) (suc i) d h lt = below_at k es i d (second _ _ h) (omega arith)
 
-  rising : (es : List (List ℕ × X)) (k : List ℕ) → Ascend es → IsNonDecreasingBy (λ item. ordering_index (byte_order item.0 k)) es
+  rising : (es : List (List ℕ × X)) (k : List ℕ) → HasAscendingKeys es → IsNonDecreasingBy (λ item. ordering_index (byte_order item.0 k)) es
   rising [] k h i j d le lt = absurd (omega arith)
   rising (e ∷ es) k h zero zero d le lt = omega arith
   rising (e ∷ es) k h zero (suc j) d le lt = step e.0 _ k (below_at e.0 es j d (head_below e es h) (omega arith)) _ _ refl refl
@@ -79,12 +79,12 @@ module _ {X : Type 0} where
   rising (e ∷ es) k h (suc i) (suc j) d le lt = rising es k (tail_ascends e es h) i j d (omega arith) (omega arith)
 
   -- a search ends at the key, or at the gap for it
-  pub searched : (es : List (List ℕ × X)) (k : List ℕ) → Ascend es → (r : Result ℕ ℕ) → IsSearchInRange r (length es) → IsBinarySearchResult (λ item. byte_order item.0 k) es r → MatchResult r (IsAt es k) (IsGap es k)
+  pub searched : (es : List (List ℕ × X)) (k : List ℕ) → HasAscendingKeys es → (r : Result ℕ ℕ) → IsSearchInRange r (length es) → IsBinarySearchResult (λ item. byte_order item.0 k) es r → MatchResult r (IsAt es k) (IsGap es k)
   searched es k h (Ok at) within found = record { within = within; same = found }
   searched es k h (Err at) within parted = record { within = within; before = (parted (rising es k h)).0; from = (parted (rising es k h)).1 }
 
   -- a key above the last has its gap at the end
-  pub last_gap : (es : List (List ℕ × X)) (k : List ℕ) (x : List ℕ × X) → Ascend es → slice_get es (length es - 1) ≡ Some x → byte_order x.0 k ≡ Less → IsGap es k (length es)
+  pub last_gap : (es : List (List ℕ × X)) (k : List ℕ) (x : List ℕ × X) → HasAscendingKeys es → slice_get es (length es - 1) ≡ Some x → byte_order x.0 k ≡ Less → IsGap es k (length es)
   last_gap es k x h last lt = record {
     within = omega arith;
     before = λ j d low high.
@@ -96,14 +96,14 @@ module _ {X : Type 0} where
     from = λ j d low high. absurd (omega arith);
   }
 
-  pub tested_gap : (es : List (List ℕ × X)) (k : List ℕ) (x : List ℕ × X) → Ascend es → slice_get es (length es - 1) ≡ Some x → (o : Ordering) → o ≡ byte_order x.0 k → (b : Bool) → b ≡ (ordering_index o == 0) → OnTrue b (IsGap es k (length es))
+  pub tested_gap : (es : List (List ℕ × X)) (k : List ℕ) (x : List ℕ × X) → HasAscendingKeys es → slice_get es (length es - 1) ≡ Some x → (o : Ordering) → o ≡ byte_order x.0 k → (b : Bool) → b ≡ (ordering_index o == 0) → OnTrue b (IsGap es k (length es))
   tested_gap es k x h last Less e true is = last_gap es k x h last (sym e)
   tested_gap es k x h last Equal e true is = cc
   tested_gap es k x h last Greater e true is = cc
   tested_gap es k x h last o e false is = tt
 
   -- where all before are below and the key there is above
-  pub greater_gap : (es : List (List ℕ × X)) (k : List ℕ) (at : ℕ) (x : List ℕ × X) → Ascend es → at < length es → AllWithin (λ item. byte_order item.0 k ≡ Less) es 0 at → x ≡ get_or es at x → byte_order x.0 k ≡ Greater → IsGap es k at
+  pub greater_gap : (es : List (List ℕ × X)) (k : List ℕ) (at : ℕ) (x : List ℕ × X) → HasAscendingKeys es → at < length es → AllWithin (λ item. byte_order item.0 k ≡ Less) es 0 at → x ≡ get_or es at x → byte_order x.0 k ≡ Greater → IsGap es k at
   greater_gap es k at x h lt below is gt = record {
     within = omega (arith, lt);
     before = below;
@@ -117,7 +117,7 @@ module _ {X : Type 0} where
   no_gap es k e = record { within = omega arith; before = λ j d low high. absurd (omega arith); from = λ j d low high. absurd (omega arith) }
 
   -- a put at a place where the key stands
-  pub put_at : (es : List (List ℕ × X)) (k : List ℕ) (v : X) (at : ℕ) → Ascend es → IsAt es k at → put byte_order k v es ≡ set es at (k, v)
+  pub put_at : (es : List (List ℕ × X)) (k : List ℕ) (v : X) (at : ℕ) → HasAscendingKeys es → IsAt es k at → put byte_order k v es ≡ set es at (k, v)
   put_at [] k v at h is = absurd (omega (arith, is.within))
   put_at (e ∷ es) k v zero h is =
       let back : byte_order k e.0 ≡ Equal = turned e.0 k Equal (is.same e) in
@@ -146,7 +146,7 @@ module _ {X : Type 0} where
       ∙ ap (λ q. e ∷ q) (put_gap es k v at (gap_tail e es k at gap))
 
   -- what is found at a place
-  pub find_at : (es : List (List ℕ × X)) (k : List ℕ) (at : ℕ) (d : List ℕ × X) → Ascend es → IsAt es k at → find byte_order k es ≡ Some (get_or es at d).1
+  pub find_at : (es : List (List ℕ × X)) (k : List ℕ) (at : ℕ) (d : List ℕ × X) → HasAscendingKeys es → IsAt es k at → find byte_order k es ≡ Some (get_or es at d).1
   find_at [] k at d h is = absurd (omega (arith, is.within))
   find_at (e ∷ es) k zero d h is = ap (λ r. cond (is_eq r) (Some e.1) (find byte_order k es)) (turned e.0 k Equal (is.same e))
   find_at (e ∷ es) k (suc at) d h is =
@@ -165,17 +165,17 @@ module _ {X : Type 0} where
       ap (λ r. cond (is_eq r) (Some e.1) (find byte_order k es)) (turned e.0 k Less (gap.before 0 e (omega arith) (omega arith)))
       ∙ find_gap es k at (gap_tail e es k at gap)
 
-  pub ascends_put : (es : List (List ℕ × X)) (k : List ℕ) (v : X) → Ascend es → Ascend (put byte_order k v es)
+  pub ascends_put : (es : List (List ℕ × X)) (k : List ℕ) (v : X) → HasAscendingKeys es → HasAscendingKeys (put byte_order k v es)
   ascends_put es k v h = is_sorted-put byte_order nat_list_cmp_total k v es h
 
   -- a put in the list is an insert in the map
-  pub map_put : (es : List (List ℕ × X)) (k : List ℕ) (v : X) → Ascend es → from_sorted {R = byte_order} (put byte_order k v es) ≡ map_insert (from_sorted es) k v
+  pub map_put : (es : List (List ℕ × X)) (k : List ℕ) (v : X) → HasAscendingKeys es → from_sorted {R = byte_order} (put byte_order k v es) ≡ map_insert (from_sorted es) k v
   map_put es k v h =
       same_entries_map _ _ (
       entries-from_sorted byte_order _ (ascends_put es k v h)
       ∙ sym (entries-insert nat_list_cmp_total (from_sorted es) k v ∙ ap (put byte_order k v) (entries-from_sorted byte_order es h)))
 
-  pub map_len : (es : List (List ℕ × X)) → Ascend es → length es ≡ len (from_sorted {R = byte_order} es)
+  pub map_len : (es : List (List ℕ × X)) → HasAscendingKeys es → length es ≡ len (from_sorted {R = byte_order} es)
   map_len es h = sym (len-entries (from_sorted es) ∙ ap length (entries-from_sorted byte_order es h))
 
   nothing : (es : List (List ℕ × X)) → length es ≡ 0 → es ≡ []
@@ -205,7 +205,7 @@ module _ {X : Type 0} where
     ];
   }
 
-  pub parted_at : (es : List (List ℕ × X)) (p : List ℕ) (at : ℕ) → Ascend es → IsAt es p at → IsParted es p (take at es) (drop (suc at) es)
+  pub parted_at : (es : List (List ℕ × X)) (p : List ℕ) (at : ℕ) → HasAscendingKeys es → IsAt es p at → IsParted es p (take at es) (drop (suc at) es)
   parted_at [] p at h is = absurd (omega (arith, is.within))
   parted_at (e ∷ es) p zero h is =
       let same = same_key e.0 p (is.same e) in
@@ -225,17 +225,17 @@ module _ {X : Type 0} where
   parted_gap (e ∷ es) p zero gap = record { lower = tt; higher = gap_above p (e ∷ es) (λ i d low high. gap.from i d low high); whole = inl refl }
   parted_gap (e ∷ es) p (suc at) gap = parted_cons e es _ _ p (gap.before 0 e (omega arith) (omega arith)) (parted_gap es p at (gap_tail e es p at gap))
 
-  ascends_back : (low high : List (List ℕ × X)) → Ascend (low ++ high) → Ascend high
+  ascends_back : (low high : List (List ℕ × X)) → HasAscendingKeys (low ++ high) → HasAscendingKeys high
   ascends_back [] high h = h
   ascends_back (e ∷ low) high h = ascends_back low high (tail_ascends e (low ++ high) h)
 
-  pub high_ascends : (es low high : List (List ℕ × X)) (p : List ℕ) → Ascend es → IsParted es p low high → Ascend high
-  high_ascends es low high p h parts = elim parts.whole as (λ _. Ascend high) [
-    | inl is ↦ ascends_back low high (subst Ascend is h)
-    | inr is ↦ tail_ascends (p, is.0) high (ascends_back low ((p, is.0) ∷ high) (subst Ascend is.1 h))
+  pub high_ascends : (es low high : List (List ℕ × X)) (p : List ℕ) → HasAscendingKeys es → IsParted es p low high → HasAscendingKeys high
+  high_ascends es low high p h parts = elim parts.whole as (λ _. HasAscendingKeys high) [
+    | inl is ↦ ascends_back low high (subst HasAscendingKeys is h)
+    | inr is ↦ tail_ascends (p, is.0) high (ascends_back low ((p, is.0) ∷ high) (subst HasAscendingKeys is.1 h))
   ]
 
-  pub ascends_drop : (i : ℕ) (es : List (List ℕ × X)) → Ascend es → Ascend (drop i es)
+  pub ascends_drop : (i : ℕ) (es : List (List ℕ × X)) → HasAscendingKeys es → HasAscendingKeys (drop i es)
   ascends_drop zero es h = h
   ascends_drop (suc i) [] h = h
   ascends_drop (suc i) (e ∷ es) h = ascends_drop i es (tail_ascends e es h)

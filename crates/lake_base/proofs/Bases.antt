@@ -41,19 +41,11 @@ module _ (g : Graph) (graph : IsGraph g) where
       let counted = (graph id (with_parent g id parent has)).counted in
       omega (arith, due_over g (parents g id) parent has, few_steps n parent old r, counted)
 
-  pub ancestor_within : (old id : Digest) → IsReachedWithin g (generation g id) old id ↔ IsAncestor g old id
-  ancestor_within old id = (λ w. (w.0, w.2), λ w. (w.0, few_steps w.0 id old w.1, w.1))
-
-  -- an ancestor of what is there is there
-  pub reached_stands : (n : ℕ) (id old : Digest) → IsSome (commit_of g id) → Reaches g n id old → IsSome (commit_of g old)
-  unfolding Reaches
-  reached_stands zero id old some r = subst (λ d. IsSome (commit_of g d)) r some
-  reached_stands (suc n) id old some (parent, has, r) = reached_stands n parent old ((graph id some).whole parent has) r
-
-  pub ancestor_tested : (old id : Digest) (steps : ℕ) (r : Bool) → steps ≡ generation g id → IsTrue r ↔ IsReachedWithin g steps old id → IsTrue r ↔ IsAncestor g old id
-  ancestor_tested old id steps r e is =
-      let w = ancestor_within old id in
-      (λ t. w.0 (subst (λ n. IsReachedWithin g n old id) e (is.0 t)), λ a. is.1 (subst (λ n. IsReachedWithin g n old id) (sym e) (w.1 a)))
+  pub ancestor_tested : (old id : Digest) (steps : ℕ) (r : Bool) → IsSome (commit_of g old) → steps ≡ generation g id → IsTrue r ↔ IsReachedWithin g steps old id → IsTrue r ↔ IsAncestor g old id
+  ancestor_tested old id steps r there e is = (
+    λ t. let w = is.0 t in (there, (w.0, w.2)),
+    λ a. is.1 (a.1.0, subst (λ (n : ℕ). a.1.0 ≤ n) (sym e) (few_steps a.1.0 id old a.1.1), a.1.1),
+  )
 
 -- the best of the first commits of a list that are ancestors of both
 abbrev pub BestOf : Graph → Digest → Digest → List (Digest × Commit) → ℕ → Option Digest → Type 0
@@ -144,15 +136,15 @@ module _ (g : Graph) (a b : Digest) (cs : List (Digest × Commit)) (i : ℕ) (x 
       )
 
 -- each ancestor is among the commits
-pub best_of_all : (cs : List (Digest × Commit)) (a b : Digest) → IsGraph (graph_of cs) → IsSome (commit_of (graph_of cs) a) → (i : ℕ) → length cs ≤ i → (best : Option Digest) → BestOf (graph_of cs) a b cs i best
+pub best_of_all : (cs : List (Digest × Commit)) (a b : Digest) → (i : ℕ) → length cs ≤ i → (best : Option Digest) → BestOf (graph_of cs) a b cs i best
     → MatchOption best ((id : Digest) → IsCommon (graph_of cs) a b id → ⊥) (IsBase (graph_of cs) a b)
-best_of_all cs a b graph some i end None all =
+best_of_all cs a b i end None all =
     λ id c.
-    let w = listed cs id (reached_stands (graph_of cs) graph c.0.0 a id some c.0.1) in
+    let w = listed cs id c.0.0 in
     within_contains (λ y. IsCommon (graph_of cs) a b y.0 → ⊥) cs i w.0 end all w.1 (subst (IsCommon (graph_of cs) a b) (sym w.2) c)
-best_of_all cs a b graph some i end (Some best) (common, all) = record {
+best_of_all cs a b i end (Some best) (common, all) = record {
   common = common;
   first = λ id c.
-      let w = listed cs id (reached_stands (graph_of cs) graph c.0.0 a id some c.0.1) in
+      let w = listed cs id c.0.0 in
       subst (λ d. comes_first (graph_of cs) d best ≡ false) w.2 (within_contains (λ y. IsCommon (graph_of cs) a b y.0 → comes_first (graph_of cs) y.0 best ≡ false) cs i w.0 end all w.1 (subst (IsCommon (graph_of cs) a b) (sym w.2) c));
 }

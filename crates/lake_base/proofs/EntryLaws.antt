@@ -9,7 +9,7 @@ use Rattle.std.proofs.lemmas.List.{get_or-drop, length-append, length-drop, take
 use Rattle.std.proofs.lemmas.List.Concat.{flat_map-cons}
 use Rattle.std.proofs.lemmas.List.Elements.{recursion_from_All}
 use Rattle.lake_base.specs.Entry.{Object, IsPlace}
-use Rattle.lake_base.specs.Maps.{Ascend}
+use Rattle.lake_base.specs.Maps.{HasAscendingKeys}
 use Rattle.lake_base.specs.Pairs.{IsPair}
 use Rattle.lake_base.specs.declared.entry.Place.{Place}
 use Rattle.lake_base.specs.declared.entry.Place.TheVariants.{Own, External}
@@ -160,7 +160,7 @@ next_of : (last : Option (List ℕ)) (p : List ℕ × List ℕ) (pairs : List (L
 next_of None p pairs h = refl
 next_of (Some k) p pairs h = from_T _ (first _ _ h)
 
-pairs_again : (last : Option (List ℕ)) (pairs : List (List ℕ × List ℕ)) (rest : List ℕ) → AllByRecursion IsPair pairs → AllByRecursion (λ pair. (is_utf8 pair.0 ≡ true) × (is_utf8 pair.1 ≡ true)) pairs → Follow last pairs → Ascend pairs
+pairs_again : (last : Option (List ℕ)) (pairs : List (List ℕ × List ℕ)) (rest : List ℕ) → AllByRecursion IsPair pairs → AllByRecursion (λ pair. (is_utf8 pair.0 ≡ true) × (is_utf8 pair.1 ≡ true)) pairs → Follow last pairs → HasAscendingKeys pairs
     → pairs_at (length pairs) last (flat_map pair_spelling pairs ++ rest) ≡ Ok (pairs, rest)
 unfolding pairs_at
 pairs_again last [] rest each utf8 follow ascend = refl

@@ -11,7 +11,7 @@ use Rattle.std.specs.FinMap.{find, entries, entries_sorted, get-entries}
 use Rattle.std.specs.FinMap.Entries.{below_all, find-put}
 use Rattle.lake_base.specs.Entry.{Object}
 use Rattle.lake_base.specs.KeyMap.{Objects}
-use Rattle.lake_base.specs.Maps.{byte_order, Ascend, Ascending}
+use Rattle.lake_base.specs.Maps.{byte_order, HasAscendingKeys, IsAscending}
 use Rattle.lake_base.specs.Listing.{common_prefix, item_from, item_of, item_name, listed, above, items_of, items_above, IsItem}
 use Rattle.lake_base.specs.declared.listing.Item.{Item}
 use Rattle.lake_base.specs.declared.listing.Item.TheVariants as item
@@ -36,7 +36,7 @@ module _ {X : Type 0} where
   found_first : (q : List ℕ) (e : List ℕ × X) (es : List (List ℕ × X)) → q ≡ e.0 → find byte_order q (e ∷ es) ≡ Some e.1
   found_first q e es is = ap (λ o. cond (is_eq o) (Some e.1) (find byte_order q es)) (ap (byte_order q) (sym is) ∙ tied_itself nat_list_cmp_total q)
 
-  found_later : (q : List ℕ) (e : List ℕ × X) (es : List (List ℕ × X)) (v : X) → Ascend (e ∷ es) → find byte_order q es ≡ Some v → find byte_order q (e ∷ es) ≡ Some v
+  found_later : (q : List ℕ) (e : List ℕ × X) (es : List (List ℕ × X)) (v : X) → HasAscendingKeys (e ∷ es) → find byte_order q es ≡ Some v → find byte_order q (e ∷ es) ≡ Some v
   found_later q e es v h is = by (eq_by_cmp byte_order q e.0) refl
     where
       by : (b : Bool) → eq_by_cmp byte_order q e.0 ≡ b → cond b (Some e.1) (find byte_order q es) ≡ Some v
@@ -46,7 +46,7 @@ module _ {X : Type 0} where
           absurd (cc (sym none ∙ is))
 
 -- an item of a list is found at its name
-found_item : (s : Items) (i : Item) → Ascend s → Named s → Contains (map (λ x. x.1) s) i → find byte_order (item_name i) s ≡ Some i
+found_item : (s : Items) (i : Item) → HasAscendingKeys s → Named s → Contains (map (λ x. x.1) s) i → find byte_order (item_name i) s ≡ Some i
 found_item [] i h n (k, lt, is) = absurd (omega arith)
 found_item (x ∷ s) i h n (zero, lt, is) =
     let same : x.1 ≡ i = is in
@@ -75,11 +75,11 @@ record Gives (prefix delimiter : List ℕ) (es : List (List ℕ × Object)) (i :
   pub is : i ≡ item_of prefix delimiter key entry
 
 module _ (prefix delimiter : List ℕ) where
-  given_later : (e : List ℕ × Object) (es : List (List ℕ × Object)) (i : Item) → Ascend (e ∷ es) → Gives prefix delimiter es i → Gives prefix delimiter (e ∷ es) i
+  given_later : (e : List ℕ × Object) (es : List (List ℕ × Object)) (i : Item) → HasAscendingKeys (e ∷ es) → Gives prefix delimiter es i → Gives prefix delimiter (e ∷ es) i
   given_later e es i h g = record { key = g.key; entry = g.entry; stands = found_later g.key e es g.entry h g.stands; begins = g.begins; is = g.is }
 
   -- what is found was given by a key
-  given : (es : List (List ℕ × Object)) (q : List ℕ) (i : Item) → Ascend es → find byte_order q (items prefix delimiter es) ≡ Some i → Gives prefix delimiter es i
+  given : (es : List (List ℕ × Object)) (q : List ℕ) (i : Item) → HasAscendingKeys es → find byte_order q (items prefix delimiter es) ≡ Some i → Gives prefix delimiter es i
   given [] q i h is = absurd (cc (sym (ap (find byte_order q) none_listed) ∙ is))
   given (e ∷ es) q i h is = by (starts_with nat_eq e.0 prefix) refl (given es q i (tail_ascends e es h))
     where
@@ -111,7 +111,7 @@ module _ (prefix delimiter : List ℕ) where
       by (Some text) (Some other) p q same = ap item.Prefix same
 
   -- the item of a key is found
-  gives : (es : List (List ℕ × Object)) (key : List ℕ) (entry : Object) → Ascend es → find byte_order key es ≡ Some entry → starts_with nat_eq key prefix ≡ true
+  gives : (es : List (List ℕ × Object)) (key : List ℕ) (entry : Object) → HasAscendingKeys es → find byte_order key es ≡ Some entry → starts_with nat_eq key prefix ≡ true
       → find byte_order (item_name (item_of prefix delimiter key entry)) (items prefix delimiter es) ≡ Some (item_of prefix delimiter key entry)
   gives [] key entry h is u = absurd cc
   gives (e ∷ es) key entry h is u = by (eq_by_cmp byte_order key e.0) refl is (λ f. gives es key entry (tail_ascends e es h) f u)
@@ -176,12 +176,12 @@ names_below k after (x ∷ s) h n = by (is_lt (byte_order after x.0)) (names_bel
     by true rest = (ap (byte_order k) (sym n.0) ∙ less _ (first _ _ h), rest)
     by false rest = rest
 
-names_ascend : (after : List ℕ) (s : Items) → Ascend s → Named s → Ascending (map item_name (map (λ i. i.1) (above after s)))
+names_ascend : (after : List ℕ) (s : Items) → HasAscendingKeys s → Named s → IsAscending (map item_name (map (λ i. i.1) (above after s)))
 unfolding IsStrictlySortedBy
 names_ascend after [] h n = tt
 names_ascend after (x ∷ s) h n = by (is_lt (byte_order after x.0)) (names_ascend after s (tail_ascends x s h) n.1)
   where
-    by : (b : Bool) → Ascending (map item_name (map (λ i. i.1) (above after s))) → Ascending (map item_name (map (λ i. i.1) (cond b (x ∷ above after s) (above after s))))
+    by : (b : Bool) → IsAscending (map item_name (map (λ i. i.1) (above after s))) → IsAscending (map item_name (map (λ i. i.1) (cond b (x ∷ above after s) (above after s))))
     by true rest = (subst (λ k. AllByRecursion (λ y. byte_order k y ≡ Less) (map item_name (map (λ i. i.1) (above after s)))) n.0 (names_below x.0 after s (head_below x s h) n.1), rest)
     by false rest = rest
 
@@ -228,7 +228,7 @@ above_to after (x ∷ s) i n lt has = elim (has_cases x s i has) as (λ _. Conta
     by true h = has_later x (above after s) i h
     by false h = h
 
-pub items_ascend : (query : PageQuery) (objects : Objects) → Ascending (map item_name (items_above query objects))
+pub items_ascend : (query : PageQuery) (objects : Objects) → IsAscending (map item_name (items_above query objects))
 items_ascend query objects = names_ascend query.after _ (entries_sorted (listed query.prefix query.delimiter (entries objects))) (named query.prefix query.delimiter (entries objects))
 
 pub above_is : (query : PageQuery) (objects : Objects) (i : Item) → Contains (items_above query objects) i ↔ (IsItem query objects i × (byte_order query.after (item_name i) ≡ Less))

@@ -7,7 +7,7 @@ use Rattle.std.specs.declared.cmp.Ordering.TheVariants.{Less}
 use Rattle.std.proofs.lemmas.Cmp.{nat_list_cmp_total, tied_itself}
 use Rattle.std.proofs.lemmas.List.{append-nil, length-take}
 use Rattle.lake_base.specs.Entry.{Object}
-use Rattle.lake_base.specs.Maps.{byte_order, Ascend}
+use Rattle.lake_base.specs.Maps.{byte_order, HasAscendingKeys}
 use Rattle.lake_base.specs.Spelling.{path_at, line_of, IsSpan, IsBelowNext, FollowOn, AreInOrder}
 use Rattle.lake_base.specs.Cutting.{first_len, ranges_within, ranges}
 use Rattle.lake_base.specs.declared.cutting.Cut.{Cut}
@@ -29,13 +29,13 @@ below_drop key (suc n) [] h = h
 below_drop key (suc n) (row ∷ rows) h = below_drop key n rows (second _ _ h)
 
 -- no path is below the first
-at_least_first : (rows : List (List ℕ × Object)) (i : ℕ) (d : List ℕ × Object) → Ascend rows → i < length rows → is_gt (byte_order (get_or rows 0 d).0 (get_or rows i d).0) ≡ false
+at_least_first : (rows : List (List ℕ × Object)) (i : ℕ) (d : List ℕ × Object) → HasAscendingKeys rows → i < length rows → is_gt (byte_order (get_or rows 0 d).0 (get_or rows i d).0) ≡ false
 at_least_first [] i d h lt = absurd (omega arith)
 at_least_first (row ∷ rows) zero d h lt = ap is_gt (tied_itself nat_list_cmp_total row.0)
 at_least_first (row ∷ rows) (suc i) d h lt = ap is_gt (below_at row.0 rows i d (head_below row rows h) (omega arith))
 
 -- each path of a front is below the first path after it
-front_below : (n : ℕ) (rows : List (List ℕ × Object)) (i : ℕ) (d : List ℕ × Object) → Ascend rows → i < length (take n rows) → 0 < length (drop n rows)
+front_below : (n : ℕ) (rows : List (List ℕ × Object)) (i : ℕ) (d : List ℕ × Object) → HasAscendingKeys rows → i < length (take n rows) → 0 < length (drop n rows)
     → byte_order (get_or (take n rows) i d).0 (get_or (drop n rows) 0 d).0 ≡ Less
 front_below zero rows i d h lt some = absurd (omega arith)
 front_below (suc n) [] i d h lt some = absurd (omega arith)
@@ -48,7 +48,7 @@ first_of_front zero row rows lt = absurd (omega arith)
 first_of_front (suc n) row rows lt = refl
 
 -- what is said of rows that ascend
-span_of : (rows : List (List ℕ × Object)) → 0 < length rows → Ascend rows → IsSpan (line_of rows)
+span_of : (rows : List (List ℕ × Object)) → 0 < length rows → HasAscendingKeys rows → IsSpan (line_of rows)
 unfolding line_of
 span_of [] some h = absurd (omega arith)
 span_of (row ∷ rows) some h = record {
@@ -67,7 +67,7 @@ front_some cut row rows =
     omega arith
 
 -- what is said of each range, for at most so many ranges
-spans_within : (cut : Cut) (n : ℕ) (rows : List (List ℕ × Object)) → Ascend rows → AllByRecursion IsSpan (map line_of (ranges_within n cut rows))
+spans_within : (cut : Cut) (n : ℕ) (rows : List (List ℕ × Object)) → HasAscendingKeys rows → AllByRecursion IsSpan (map line_of (ranges_within n cut rows))
 spans_within cut zero rows h = tt
 spans_within cut (suc n) [] h = tt
 spans_within cut (suc n) (row ∷ rows) h = (
@@ -84,7 +84,7 @@ below_next cut (suc n) path [] lt = tt
 below_next cut (suc n) path (row ∷ rows) lt = ap (byte_order path) (first_of_front (first_len cut (row ∷ rows)) row rows (first_some cut row rows)) ∙ lt row (omega arith)
 
 -- the last path of a front is below the first path of what is said of the ranges after it
-last_below : (cut : Cut) (n m : ℕ) (rows : List (List ℕ × Object)) → Ascend rows → 0 < length (take n rows)
+last_below : (cut : Cut) (n m : ℕ) (rows : List (List ℕ × Object)) → HasAscendingKeys rows → 0 < length (take n rows)
     → IsBelowNext (line_of (take n rows)).last (map line_of (ranges_within m cut (drop n rows)))
 unfolding line_of
 last_below cut n m rows h some =
@@ -93,7 +93,7 @@ last_below cut n m rows h some =
     ∙ front_below n rows (length (take n rows) - 1) d h (omega arith) left)
 
 -- each range is above the one before, for at most so many ranges
-follow_within : (cut : Cut) (n : ℕ) (rows : List (List ℕ × Object)) → Ascend rows → FollowOn (map line_of (ranges_within n cut rows))
+follow_within : (cut : Cut) (n : ℕ) (rows : List (List ℕ × Object)) → HasAscendingKeys rows → FollowOn (map line_of (ranges_within n cut rows))
 follow_within cut zero rows h = tt
 follow_within cut (suc n) [] h = tt
 follow_within cut (suc n) (row ∷ rows) h = (
@@ -102,13 +102,13 @@ follow_within cut (suc n) (row ∷ rows) h = (
 )
 
 -- what is said of the ranges of rows that ascend
-pub in_order : (cut : Cut) (rows : List (List ℕ × Object)) → Ascend rows → AreInOrder (map line_of (ranges cut rows))
+pub in_order : (cut : Cut) (rows : List (List ℕ × Object)) → HasAscendingKeys rows → AreInOrder (map line_of (ranges cut rows))
 unfolding ranges
 in_order cut rows h = record { spans = spans_within cut (length rows) rows h; follow = follow_within cut (length rows) rows h }
 
 -- the lines are in order once no row is left
 pub lines_in_order : (cut : Cut) (rows rest : List (List ℕ × Object)) (lines : List RangeLine)
-    → Ascend rows → rest ≡ [] → lines ++ map line_of (ranges cut rest) ≡ map line_of (ranges cut rows) → AreInOrder lines
+    → HasAscendingKeys rows → rest ≡ [] → lines ++ map line_of (ranges cut rest) ≡ map line_of (ranges cut rows) → AreInOrder lines
 lines_in_order cut rows rest lines h none said =
     let nothing : ranges cut rest ≡ [] = ap (ranges cut) none ∙ ranges_none cut in
     let all_said : lines ≡ map line_of (ranges cut rows) = sym (append-nil lines) ∙ sym (ap (λ r. lines ++ map line_of r) nothing) ∙ said in

@@ -11,8 +11,9 @@ use Rattle.std.proofs.lemmas.List.{append-nil, length-append, length-take, take-
 use Rattle.std.specs.FinMap.{put, empty, insert, entries, entries-insert, len-entries, len-empty}
 use Rattle.std.specs.FinMap.Entries.{below_all, by_order}
 use Rattle.lake_base.specs.Entry.{Object}
-use Rattle.lake_base.specs.Maps.{byte_order, Ascend}
-use Rattle.lake_base.specs.Listing.{common_prefix, item_from, item_of, item_name, listed, above, still, is_before, IsRest, Visits, IsFull, IsPast, IsFirst}
+use Rattle.lake_base.specs.Maps.{byte_order, HasAscendingKeys}
+use Rattle.lake_base.specs.Listing.{common_prefix, item_from, item_of, item_name, listed, above, still}
+use Rattle.lake_base.specs.PageSteps.{is_before, IsRest, Visits, IsFull, IsPast, IsFirst}
 use Rattle.lake_base.specs.declared.listing.Item.{Item}
 use Rattle.lake_base.specs.declared.listing.Item.TheVariants as item
 use Rattle.lake_base.specs.declared.listing.PageQuery.{PageQuery}
@@ -80,7 +81,7 @@ module _ (prefix delimiter : List ℕ) where
       let lt = less _ (first _ _ h) in
       (λ u. lifted prefix delimiter k e.0 e.1 u lt (λ text s c is. never text s e lt c is), later_names k es (second _ _ h) never)
 
-  pub object_first : (e : List ℕ × Object) (es : List (List ℕ × Object)) → Ascend (e ∷ es) → under e.0 ≡ true → common_prefix prefix delimiter e.0 ≡ None → items (e ∷ es) ≡ (e.0, item.Object e.0 e.1) ∷ items es
+  pub object_first : (e : List ℕ × Object) (es : List (List ℕ × Object)) → HasAscendingKeys (e ∷ es) → under e.0 ≡ true → common_prefix prefix delimiter e.0 ≡ None → items (e ∷ es) ≡ (e.0, item.Object e.0 e.1) ∷ items es
   object_first e es h u none =
       let never : (text s : List ℕ) (f : List ℕ × Object) → byte_order e.0 f.0 ≡ Less → Common prefix delimiter f.0 text → e.0 ≡ text ++ s → ⊥ =
       λ text s f lt c is. cc (sym none ∙ ap (common_prefix prefix delimiter) is ∙ c.again s) in
@@ -356,7 +357,7 @@ part_back P (x ∷ xs) zero all = (all 0 x (omega arith) (omega arith), part_bac
 part_back P (x ∷ xs) (suc i) all = part_back P xs i (λ k d low high. all (suc k) d (omega arith) (omega arith))
 
 -- a test that a lesser key passes where a greater one does
-pub partitioned : (p : List ℕ → Bool) (Q : List ℕ → Type 0) → ((a b : List ℕ) → Q a → byte_order a b ≡ Less → p b ≡ true → p a ≡ true) → (es : List (List ℕ × Object)) → Ascend es → AllByRecursion (λ e. Q e.0) es → IsPartitionedBy (λ e. p e.0) es
+pub partitioned : (p : List ℕ → Bool) (Q : List ℕ → Type 0) → ((a b : List ℕ) → Q a → byte_order a b ≡ Less → p b ≡ true → p a ≡ true) → (es : List (List ℕ × Object)) → HasAscendingKeys es → AllByRecursion (λ e. Q e.0) es → IsPartitionedBy (λ e. p e.0) es
 partitioned p Q down [] h all i j d le lt passed = absurd (omega arith)
 partitioned p Q down (e ∷ es) h all zero zero d le lt passed = passed
 partitioned p Q down (e ∷ es) h all zero (suc j) d le lt passed = down e.0 (get_or es j d).0 all.0 (below_at e.0 es j d (head_below e es h) (omega arith)) passed
@@ -384,7 +385,7 @@ begins_down text a b le lt begins =
     let r = between text (drop (length text) b) a le (subst (λ l. is_gt (byte_order a l) ≡ false) parts (below_not_above a b lt)) in
     ap (λ l. starts_with nat_eq l text) r.1 ∙ begins_from text r.0
 
-pub all_from : (es : List (List ℕ × Object)) (text : List ℕ) → Ascend es → IsFirst es text → AllByRecursion (λ e. is_gt (byte_order text e.0) ≡ false) es
+pub all_from : (es : List (List ℕ × Object)) (text : List ℕ) → HasAscendingKeys es → IsFirst es text → AllByRecursion (λ e. is_gt (byte_order text e.0) ≡ false) es
 all_from [] text h begins = absurd begins
 all_from (e ∷ es) text h begins =
     let parts : e.0 ≡ text ++ drop (length text) e.0 = begins_parts e.0 text begins in
@@ -478,7 +479,7 @@ begins_common prefix delimiter key text u e =
     let c = common_is prefix delimiter key text u e in
     ap (λ l. starts_with nat_eq l text) c.whole ∙ begins_from text c.rest
 
-pub start_rest : (query : PageQuery) (es : List (List ℕ × Object)) (at : ℕ) → Ascend es → AllWithin (λ e. is_before query e.0 ≡ false) es at (length es) → IsRest query (drop at es)
+pub start_rest : (query : PageQuery) (es : List (List ℕ × Object)) (at : ℕ) → HasAscendingKeys es → AllWithin (λ e. is_before query e.0 ≡ false) es at (length es) → IsRest query (drop at es)
 start_rest query es at h back =
     let all = part_back (λ e. is_before query e.0 ≡ false) es at back in
     record { ascend = ascends_drop at es h; later = start_later query (drop at es) all; from = start_from query (drop at es) all }

@@ -14,7 +14,7 @@ use Rattle.std.proofs.lemmas.List.Folds.{list_any-append, list_any_more}
 use Rattle.std.proofs.lemmas.List.{take_all, take_more, map-append}
 use Rattle.std.specs.FinMap.{find, get, entries, entries_sorted, insert, empty, get-empty, get-entries, get-insert, get-remove, keys, contains_key, contains_key-keys}
 use Rattle.lake_base.specs.Entry.{Object}
-use Rattle.lake_base.specs.Maps.{byte_order, ByteMap, Ascend}
+use Rattle.lake_base.specs.Maps.{byte_order, ByteMap, HasAscendingKeys}
 use Rattle.lake_base.specs.KeyMap.{Objects, Edits, apply, said}
 use Rattle.lake_base.specs.Merging.{merged, merged_at, merged_value, with_value, side_of, Leaves, ArePathsOf, HasPathsToo, IsConflict, AreConflicts}
 use Rattle.lake_base.specs.declared.entry.Change.{Change}
@@ -213,7 +213,7 @@ below_keys : {X : Type 0} (k : List ℕ) (es : List (List ℕ × X)) → T (belo
 below_keys k [] h = tt
 below_keys k (e ∷ es) h = (less _ (first _ _ h), below_keys k es (second _ _ h))
 
-keys_ascend : {X : Type 0} (es : List (List ℕ × X)) → Ascend es → IsStrictlySortedBy byte_order (map (λ e. e.0) es)
+keys_ascend : {X : Type 0} (es : List (List ℕ × X)) → HasAscendingKeys es → IsStrictlySortedBy byte_order (map (λ e. e.0) es)
 unfolding IsStrictlySortedBy
 keys_ascend [] h = tt
 keys_ascend (e ∷ es) h = (below_keys e.0 es (first _ _ h), keys_ascend es (second _ _ h))

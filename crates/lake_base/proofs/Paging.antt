@@ -11,7 +11,7 @@ use Rattle.std.specs.FinMap.{put, entries, entries_sorted}
 use Rattle.std.specs.FinMap.Entries.{by_order, below_all}
 use Rattle.lake_base.specs.Entry.{Object}
 use Rattle.lake_base.specs.KeyMap.{Objects}
-use Rattle.lake_base.specs.Maps.{byte_order, Ascend}
+use Rattle.lake_base.specs.Maps.{byte_order, HasAscendingKeys}
 use Rattle.lake_base.specs.Listing.{item_name, item_of, listed, above, items_above, page_items, has_more, last_name, after_page, pages}
 use Rattle.lake_base.specs.declared.listing.Item.{Item}
 use Rattle.lake_base.specs.declared.listing.PageQuery.{PageQuery}
@@ -52,7 +52,7 @@ not_above_it : (n : List ℕ) (e : List ℕ × Item) (es : Items) → is_lt (byt
 not_above_it n e es h = ap (λ b. cond b (e ∷ above n es) (above n es)) h
 
 -- above the name at a place of a list in order stand those after that place
-above_at : (es : Items) (a : ℕ) (d : List ℕ × Item) → Ascend es → a < length es → above (get_or es a d).0 es ≡ drop (suc a) es
+above_at : (es : Items) (a : ℕ) (d : List ℕ × Item) → HasAscendingKeys es → a < length es → above (get_or es a d).0 es ≡ drop (suc a) es
 above_at [] a d h lt = absurd (omega arith)
 above_at (e ∷ es) zero d h lt =
     not_above_it e.0 e es (ap is_lt (tied_itself nat_list_cmp_total e.0)) ∙ all_above e.0 es (head_below e es h)
@@ -77,7 +77,7 @@ not_reached after last k yet never Equal is = refl
 not_reached after last k yet never Greater is = refl
 not_reached after last k yet never Less is = absurd (cc (sym (ap is_lt (nat_list_cmp_total.trans after last k (lt_is _ yet) is)) ∙ never))
 
-after_step : (after : List ℕ) (e : List ℕ × Item) (es : Items) (a : ℕ) (d : List ℕ × Item) → Ascend (e ∷ es) → a < length (above after (e ∷ es))
+after_step : (after : List ℕ) (e : List ℕ × Item) (es : Items) (a : ℕ) (d : List ℕ × Item) → HasAscendingKeys (e ∷ es) → a < length (above after (e ∷ es))
     → (a < length (above after es) → above (get_or (above after es) a d).0 es ≡ drop (suc a) (above after es))
     → (b : Bool) → is_lt (byte_order after e.0) ≡ b → above (get_or (above after (e ∷ es)) a d).0 (e ∷ es) ≡ drop (suc a) (above after (e ∷ es))
 after_step after e es a d h lt rest true f =
@@ -91,7 +91,7 @@ after_step after e es a d h lt rest false f =
     subst (λ s. above (get_or s a d).0 (e ∷ es) ≡ drop (suc a) s) (sym skip) (not_above_it last e es low ∙ rest within)
 
 -- the items above an item of those above another are those after it
-after_item : (after : List ℕ) (es : Items) (a : ℕ) (d : List ℕ × Item) → Ascend es → a < length (above after es) → above (get_or (above after es) a d).0 es ≡ drop (suc a) (above after es)
+after_item : (after : List ℕ) (es : Items) (a : ℕ) (d : List ℕ × Item) → HasAscendingKeys es → a < length (above after es) → above (get_or (above after es) a d).0 es ≡ drop (suc a) (above after es)
 after_item after [] a d h lt = absurd (omega arith)
 after_item after (e ∷ es) a d h lt = after_step after e es a d h lt (after_item after es a d (tail_ascends e es h)) _ refl
 
@@ -120,7 +120,7 @@ length_map [] = refl
 length_map (x ∷ s) = ap suc (length_map s)
 
 -- the items after a page
-next_items : (after : List ℕ) (es : Items) (a : ℕ) → Ascend es → Named es → 0 < a → a < length (map (λ i. i.1) (above after es))
+next_items : (after : List ℕ) (es : Items) (a : ℕ) → HasAscendingKeys es → Named es → 0 < a → a < length (map (λ i. i.1) (above after es))
     → map (λ i. i.1) (above (last_name (take a (map (λ i. i.1) (above after es)))) es) ≡ drop a (map (λ i. i.1) (above after es))
 next_items after [] a h n some lt = absurd (omega arith)
 next_items after (e ∷ es) zero h n some lt = absurd (omega arith)

@@ -9,7 +9,7 @@ use Rattle.std.proofs.lemmas.Cmp.{nat_list_cmp_total}
 use Rattle.std.proofs.lemmas.List.Elements.{recursion_from_All, All-from_recursion}
 use Rattle.std.specs.FinMap.{find, put}
 use Rattle.std.specs.FinMap.Entries.{below_all, by_order, is_sorted-put, length-put}
-use Rattle.lake_base.specs.Maps.{byte_order, Ascend, IsAt, IsGap}
+use Rattle.lake_base.specs.Maps.{byte_order, HasAscendingKeys, IsAt, IsGap}
 use Rattle.lake_base.specs.Pairs.{IsPair, ArePairs, room_fault}
 use Rattle.lake_base.specs.declared.pairs.PairsFault.{PairsFault}
 use Rattle.lake_base.specs.declared.pairs.PairsFault.TheVariants.{Full}
@@ -27,12 +27,12 @@ below_to k [] h = tt
 below_to k (e ∷ es) h = (less _ (first _ _ h), below_to k es (second _ _ h))
 
 -- the two ways to say that keys ascend
-pub ascend_from : (es : List (List ℕ × List ℕ)) → IsStrictlySortedBy byte_order (keys es) → Ascend es
+pub ascend_from : (es : List (List ℕ × List ℕ)) → IsStrictlySortedBy byte_order (keys es) → HasAscendingKeys es
 unfolding IsStrictlySortedBy
 ascend_from [] h = tt
 ascend_from (e ∷ es) h = both _ _ (below_from e.0 es h.0) (ascend_from es h.1)
 
-pub ascend_to : (es : List (List ℕ × List ℕ)) → Ascend es → IsStrictlySortedBy byte_order (keys es)
+pub ascend_to : (es : List (List ℕ × List ℕ)) → HasAscendingKeys es → IsStrictlySortedBy byte_order (keys es)
 unfolding IsStrictlySortedBy
 ascend_to [] h = tt
 ascend_to (e ∷ es) h = (below_to e.0 es (first _ _ h), ascend_to es (second _ _ h))
@@ -65,10 +65,10 @@ fault_of : Bool → Bool → Option PairsFault
 fault_of a b = cond (a && b) (Some Full) None
 
 -- where the key stands there is room, and else where fewer than 64 pairs do
-pub room_at : (k : List ℕ) (es : List (List ℕ × List ℕ)) (at : ℕ) (d : List ℕ × List ℕ) → Ascend es → IsAt es k at → room_fault k es ≡ None
+pub room_at : (k : List ℕ) (es : List (List ℕ × List ℕ)) (at : ℕ) (d : List ℕ × List ℕ) → HasAscendingKeys es → IsAt es k at → room_fault k es ≡ None
 room_at k es at d sorted is = ap (λ f. cond (is_none f && leb 64 (length es)) (Some Full) None) (find_at es k at d sorted is)
 
-pub found_at : (k : List ℕ) (es : List (List ℕ × List ℕ)) (at : ℕ) (d : List ℕ × List ℕ) → Ascend es → IsAt es k at → is_some (find byte_order k es) ≡ true
+pub found_at : (k : List ℕ) (es : List (List ℕ × List ℕ)) (at : ℕ) (d : List ℕ × List ℕ) → HasAscendingKeys es → IsAt es k at → is_some (find byte_order k es) ≡ true
 found_at k es at d sorted is = ap is_some (find_at es k at d sorted is)
 
 pub no_room : (k : List ℕ) (es : List (List ℕ × List ℕ)) (at : ℕ) → IsGap es k at → 64 ≤ length es → room_fault k es ≡ Some Full

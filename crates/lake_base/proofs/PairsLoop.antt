@@ -7,7 +7,7 @@ use Rattle.std.specs.Ordering.{is_lt}
 use Rattle.std.specs.Str.{is_utf8}
 use Rattle.std.proofs.lemmas.List.Elements.{All-from_recursion}
 use Rattle.std.specs.FinMap.Entries.{below_all}
-use Rattle.lake_base.specs.Maps.{byte_order, Ascend}
+use Rattle.lake_base.specs.Maps.{byte_order, HasAscendingKeys}
 use Rattle.lake_base.specs.Pairs.{IsPair, ArePairs}
 use Rattle.lake_base.specs.declared.fields.EntryFault.{EntryFault}
 use Rattle.lake_base.specs.declared.fields.EntryFault.TheVariants.{Short, Bad, NoMemory}
@@ -96,7 +96,7 @@ pub record PairsRead (n : ℕ) (last : Option (List ℕ)) (pairs : List (List �
   pub each : AllByRecursion IsPair pairs
   pub utf8 : AllByRecursion (λ pair. (is_utf8 pair.0 ≡ true) × (is_utf8 pair.1 ≡ true)) pairs
   pub follow : Follow last pairs
-  pub ascend : Ascend pairs
+  pub ascend : HasAscendingKeys pairs
 
 follows : (last : Option (List ℕ)) (pair : List ℕ × List ℕ) (pairs : List (List ℕ × List ℕ)) → is_next last pair.0 ≡ true → T (below_all byte_order pair.0 pairs) → Follow last (pair ∷ pairs)
 follows None pair pairs next h = tt

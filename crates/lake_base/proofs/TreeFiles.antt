@@ -10,7 +10,7 @@ use Rattle.lake_base.specs.Entry.{Object}
 use Rattle.lake_base.specs.Spelling.{path_at, range_spelling, line_of, metarange_spelling, file_name}
 use Rattle.lake_base.specs.Cutting.{ranges, files, tree_id}
 use Rattle.lake_base.specs.KeyMap.{Objects}
-use Rattle.lake_base.specs.Maps.{byte_order, Ascend}
+use Rattle.lake_base.specs.Maps.{byte_order, HasAscendingKeys}
 use Rattle.lake_base.specs.declared.cutting.Cut.{Cut}
 use Rattle.lake_base.specs.declared.digest.Digest.{Digest}
 use Rattle.lake_base.specs.declared.files.RangeLine.{RangeLine}
@@ -93,7 +93,7 @@ below_front key (suc n) [] h = tt
 below_front key (suc n) (row ∷ rows) h = both _ _ (first _ _ h) (below_front key n rows (second _ _ h))
 
 -- a front of rows whose paths ascend
-pub ascends_take : (n : ℕ) (rows : List (List ℕ × Object)) → Ascend rows → Ascend (take n rows)
+pub ascends_take : (n : ℕ) (rows : List (List ℕ × Object)) → HasAscendingKeys rows → HasAscendingKeys (take n rows)
 ascends_take zero rows h = tt
 ascends_take (suc n) [] h = tt
 ascends_take (suc n) (row ∷ rows) h = both _ _ (below_front row.0 n rows (head_below row rows h)) (ascends_take n rows (tail_ascends row rows h))

@@ -1,45 +1,56 @@
 -- The walk of first parents: its next step, its end, and how long it can be.
-use Rattle.std.proofs.Common.{◌≡◌, ℕ, zero, suc, ◌+◌, ◌<◌, ◌≤◌, arith, List, [], ◌∷◌, Option, Some, None, sym, ap, subst, refl, ◌∙◌, inl, inr, add-one, below_more}
+use Rattle.std.proofs.Common.{◌≡◌, ℕ, zero, suc, ◌+◌, ◌<◌, ◌≤◌, arith, List, [], ◌∷◌, Option, Some, None, option_map, Bor, true, false, sym, ap, subst, refl, ◌∙◌, inl, inr, add-one, below_more}
 use Rattle.std.proofs.lemmas.Bool.{cases_lt}
 use Rattle.std.specs.List.{slice_get}
-use Rattle.std.specs.Option.{option_and_then, IsSome}
+use Rattle.std.specs.Option.{option_and_then, option_copied, IsSome, is_some}
 use Rattle.lake_base.specs.Ancestry.{Graph, commit_of, parents_in, parents, generation, date, due_after, IsGraph, first_parent, back, IsOnWalk}
 use Rattle.lake_base.specs.Commit.{Commit}
 use Rattle.lake_base.specs.Keeping.{IsFollower}
 use Rattle.lake_base.specs.declared.digest.Digest.{Digest}
 
--- a step more, where the first is known
-step_more : (g : Graph) (n : ℕ) (at : Digest) → ((id : Digest) → back g n id ≡ Some at → back g (suc n) id ≡ first_parent g at)
-    → (o : Option Digest) → option_and_then (back g n) o ≡ Some at → option_and_then (back g (suc n)) o ≡ first_parent g at
-step_more g n at more None stands = cc
-step_more g n at more (Some parent) stands = more parent stands
+-- a commit that was found is there
+pub there_where_found : (found : Option (Bor Commit)) (o : Option Commit) → option_copied found ≡ o → is_some found ≡ true → IsSome o
+there_where_found (Some commit) o is some = ap is_some (sym is)
+there_where_found None o is some = cc
 
--- a walk of a single step
-first_step : (o : Option Digest) (f : Digest → Option Digest) → ((id : Digest) → f id ≡ Some id) → option_and_then f o ≡ o
-first_step None f same = refl
-first_step (Some id) f same = same id
+-- where none was found, there is none
+pub none_where_none : (found : Option (Bor Commit)) (o : Option Commit) → option_copied found ≡ o → is_some found ≡ false → o ≡ None
+none_where_none None o is none = sym is
+none_where_none (Some commit) o is none = cc
+
+-- the start of a walk is where it starts
+pub stands_first : (o : Option Commit) (id at : Digest) → option_map (λ commit. id) o ≡ Some at → id ≡ at
+stands_first None id at stands = cc
+stands_first (Some commit) id at stands = cc
+
+-- a walk starts at a commit
+pub starts : (g : Graph) (id : Digest) → IsSome (commit_of g id) → back g 0 id ≡ Some id
+unfolding back
+starts g id some = by (commit_of g id) some
+  where
+    by : (o : Option Commit) → IsSome o → option_map (λ commit. id) o ≡ Some id
+    by (Some commit) there = refl
+    by None there = cc
 
 -- one step more of a walk is the first parent of where it stands
 pub back_more : (g : Graph) (n : ℕ) (id at : Digest) → back g n id ≡ Some at → back g (suc n) id ≡ first_parent g at
 unfolding back
-back_more g zero id at stands =
-    let same : id ≡ at = cc in
-    first_step (first_parent g id) (back g zero) (λ _. refl) ∙ ap (first_parent g) same
-back_more g (suc n) id at stands = step_more g n at (λ other. back_more g n other at) (first_parent g id) stands
-
--- no step more, where the walk after the first has ended
-step_past : (f h : Digest → Option Digest) → ((id : Digest) → f id ≡ None → h id ≡ None) → (o : Option Digest) → option_and_then f o ≡ None → option_and_then h o ≡ None
-step_past f h past None ended = refl
-step_past f h past (Some parent) ended = past parent ended
+back_more g n id at stands = ap (option_and_then (first_parent g)) stands
 
 -- a walk that has ended goes no further
 pub back_past : (g : Graph) (a n : ℕ) (id : Digest) → back g a id ≡ None → a ≤ n → back g n id ≡ None
 unfolding back
-back_past g zero n id ended least = cc
-back_past g (suc a) zero id ended least = absurd (omega arith)
-back_past g (suc a) (suc n) id ended least =
-    let less : a ≤ n = omega arith in
-    step_past (back g a) (back g n) (λ other h. back_past g a n other h less) (first_parent g id) ended
+back_past g a zero id ended least = let same : a ≡ 0 = omega arith in subst (λ (k : ℕ). back g k id ≡ None) same ended
+back_past g a (suc n) id ended least =
+    elim (cases_lt n a) [
+      | inl more ↦ let same : a ≡ suc n = omega arith in subst (λ (k : ℕ). back g k id ≡ None) same ended
+      | inr less ↦ ap (option_and_then (first_parent g)) (back_past g a n id ended less)
+    ]
+
+-- no walk starts at what is no commit
+pub no_walk : (g : Graph) (id : Digest) → commit_of g id ≡ None → back g 0 id ≡ None
+unfolding back
+no_walk g id none = ap (option_map (λ commit. id)) none
 
 -- the first of some parents is below what is due after them
 below_due : (g : Graph) (ids : List Digest) (parent : Digest) → slice_get ids 0 ≡ Some parent → generation g parent + 1 ≤ due_after g ids
@@ -60,22 +71,16 @@ parent_below g id parent graph first =
     let due = graph id (there g id parent (commit_of g id) refl first) in
     subst (λ (n : ℕ). generation g parent + 1 ≤ n) (sym due.counted) (below_due g (parents g id) parent first)
 
--- as many steps and one, where the first is known
-step_within : (g : Graph) (n : ℕ) (id at : Digest) → IsGraph g → ((other : Digest) → back g n other ≡ Some at → n + generation g at ≤ generation g other)
-    → (o : Option Digest) → first_parent g id ≡ o → option_and_then (back g n) o ≡ Some at → suc n + generation g at ≤ generation g id
-step_within g n id at graph within None is stands = cc
-step_within g n id at graph within (Some parent) is stands =
-    let below = parent_below g id parent graph is in
-    let rest = within parent stands in
-    omega (arith, below, rest)
-
 -- a walk takes no more steps than the head's generation
 pub back_within : (g : Graph) (n : ℕ) (id at : Digest) → IsGraph g → back g n id ≡ Some at → n + generation g at ≤ generation g id
 unfolding back
 back_within g zero id at graph stands =
-    let same : id ≡ at = cc in
-    subst (λ (other : Digest). 0 + generation g other ≤ generation g id) same (omega arith)
-back_within g (suc n) id at graph stands = step_within g n id at graph (λ other. back_within g n other at graph) (first_parent g id) refl stands
+    subst (λ (other : Digest). 0 + generation g other ≤ generation g id) (stands_first (commit_of g id) id at stands) (omega arith)
+back_within g (suc n) id at graph stands = by (back g n id) (λ later is. back_within g n id later graph is) stands
+  where
+    by : (o : Option Digest) → ((later : Digest) → o ≡ Some later → n + generation g later ≤ generation g id) → option_and_then (first_parent g) o ≡ Some at → suc n + generation g at ≤ generation g id
+    by None within ends = cc
+    by (Some later) within follows = omega (arith, within later refl, parent_below g later at graph follows)
 
 -- the step that a loop takes
 pub back_next : (g : Graph) (n : ℕ) (head at parent : Digest) → back g n head ≡ Some at → Some parent ≡ first_parent g at → back g (n + 1) head ≡ Some parent
@@ -109,6 +114,13 @@ pub stands_more : (g : Graph) (n : ℕ) (head at id : Digest) → StandsAt g hea
     → (k : ℕ) → k < n + 1 → StandsAt g head id k → ⊥
 stands_more g n head at id stands before apart = below_more (λ k. StandsAt g head id k → ⊥) n before (stands_apart g n head at id stands apart)
 
+-- nothing is on a walk that doesn't start
+pub off_no_walk : (g : Graph) (head id : Digest) → commit_of g head ≡ None → IsOnWalk g head id → ⊥
+off_no_walk g head id none on =
+    let ended : back g on.0 head ≡ None = back_past g 0 on.0 head (no_walk g head none) (omega arith) in
+    let stands = on.1 in
+    cc
+
 -- where the walk ends, it isn't on it
 pub off_ended_walk : (g : Graph) (n : ℕ) (head at id : Digest) → StandsAt g head at n → ((k : ℕ) → k < n → StandsAt g head id k → ⊥) → (at ≡ id → ⊥)
     → None ≡ first_parent g at → IsOnWalk g head id → ⊥
@@ -139,6 +151,13 @@ pub follows_here : (g : Graph) (n : ℕ) (head at : Digest) (limit : ℕ) (id : 
 follows_here g n head at limit id stands follows =
     let same : follows.0 ≡ at = let e : Some follows.0 ≡ Some at = sym follows.1 ∙ stands in cc in
     subst (λ (later : Digest). (first_parent g later ≡ Some id) × (limit ≤ date g later)) same (follows.2, follows.3)
+
+-- it follows nothing on a walk that doesn't start
+pub no_follower_started : (g : Graph) (head : Digest) (limit : ℕ) (id : Digest) → commit_of g head ≡ None → IsFollower g head limit id → ⊥
+no_follower_started g head limit id none f =
+    let ended : back g f.steps head ≡ None = back_past g 0 f.steps head (no_walk g head none) (omega arith) in
+    let stands = f.stands in
+    cc
 
 -- where the walk ends, it follows no such commit
 pub no_follower_ended : (g : Graph) (n : ℕ) (head at : Digest) (limit : ℕ) (id : Digest) → StandsAt g head at n → ((k : ℕ) → k < n → FollowsAt g head limit id k → ⊥)

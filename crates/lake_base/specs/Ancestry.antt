@@ -59,9 +59,9 @@ Reaches graph (suc n) id old = (parent : Digest) × Contains (parents graph id) 
 
 -- its ancestors are the commits that it reaches in any number of steps, none included
 abbrev pub IsAncestor : Graph → Digest → Digest → Type 0
-IsAncestor graph old id = (steps : ℕ) × Reaches graph steps id old
+IsAncestor graph old id = IsSome (commit_of graph old) × ((steps : ℕ) × Reaches graph steps id old)
 
--- in at most so many
+-- reached in at most so many steps
 abbrev pub IsReachedWithin : Graph → ℕ → Digest → Digest → Type 0
 IsReachedWithin graph most old id = (steps : ℕ) × (steps ≤ most) × Reaches graph steps id old
 
@@ -89,10 +89,10 @@ pub record IsBase (graph : Graph) (a b base : Digest) : Type 0 where
 abbrev pub first_parent : Graph → Digest → Option Digest
 first_parent graph id = slice_get (parents graph id) 0
 
--- so many first parents back, as `~n` of an expression
+-- so many first parents back from a commit, as `~n` of an expression
 unfoldable pub back : Graph → ℕ → Digest → Option Digest
-back graph zero id = Some id
-back graph (suc n) id = option_and_then (back graph n) (first_parent graph id)
+back graph zero id = option_map (λ commit. id) (commit_of graph id)
+back graph (suc n) id = option_and_then (first_parent graph) (back graph n id)
 
 -- it lies on the walk of first parents from a head
 abbrev pub IsOnWalk : Graph → Digest → Digest → Type 0

@@ -14,6 +14,7 @@ pub mod Memory
 pub mod Merging
 pub mod Names
 pub mod Outside
+pub mod PageSteps
 pub mod Pairs
 pub mod Reading
 pub mod Sameness

@@ -1,12 +1,11 @@
 -- Listings: the items of a key map under a prefix and a delimiter, and their pages.
-use Rattle.std.specs.Prelude.{◌≡◌, ◌<◌, ◌≤◌, ◌||◌, not, true, false, ℕ, zero, suc, Bool, List, [], ◌∷◌, ◌++◌, length, map, take, drop, filter, Option, Some, None, option_map, nat_eq, nat_lt, if◌then◌else◌}
-use Rattle.std.specs.List.{starts_with, AllByRecursion}
-use Rattle.std.specs.Ordering.{is_lt, is_gt}
-use Rattle.std.specs.declared.cmp.Ordering.TheVariants.{Less}
+use Rattle.std.specs.Prelude.{◌≡◌, true, ℕ, zero, suc, Bool, List, [], ◌∷◌, ◌++◌, length, map, take, drop, filter, Option, Some, None, option_map, nat_eq, nat_lt, if◌then◌else◌}
+use Rattle.std.specs.List.{starts_with}
+use Rattle.std.specs.Ordering.{is_lt}
 use Rattle.std.specs.FinMap.{empty, insert, get, entries}
 use Rattle.lake_base.specs.Entry.{Object}
 use Rattle.lake_base.specs.KeyMap.{Objects}
-use Rattle.lake_base.specs.Maps.{ByteMap, byte_order, Ascend}
+use Rattle.lake_base.specs.Maps.{ByteMap, byte_order}
 use Rattle.lake_base.specs.declared.listing.Item.{Item}
 use Rattle.lake_base.specs.declared.listing.Item.TheVariants as item
 use Rattle.lake_base.specs.declared.listing.PageQuery.{PageQuery}
@@ -92,38 +91,3 @@ abbrev pub pages : ℕ → PageQuery → Objects → List Item
 pages zero query objects = []
 pages (suc n) query objects =
     page_items query objects ++ (if has_more query objects then pages n (after_page query (page_items query objects)) objects else [])
-
--- entries from which a page goes on: in order, above `after`, and none below the prefix
-pub record IsRest (query : PageQuery) (es : List (List ℕ × Object)) : Type 0 where
-  pub ascend : Ascend es
-  pub later : AllByRecursion (λ e. byte_order query.after e.0 ≡ Less) es
-  pub from : AllByRecursion (λ e. is_gt (byte_order query.prefix e.0) ≡ false) es
-
--- one more entry was visited: its item, if it is above `after`, is appended
-pub record Visits (query : PageQuery) (old new : List Item) (es left : List (List ℕ × Object)) : Type 0 where
-  pub same : new ++ still query left ≡ old ++ still query es
-  pub room : length new ≤ query.amount
-  pub rest : IsRest query left
-  pub shorter : length left < length es
-
--- the page is full, and an item is left
-pub record IsFull (query : PageQuery) (items : List Item) (es : List (List ℕ × Object)) : Type 0 where
-  pub full : length items ≡ query.amount
-  pub left : 0 < length (still query es)
-
--- whether a path is up to `after`, or below the prefix
-abbrev pub is_before : PageQuery → List ℕ → Bool
-is_before query path = not (is_lt (byte_order query.after path)) || is_lt (byte_order path query.prefix)
-
--- the first entry begins with a name
-abbrev pub IsFirst : List (List ℕ × Object) → List ℕ → Type 0
-IsFirst [] name = ⊥
-IsFirst (e ∷ es) name = starts_with nat_eq e.0 name ≡ true
-
--- what is left after a run of entries that begin with a name
-pub record IsPast (es : List (List ℕ × Object)) (name : List ℕ) (left : List (List ℕ × Object)) : Type 0 where
-  pub run : List (List ℕ × Object)
-  pub some : 0 < length run
-  pub whole : es ≡ run ++ left
-  pub begin : AllByRecursion (λ e. starts_with nat_eq e.0 name ≡ true) run
-  pub others : AllByRecursion (λ e. starts_with nat_eq e.0 name ≡ false) left

@@ -17,12 +17,12 @@ abbrev pub ByteMap : Type 0 → Type 0
 ByteMap X = FinMap byte_order X
 
 -- the keys of a list strictly ascend
-abbrev pub Ascend : {X : Type 0} → List (List ℕ × X) → Type 0
-Ascend items = T (is_sorted byte_order items)
+abbrev pub HasAscendingKeys : {X : Type 0} → List (List ℕ × X) → Type 0
+HasAscendingKeys items = T (is_sorted byte_order items)
 
 -- byte lists that strictly ascend
-abbrev pub Ascending : List (List ℕ) → Type 0
-Ascending = IsStrictlySortedBy byte_order
+abbrev pub IsAscending : List (List ℕ) → Type 0
+IsAscending = IsStrictlySortedBy byte_order
 
 -- the key stands at this place
 pub record IsAt {X : Type 0} (items : List (List ℕ × X)) (key : List ℕ) (at : ℕ) : Type 0 where

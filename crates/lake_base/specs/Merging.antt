@@ -4,7 +4,7 @@ use Rattle.std.specs.FinMap.{empty, get, insert, remove, keys, contains_key}
 use Rattle.std.specs.List.{Contains}
 use Rattle.lake_base.specs.Entry.{Object}
 use Rattle.lake_base.specs.KeyMap.{Objects, Edits}
-use Rattle.lake_base.specs.Maps.{Ascending}
+use Rattle.lake_base.specs.Maps.{IsAscending}
 use Rattle.lake_base.specs.Sameness.{same_value}
 use Rattle.lake_base.specs.declared.entry.Change.{Change}
 use Rattle.lake_base.specs.declared.entry.Change.TheVariants.{Put, Delete}
@@ -74,7 +74,7 @@ IsConflict base source dest path = side_of (get base path) (get source path) (ge
 
 -- the paths that conflict: all of them, in ascending order, and no others
 pub record AreConflicts (base source dest : Objects) (paths : List (List ℕ)) : Type 0 where
-  pub ascending : Ascending paths
+  pub ascending : IsAscending paths
   pub all : (path : List ℕ) → Contains paths path ↔ IsConflict base source dest path
 
 -- a merge without a strategy is refused where a path conflicts

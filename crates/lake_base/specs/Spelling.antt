@@ -9,7 +9,7 @@ use Rattle.std.specs.declared.cmp.Ordering.TheVariants.{Less}
 use Rattle.lake_base.specs.Commit.{Commit, IsCommit}
 use Rattle.lake_base.specs.Digest.{sha256}
 use Rattle.lake_base.specs.Entry.{Object}
-use Rattle.lake_base.specs.Maps.{byte_order, Ascend}
+use Rattle.lake_base.specs.Maps.{byte_order, HasAscendingKeys}
 use Rattle.lake_base.specs.Names.{path_fault}
 use Rattle.lake_base.specs.Pairs.{ArePairs}
 use Rattle.lake_base.specs.declared.digest.Digest.{Digest}
@@ -135,7 +135,7 @@ IsRow row = (path_fault row.0 ≡ None) × IsEntry row.1
 pub record IsRange (rows : List (List ℕ × Object)) : Type 0 where
   pub some : 1 ≤ length rows
   pub few : length rows < 2 ^ 32
-  pub ascend : Ascend rows
+  pub ascend : HasAscendingKeys rows
   pub each : AllByRecursion IsRow rows
 
 -- what is said of a range that has rows: at least one row, and a first path that is at most its last

@@ -41,20 +41,19 @@ pub fn is_graph(commits: &[(CommitId, CommitRecord)]) -> bool
 }
 
 /// Whether a commit is an ancestor of another: reached by parents in any number of steps, none included.
-/// It looks at each way back. It takes no memory.
+/// It looks at each way back, so a graph of many merges takes it very long. It takes no memory.
 pub fn is_ancestor(commits: &[(CommitId, CommitRecord)], old: &CommitId, id: &CommitId) -> bool
     requires { IsGraph (graph_of commits.now) }
     ensures { IsTrue result ↔ IsAncestor (graph_of commits.now) old.now id.now }
 {
-    is_reached(commits, old, id, generation(commits, id))
+    commit_of(commits, old).is_some() && is_reached(commits, old, id, generation(commits, id))
 }
 
 /// The merge base of two commits: of the common ancestors the one of greatest generation, of these the least
-/// id as bytes. None exactly where they have no common ancestor. It takes no memory.
+/// id as bytes. None exactly where they have no common ancestor. It looks at each way back for each commit, so
+/// a graph of many merges takes it very long. It takes no memory.
 pub fn base(commits: &[(CommitId, CommitRecord)], a: &CommitId, b: &CommitId) -> Option<CommitId>
-    requires graph { IsGraph (graph_of commits.now) }
-    requires first { IsSome (commit_of (graph_of commits.now) a.now) }
-    requires second { IsSome (commit_of (graph_of commits.now) b.now) }
+    requires { IsGraph (graph_of commits.now) }
     ensures { MatchOption result
         ((id : Id) → IsCommon (graph_of commits.now) a.now b.now id → ⊥)
         (IsBase (graph_of commits.now) a.now b.now) }
@@ -68,10 +67,12 @@ pub fn base(commits: &[(CommitId, CommitRecord)], a: &CommitId, b: &CommitId) ->
     best
 }
 
-/// So many first parents back from a commit, as `~n`. None where the walk ends before. It takes no memory.
+/// So many first parents back from a commit, as `~n`. None where the walk ends before, and where the id is of
+/// no commit. It takes no memory.
 pub fn back(commits: &[(CommitId, CommitRecord)], steps: u64, id: &CommitId) -> Option<CommitId>
     ensures { result ≡ back (graph_of commits.now) steps id.now }
 {
+    commit_of(commits, id)?;
     let mut at = *id;
     for _ in 0..steps {
         at = first_parent(commits, &at)?;
@@ -84,6 +85,9 @@ pub fn is_on_walk(commits: &[(CommitId, CommitRecord)], head: &CommitId, id: &Co
     requires { IsGraph (graph_of commits.now) }
     ensures { IsTrue result ↔ IsOnWalk (graph_of commits.now) head.now id.now }
 {
+    if commit_of(commits, head).is_none() {
+        return false;
+    }
     let mut at = *head;
     for _ in 0..generation(commits, head) {
         if at.0.as_slice() == id.0.as_slice() {

@@ -20,7 +20,7 @@ pub struct Changes {
 impl Model for Changes {
     ghost use Rattle.std.specs.FinMap as map;
     ghost use Rattle.std.specs.Coded.{coded_list, coded_ℕ};
-    ghost use Rattle.lake_base.specs.Maps.{ByteMap, Ascend};
+    ghost use Rattle.lake_base.specs.Maps.{ByteMap, HasAscendingKeys};
     ghost use Rattle.lake_base.specs.declared.entry.Change.{Change as AnyChange};
     ghost use Rattle.lake_base.specs.contracts.entry.Change.{the_row};
 
@@ -30,7 +30,7 @@ impl Model for Changes {
 
     ghost view = { λ a. map.from_sorted a.changes.items };
 
-    ghost invariant = { λ a. Ascend a.changes.items };
+    ghost invariant = { λ a. HasAscendingKeys a.changes.items };
 }
 
 impl Changes {

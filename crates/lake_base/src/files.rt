@@ -8,13 +8,13 @@
 //!
 //! Numbers have their high byte first. A file is known by its SHA-256. The metarange of an empty map is
 //! `0100000000`.
-ghost use Rattle.std.specs.Prelude.{◌≡◌, ◌++◌, ◌<◌, ◌^◌, length, map, IfOk, OnOk};
+ghost use Rattle.std.specs.Prelude.{◌≡◌, ◌++◌, ◌<◌, ◌^◌, ◌∷◌, length, map, IfOk, OnOk};
 ghost use Rattle.std.specs.FinMap.{len};
 ghost use Rattle.std.specs.List.{flat_map, AllByRecursion};
-ghost use Rattle.std.specs.Int.{w16, to_be_bytes};
+ghost use Rattle.std.specs.Int.{w16, w32, to_be_bytes};
 ghost use Rattle.lake_base.specs.Cutting.{files, tree_id};
 ghost use Rattle.lake_base.specs.Digest.{sha256};
-ghost use Rattle.lake_base.specs.Maps.{Ascend};
+ghost use Rattle.lake_base.specs.Maps.{HasAscendingKeys};
 ghost use Rattle.lake_base.specs.Spelling.{row_spelling, range_spelling, line_of, line_spelling, metarange_spelling, commit_spelling, commit_id, IsDigest, IsRow, IsRange, IsSpan, AreInOrder, IsLine, IsMetarange, IsSpelledCommit};
 
 use crate::commit::{CommitId, CommitRecord};
@@ -57,14 +57,22 @@ impl RangeLine {
 pub fn range_bytes(alloc: Global, rows: &[(Path, Entry)]) -> Result<Vec<u8>, NoMemory>
     requires some { 0 < length rows.now }
     requires few { length rows.now < 2 ^ 32 }
-    requires ascend { Ascend rows.now }
+    requires ascend { HasAscendingKeys rows.now }
     ensures spelled { IfOk result (λ bytes. bytes.items ≡ range_spelling rows.now) }
     ensures limits { OnOk result (IsRange rows.now) }
 {
+    let mut out = begun(alloc, rows.len() as u32)?;
+    put_rows(&mut out, rows)?;
+    Ok(out)
+}
+
+// What a range and a metarange begin with: the version 1, and how many lines follow.
+fn begun(alloc: Global, lines: u32) -> Result<Vec<u8>, NoMemory>
+    ensures { IfOk result (λ bytes. bytes.items ≡ 1 ∷ to_be_bytes w32 lines) }
+{
     let mut out = Vec::new(alloc);
     out.push(1)?;
-    out.extend_from_slice(&(rows.len() as u32).to_be_bytes())?;
-    put_rows(&mut out, rows)?;
+    out.extend_from_slice(&lines.to_be_bytes())?;
     Ok(out)
 }
 
@@ -98,9 +106,7 @@ pub fn metarange_bytes(alloc: Global, lines: &[RangeLine]) -> Result<Vec<u8>, No
     ensures spelled { IfOk result (λ bytes. bytes.items ≡ metarange_spelling lines.now) }
     ensures limits { OnOk result (IsMetarange lines.now) }
 {
-    let mut out = Vec::new(alloc);
-    out.push(1)?;
-    out.extend_from_slice(&(lines.len() as u32).to_be_bytes())?;
+    let mut out = begun(alloc, lines.len() as u32)?;
     put_range_lines(&mut out, lines)?;
     Ok(out)
 }

@@ -124,6 +124,9 @@ fn is_follower(
     requires { IsGraph (graph_of commits.now) }
     ensures { IsTrue result ↔ IsFollower (graph_of commits.now) head.now limit id.now }
 {
+    if commit_of(commits, head).is_none() {
+        return false;
+    }
     let mut at = *head;
     for _ in 0..generation(commits, head) {
         let Some(parent) = first_parent(commits, &at) else {

@@ -2,7 +2,7 @@
 ghost use Rattle.std.specs.Prelude.{◌≡◌, ◌++◌, ℕ, List, OnOk, IfOk, option_copied};
 ghost use Rattle.std.specs.Option.{option_or};
 ghost use Rattle.std.specs.FinMap as map;
-ghost use Rattle.lake_base.specs.Maps.{Ascend, IsParted};
+ghost use Rattle.lake_base.specs.Maps.{HasAscendingKeys, IsParted};
 ghost use Rattle.lake_base.specs.KeyMap.{Objects, Edits, apply, over, said, left_by};
 ghost use Rattle.lake_base.specs.declared.entry.Change.{Change as AnyChange};
 
@@ -24,7 +24,7 @@ pub struct KeyMap {
 impl Model for KeyMap {
     ghost use Rattle.std.specs.FinMap as map;
     ghost use Rattle.std.specs.Coded.{coded_list, coded_ℕ};
-    ghost use Rattle.lake_base.specs.Maps.{ByteMap, Ascend};
+    ghost use Rattle.lake_base.specs.Maps.{ByteMap, HasAscendingKeys};
     ghost use Rattle.lake_base.specs.Entry.{Object};
     ghost use Rattle.lake_base.specs.contracts.entry.Entry.{the_row};
 
@@ -34,7 +34,7 @@ impl Model for KeyMap {
 
     ghost view = { λ a. map.from_sorted a.entries.items };
 
-    ghost invariant = { λ a. Ascend a.entries.items };
+    ghost invariant = { λ a. HasAscendingKeys a.entries.items };
 }
 
 impl KeyMap {
@@ -107,9 +107,9 @@ fn merged(
     entries: &[(Path, Entry)],
     changes: &[(Path, Change)],
 ) -> Result<Vec<(Path, Entry)>, NoMemory>
-    requires entries { Ascend entries.now }
-    requires changes { Ascend changes.now }
-    ensures ascend { IfOk result (λ merged. Ascend merged.items) }
+    requires entries { HasAscendingKeys entries.now }
+    requires changes { HasAscendingKeys changes.now }
+    ensures ascend { IfOk result (λ merged. HasAscendingKeys merged.items) }
     ensures applied { IfOk result (λ merged. map.from_sorted merged.items ≡ apply (map.from_sorted changes.now) (map.from_sorted entries.now)) }
 {
     let mut merged = Vec::new(alloc);
@@ -129,7 +129,7 @@ fn parts<'a>(
     entries: &'a [(Path, Entry)],
     path: &Path,
 ) -> (&'a [(Path, Entry)], &'a [(Path, Entry)])
-    requires { Ascend entries.now }
+    requires { HasAscendingKeys entries.now }
     ensures { IsParted entries.now path.now result.0.now result.1.now }
 {
     match walk_to(entries, path) {

@@ -10,11 +10,12 @@ ghost use Rattle.std.specs.FinMap.{entries};
 ghost use Rattle.std.specs.Ordering.{is_lt};
 ghost use Rattle.std.specs.declared.cmp.Ordering.TheVariants.{Less};
 ghost use Rattle.std.specs.Str.{is_utf8};
-ghost use Rattle.lake_base.specs.Maps.{Ascend, Ascending, byte_order};
+ghost use Rattle.lake_base.specs.Maps.{HasAscendingKeys, IsAscending, byte_order};
 ghost use Rattle.lake_base.specs.KeyMap.{Objects};
 ghost use Rattle.lake_base.specs.declared.listing.PageQuery.{PageQuery as Query};
 ghost use Rattle.lake_base.specs.declared.listing.Item.{Item as Line};
-ghost use Rattle.lake_base.specs.Listing.{through, common_prefix, IsItem, item_name, items_of, still, items_above, page_items, has_more, pages, is_before, IsRest, IsFull, IsPast, IsFirst, Visits};
+ghost use Rattle.lake_base.specs.Listing.{through, common_prefix, IsItem, item_name, items_of, still, items_above, page_items, has_more, pages};
+ghost use Rattle.lake_base.specs.PageSteps.{is_before, IsRest, IsFull, IsPast, IsFirst, Visits};
 
 use crate::entry::Entry;
 use crate::key_map::KeyMap;
@@ -125,7 +126,7 @@ pub fn law_of_pages()
 pub fn law_of_items()
     ensures listed { (query : Query) (objects : Objects) (item : Line)
         → Contains (map (λ i. i.1) (items_of query (entries objects))) item ↔ IsItem query objects item }
-    ensures ascending { (query : Query) (objects : Objects) → Ascending (map item_name (items_above query objects)) }
+    ensures ascending { (query : Query) (objects : Objects) → IsAscending (map item_name (items_above query objects)) }
     // Pages give those of them whose name is above `after`.
     ensures above { (query : Query) (objects : Objects) (item : Line)
         → Contains (items_above query objects) item ↔ (IsItem query objects item × (byte_order query.after (item_name item) ≡ Less)) }
@@ -133,7 +134,7 @@ pub fn law_of_items()
 
 // The page of these entries.
 fn page_of(alloc: Global, entries: &[(Path, Entry)], query: &PageQuery) -> Result<Page, NoMemory>
-    requires { Ascend entries.now }
+    requires { HasAscendingKeys entries.now }
     ensures items { IfOk result (λ page. page.items ≡ take query.now.amount (still query.now entries.now)) }
     ensures more { IfOk result (λ page. page.has_more ≡ nat_lt query.now.amount (length (still query.now entries.now))) }
 {
@@ -158,7 +159,7 @@ fn page_of(alloc: Global, entries: &[(Path, Entry)], query: &PageQuery) -> Resul
 
 // The entries from the first on that can be listed: above `after`, and not below the prefix.
 fn start<'a>(entries: &'a [(Path, Entry)], query: &PageQuery) -> &'a [(Path, Entry)]
-    requires { Ascend entries.now }
+    requires { HasAscendingKeys entries.now }
     ensures same { still query.now result.now ≡ still query.now entries.now }
     ensures rest { IsRest query.now result.now }
 {
@@ -260,7 +261,7 @@ fn through(bytes: &[u8], delimiter: &[u8]) -> Option<usize>
 
 // The entries after those that begin with a name that the first begins with.
 fn past<'a>(rest: &'a [(Path, Entry)], name: &[u8]) -> &'a [(Path, Entry)]
-    requires ascend { Ascend rest.now }
+    requires ascend { HasAscendingKeys rest.now }
     requires first { IsFirst rest.now name.now }
     ensures { IsPast rest.now name.now result.now }
 {

@@ -1,7 +1,7 @@
 //! Metadata: pairs of a key and a value.
 ghost use Rattle.std.specs.Prelude.{◌≡◌, [], IfOk, OnErr, MatchResult};
 ghost use Rattle.std.specs.FinMap.{put};
-ghost use Rattle.lake_base.specs.Maps.{byte_order, Ascend, IsAt, IsGap};
+ghost use Rattle.lake_base.specs.Maps.{byte_order, HasAscendingKeys, IsAt, IsGap};
 ghost use Rattle.lake_base.specs.Pairs.{IsPair, ArePairs, pair_fault, room_fault, Sets};
 ghost use Rattle.lake_base.specs.declared.pairs.PairsFault.TheVariants.{NoMemory as pairs_no_memory};
 
@@ -118,7 +118,7 @@ fn copied(alloc: Global, pairs: &[(Text, Text)]) -> Result<Vec<(Text, Text)>, No
 
 // Where the key is, or where it would go.
 fn place(pairs: &[(Text, Text)], key: &Text) -> Result<usize, usize>
-    requires { Ascend pairs.now }
+    requires { HasAscendingKeys pairs.now }
     ensures { MatchResult result (IsAt pairs.now key.now) (IsGap pairs.now key.now) }
 {
     for (at, pair) in pairs.iter().enumerate() {

@@ -2,7 +2,7 @@
 ghost use Rattle.std.specs.Prelude.{◌≡◌, length, OnOk, OnErr, MatchResult, option_copied};
 ghost use Rattle.std.specs.Bool.{OnTrue};
 ghost use Rattle.std.specs.FinMap.{find, put};
-ghost use Rattle.lake_base.specs.Maps.{Ascend, IsAt, IsGap, byte_order};
+ghost use Rattle.lake_base.specs.Maps.{HasAscendingKeys, IsAt, IsGap, byte_order};
 
 use crate::names::Path;
 use crate::outside::NoMemory;
@@ -18,7 +18,7 @@ pub(crate) fn compared(path: &Path, other: &Path) -> Ordering
 
 // Whether the path is above the last one.
 fn is_above_all<T>(items: &[(Path, T)], path: &Path) -> bool
-    requires { Ascend items.now }
+    requires { HasAscendingKeys items.now }
     ensures { OnTrue result (IsGap items.now path.now (length items.now)) }
 {
     match items.last() {
@@ -29,7 +29,7 @@ fn is_above_all<T>(items: &[(Path, T)], path: &Path) -> bool
 
 // Where the path is, or where it would go. A path above all others is found at once.
 pub(crate) fn place<T>(items: &[(Path, T)], path: &Path) -> Result<usize, usize>
-    requires { Ascend items.now }
+    requires { HasAscendingKeys items.now }
     ensures { MatchResult result (IsAt items.now path.now) (IsGap items.now path.now) }
 {
     if is_above_all(items, path) {
@@ -40,7 +40,7 @@ pub(crate) fn place<T>(items: &[(Path, T)], path: &Path) -> Result<usize, usize>
 
 // The same, looked for from the front.
 pub(crate) fn walk_to<T>(items: &[(Path, T)], path: &Path) -> Result<usize, usize>
-    requires { Ascend items.now }
+    requires { HasAscendingKeys items.now }
     ensures { MatchResult result (IsAt items.now path.now) (IsGap items.now path.now) }
 {
     for (at, item) in items.iter().enumerate() {
@@ -55,7 +55,7 @@ pub(crate) fn walk_to<T>(items: &[(Path, T)], path: &Path) -> Result<usize, usiz
 
 // The value at the path.
 pub(crate) fn value_at<'a, T>(items: &'a [(Path, T)], path: &Path) -> Option<&'a T>
-    requires { Ascend items.now }
+    requires { HasAscendingKeys items.now }
     ensures { option_copied result ≡ find byte_order path.now items.now }
 {
     match place(items, path) {
@@ -70,10 +70,10 @@ pub(crate) fn put_at<T: Drop>(
     path: Path,
     value: T,
 ) -> Result<(), NoMemory>
-    requires { Ascend items.old.items }
+    requires { HasAscendingKeys items.old.items }
     ensures put { OnOk result (items.new.items ≡ put byte_order path value items.old.items) }
     ensures unchanged { OnErr result (items.new.items ≡ items.old.items) }
-    ensures ascend { Ascend items.new.items }
+    ensures ascend { HasAscendingKeys items.new.items }
 {
     match place(items.as_slice(), &path) {
         Ok(at) => {

@@ -24,4 +24,4 @@ loop-id-preserved c =
 
 pub returns : goal.returns
 returns c =
-    best_of_all c.args.commits.now c.args.a.now c.args.b.now c.requires.graph c.requires.first c.loop-id.id-index c.loop-id-test.false c.loop-id.best c.loop-id.invariant
+    best_of_all c.args.commits.now c.args.a.now c.args.b.now c.loop-id.id-index c.loop-id-test.false c.loop-id.best c.loop-id.invariant

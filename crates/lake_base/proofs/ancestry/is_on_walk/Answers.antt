@@ -1,13 +1,20 @@
-use Rattle.std.proofs.Common.{◌≤◌, ℕ, Some, refl, subst, ap, ◌∙◌, arith}
-use Rattle.lake_base.specs.Ancestry.{graph_of, back}
+use Rattle.std.proofs.Common.{◌≤◌, ℕ, Some, subst, ap, ◌∙◌, arith}
+use Rattle.std.specs.Option.{IsSome}
+use Rattle.lake_base.specs.Ancestry.{graph_of, commit_of}
 use Rattle.lake_base.proofs.Kept.{told_ids, told_apart, holds_else, refuted}
-use Rattle.lake_base.proofs.Walks.{back_next, stands_more, off_ended_walk, off_whole_walk}
+use Rattle.lake_base.proofs.Walks.{there_where_found, none_where_none, starts, off_no_walk, back_next, stands_more, off_ended_walk, off_whole_walk}
 use Rattle.lake_base.specs.declared.digest.Digest.{Digest}
 use Rattle.lake_base.proofs.ancestry.is_on_walk.Goals as goal
 
+pub returns-then-is_none : goal.returns-then-is_none
+returns-then-is_none c =
+    let none = none_where_none c.commit_of.result (commit_of (graph_of c.args.commits.now) c.args.head.now) c.commit_of.ensures c.if-is_none.ensures in
+    refuted (off_no_walk (graph_of c.args.commits.now) c.args.head.now c.args.id.now none)
+
 pub loop-init : goal.loop-init
-unfolding back
-loop-init c = (refl, λ steps below. absurd (omega arith))
+loop-init c =
+    let there : IsSome (commit_of (graph_of c.args.commits.now) c.args.head.now) = there_where_found c.commit_of.result (commit_of (graph_of c.args.commits.now) c.args.head.now) c.commit_of.ensures c.if-is_none.ensures in
+    (starts (graph_of c.args.commits.now) c.args.head.now there, λ steps below. absurd (omega arith))
 
 pub returns-in-None : goal.returns-in-None
 returns-in-None c =

@@ -2,7 +2,7 @@ use Rattle.std.proofs.Common.{◌∷◌, ◌++◌, length, map, ap, sym, subst, 
 use Rattle.std.proofs.lemmas.List.{length_push}
 use Rattle.std.specs.FinMap.{len-entries, entries_sorted}
 use Rattle.lake_base.specs.Cutting.{files, ranges, first_len}
-use Rattle.lake_base.specs.Maps.{Ascend}
+use Rattle.lake_base.specs.Maps.{HasAscendingKeys}
 use Rattle.lake_base.specs.Spelling.{range_spelling, line_of, metarange_spelling, AreInOrder}
 use Rattle.lake_base.proofs.Ascending.{ascends_drop}
 use Rattle.lake_base.proofs.Cuts.{IsFirst, first_of, ranges_few, some_left, none_left}
@@ -17,7 +17,7 @@ range_bytes-requires-clause-some c =
 
 pub range_bytes-requires-clause-ascend : goal.range_bytes-requires-clause-ascend
 range_bytes-requires-clause-ascend c =
-    subst Ascend (sym c.first_range.ensures.front) (ascends_take (first_len c.args.cut.now c.loop-rest.rest.now) c.loop-rest.rest.now c.loop-rest.invariant.ascend)
+    subst HasAscendingKeys (sym c.first_range.ensures.front) (ascends_take (first_len c.args.cut.now c.loop-rest.rest.now) c.loop-rest.rest.now c.loop-rest.invariant.ascend)
 
 pub line_of-requires-clause-some : goal.line_of-requires-clause-some
 line_of-requires-clause-some c =
@@ -36,7 +36,7 @@ loop-rest-init c =
     let none = ap length c.new-lines.ensures.items in
     record {
       few = omega arith;
-      ascend = subst Ascend (sym c.as_slice-rest.ensures) (entries_sorted c.args.objects.now);
+      ascend = subst HasAscendingKeys (sym c.as_slice-rest.ensures) (entries_sorted c.args.objects.now);
       counted = omega arith;
       made = ap (λ done. map (λ file. file.items) done ++ map range_spelling (ranges cut rows)) c.new-ranges.ensures.items;
       said = ap (λ lines. lines ++ map line_of (ranges cut rows)) c.new-lines.ensures.items;
@@ -54,7 +54,7 @@ loop-rest-preserved c =
     let one = length_push c.loop-rest.lines.items c.in_ok-line_of.field-0 in
     record {
       few = omega arith;
-      ascend = subst Ascend (sym c.first_range.ensures.rest) (ascends_drop (first_len cut rest) rest c.loop-rest.invariant.ascend);
+      ascend = subst HasAscendingKeys (sym c.first_range.ensures.rest) (ascends_drop (first_len cut rest) rest c.loop-rest.invariant.ascend);
       counted = omega arith;
       made = ap (λ done. map (λ file. file.items) done ++ map range_spelling (ranges cut left)) c.in_ok-push-2.ensures.items
           ∙ made_more range_spelling (λ file. file.items) c.loop-rest.ranges.items c.in_ok-bytes.bytes front (ranges cut rest) (ranges cut left) (map range_spelling (ranges cut c.as_slice-rest.result.now))
@@ -68,7 +68,7 @@ pub metarange_bytes-requires-clause-order : goal.metarange_bytes-requires-clause
 metarange_bytes-requires-clause-order c =
     subst AreInOrder (sym c.as_slice-2.ensures.value)
     (lines_in_order c.args.cut.now c.as_slice-rest.result.now c.loop-rest.rest.now c.loop-rest.lines.items
-    (subst Ascend (sym c.as_slice-rest.ensures) (entries_sorted c.args.objects.now))
+    (subst HasAscendingKeys (sym c.as_slice-rest.ensures) (entries_sorted c.args.objects.now))
     (none_left c.loop-rest.rest.now c.is_empty.result c.is_empty.ensures c.loop-rest-test.false)
     c.loop-rest.invariant.said)
 

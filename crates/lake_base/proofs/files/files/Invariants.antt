@@ -1,6 +1,6 @@
 use Rattle.std.proofs.Common.{◌≡◌, ◌+◌, ◌≤◌, ◌++◌, length, map}
 use Rattle.lake_base.specs.Cutting.{ranges}
-use Rattle.lake_base.specs.Maps.{Ascend}
+use Rattle.lake_base.specs.Maps.{HasAscendingKeys}
 use Rattle.lake_base.specs.Spelling.{range_spelling, line_of}
 use Rattle.lake_base.proofs.files.files.Given as goal
 
@@ -8,7 +8,7 @@ use Rattle.lake_base.proofs.files.files.Given as goal
 abbrev pub invariant-loop-rest : goal.invariant-loop-rest
 invariant-loop-rest l = record {
   few : length l.rest ≤ length l.initial.rest;
-  ascend : Ascend l.rest;
+  ascend : HasAscendingKeys l.rest;
   counted : length l.lines.items + length (ranges l.cut l.rest) ≡ length (ranges l.cut l.initial.rest);
   made : map (λ file. file.items) l.ranges.items ++ map range_spelling (ranges l.cut l.rest) ≡ map range_spelling (ranges l.cut l.initial.rest);
   said : l.lines.items ++ map line_of (ranges l.cut l.rest) ≡ map line_of (ranges l.cut l.initial.rest);

@@ -1,13 +1,20 @@
-use Rattle.std.proofs.Common.{◌≡◌, ◌≤◌, ℕ, Some, refl, subst, ◌∙◌, arith, below_more}
-use Rattle.lake_base.specs.Ancestry.{graph_of, back, first_parent, date}
+use Rattle.std.proofs.Common.{◌≡◌, ◌≤◌, ℕ, Some, subst, ◌∙◌, arith, below_more}
+use Rattle.std.specs.Option.{IsSome}
+use Rattle.lake_base.specs.Ancestry.{graph_of, commit_of, first_parent, date}
 use Rattle.lake_base.proofs.Kept.{told_apart, refuted}
-use Rattle.lake_base.proofs.Walks.{back_next, FollowsAt, follows_here, no_follower_ended, no_follower_whole}
+use Rattle.lake_base.proofs.Walks.{there_where_found, none_where_none, starts, no_follower_started, back_next, FollowsAt, follows_here, no_follower_ended, no_follower_whole}
 use Rattle.lake_base.proofs.keeping.is_follower.Goals as goal
 use Rattle.lake_base.proofs.keeping.is_follower.Goals.{else-eq-via-then-eq+else-limit-date, else-eq-via-else-eq}
 
+pub returns-then-is_none : goal.returns-then-is_none
+returns-then-is_none c =
+    let none = none_where_none c.commit_of.result (commit_of (graph_of c.args.commits.now) c.args.head.now) c.commit_of.ensures c.if-is_none.ensures in
+    refuted (no_follower_started (graph_of c.args.commits.now) c.args.head.now c.args.limit c.args.id.now none)
+
 pub loop-init : goal.loop-init
-unfolding back
-loop-init c = (refl, λ steps below. absurd (omega arith))
+loop-init c =
+    let there : IsSome (commit_of (graph_of c.args.commits.now) c.args.head.now) = there_where_found c.commit_of.result (commit_of (graph_of c.args.commits.now) c.args.head.now) c.commit_of.ensures c.if-is_none.ensures in
+    (starts (graph_of c.args.commits.now) c.args.head.now there, λ steps below. absurd (omega arith))
 
 pub returns-in_default : goal.returns-in_default
 returns-in_default c =

@@ -1,7 +1,7 @@
 use Rattle.std.proofs.Common.{◌≡◌, ap, sym, subst, ◌∙◌, ◌++◌}
 use Rattle.std.proofs.lemmas.List.{at_drop_all}
 use Rattle.std.specs.FinMap.{from_sorted}
-use Rattle.lake_base.specs.Maps.{byte_order, Ascend}
+use Rattle.lake_base.specs.Maps.{byte_order, HasAscendingKeys}
 use Rattle.lake_base.specs.KeyMap.{left_by}
 use Rattle.lake_base.proofs.Ascending.{high_ascends}
 use Rattle.lake_base.proofs.Applied.{merge_turn, applied, applied_ascends, map_applied}
@@ -24,7 +24,7 @@ all_merged c =
     ∙ c.loop-path.invariant.whole
 
 pub returns-clause-ascend : goal.returns-clause-ascend
-returns-clause-ascend c = subst Ascend (sym (all_merged c)) (applied_ascends c.args.changes.now c.args.entries.now c.requires.entries)
+returns-clause-ascend c = subst HasAscendingKeys (sym (all_merged c)) (applied_ascends c.args.changes.now c.args.entries.now c.requires.entries)
 
 pub returns-clause-applied : goal.returns-clause-applied
 returns-clause-applied c =

@@ -2,7 +2,8 @@ use Rattle.std.proofs.Common.{◌≡◌, Bool, true, false, nat_eq, List, [], �
 use Rattle.std.specs.Bool.{MatchBool}
 use Rattle.std.specs.List.{starts_with, slice_get}
 use Rattle.lake_base.specs.Entry.{Object}
-use Rattle.lake_base.specs.Listing.{still, IsRest, IsFirst}
+use Rattle.lake_base.specs.Listing.{still}
+use Rattle.lake_base.specs.PageSteps.{IsRest, IsFirst}
 use Rattle.lake_base.specs.declared.listing.PageQuery.{PageQuery}
 use Rattle.lake_base.proofs.Listed.{none_left, first_is, nothing_left, none_first}
 use Rattle.lake_base.proofs.listing.is_listed.Goals as goal

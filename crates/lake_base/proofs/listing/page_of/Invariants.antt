@@ -1,5 +1,6 @@
 use Rattle.std.proofs.Common.{◌≡◌, ◌≤◌, ◌++◌, length}
-use Rattle.lake_base.specs.Listing.{still, IsRest}
+use Rattle.lake_base.specs.Listing.{still}
+use Rattle.lake_base.specs.PageSteps.{IsRest}
 use Rattle.lake_base.proofs.listing.page_of.Given as goal
 
 -- the items so far, and those still to come

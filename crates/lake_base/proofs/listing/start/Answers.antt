@@ -1,7 +1,8 @@
 use Rattle.std.proofs.Common.{◌≡◌, true, false, rules, ◌∙◌, ap}
 use Rattle.std.specs.List.Sorted.{IsPartitionPoint}
 use Rattle.std.proofs.lemmas.List.Sorted.{IsPartitionPoint-from_clause}
-use Rattle.lake_base.specs.Listing.{still, is_before}
+use Rattle.lake_base.specs.Listing.{still}
+use Rattle.lake_base.specs.PageSteps.{is_before}
 use Rattle.lake_base.proofs.Listed.{partitioned, before_down, any_key, start_rest, start_same}
 use Rattle.lake_base.proofs.listing.start.Goals as goal
 

@@ -1,5 +1,5 @@
 use Rattle.std.proofs.Common.{sym, ap, set, subst, ◌∙◌}
-use Rattle.lake_base.specs.Maps.{Ascend}
+use Rattle.lake_base.specs.Maps.{HasAscendingKeys}
 use Rattle.lake_base.proofs.Ascending.{put_at, put_gap, ascends_put}
 use Rattle.lake_base.proofs.places.put_at.Goals as goal
 
@@ -9,7 +9,7 @@ returns-in-Ok-clause-put g c =
     ap (set old c.in-Ok.at) c.replace-old.ensures.after ∙ sym (put_at old c.args.path c.args.value c.in-Ok.at c.requires (rw (← c.as_slice.ensures.value) c.in-Ok.ensures))
 
 pub returns-in-Ok-clause-ascend : goal.returns-in-Ok-clause-ascend
-returns-in-Ok-clause-ascend g c = subst Ascend (sym (returns-in-Ok-clause-put g c)) (ascends_put c.args.items.now.items c.args.path c.args.value c.requires)
+returns-in-Ok-clause-ascend g c = subst HasAscendingKeys (sym (returns-in-Ok-clause-put g c)) (ascends_put c.args.items.now.items c.args.path c.args.value c.requires)
 
 pub returns-in_ok-insert-in-Err-clause-put : goal.returns-in_ok-insert-in-Err-clause-put
 returns-in_ok-insert-in-Err-clause-put g c =
@@ -17,4 +17,4 @@ returns-in_ok-insert-in-Err-clause-put g c =
     c.in_ok-insert-in-Err.ensures.items ∙ sym (put_gap old c.args.path c.args.value c.in-Err.at (rw (← c.as_slice.ensures.value) c.in-Err.ensures))
 
 pub returns-in_ok-insert-in-Err-clause-ascend : goal.returns-in_ok-insert-in-Err-clause-ascend
-returns-in_ok-insert-in-Err-clause-ascend g c = subst Ascend (sym (returns-in_ok-insert-in-Err-clause-put g c)) (ascends_put c.args.items.now.items c.args.path c.args.value c.requires)
+returns-in_ok-insert-in-Err-clause-ascend g c = subst HasAscendingKeys (sym (returns-in_ok-insert-in-Err-clause-put g c)) (ascends_put c.args.items.now.items c.args.path c.args.value c.requires)

@@ -1,12 +1,12 @@
 use Rattle.std.proofs.Common.{ap, sym, subst, ◌∙◌}
 use Rattle.std.specs.FinMap.{entries_sorted, from_sorted}
-use Rattle.lake_base.specs.Maps.{byte_order, Ascend}
+use Rattle.lake_base.specs.Maps.{byte_order, HasAscendingKeys}
 use Rattle.lake_base.specs.KeyMap.{apply}
 use Rattle.lake_base.proofs.Ascending.{same_again}
 use Rattle.lake_base.proofs.key_map.KeyMap.apply.Goals as goal
 
 pub merged-requires-clause-changes : goal.merged-requires-clause-changes
-merged-requires-clause-changes c = subst Ascend (sym c.as_slice-2.ensures) (entries_sorted c.args.changes.now)
+merged-requires-clause-changes c = subst HasAscendingKeys (sym c.as_slice-2.ensures) (entries_sorted c.args.changes.now)
 
 pub returns : goal.returns
 returns c =

@@ -1,7 +1,7 @@
 use Rattle.std.proofs.Common.{sym, subst}
 use Rattle.std.specs.FinMap.{entries_sorted}
-use Rattle.lake_base.specs.Maps.{Ascend}
+use Rattle.lake_base.specs.Maps.{HasAscendingKeys}
 use Rattle.lake_base.proofs.key_map.KeyMap.page.Goals as goal
 
 pub page_of-requires : goal.page_of-requires
-page_of-requires c = subst Ascend (sym c.as_slice.ensures) (entries_sorted c.args.self.now)
+page_of-requires c = subst HasAscendingKeys (sym c.as_slice.ensures) (entries_sorted c.args.self.now)
