@@ -109,7 +109,9 @@ place_takes (suc zero ∷ bytes) place rest fits e =
     let both = takes_then bytes (short_text p.at) p.middle (short_text p.checksum) rest at sum in
     subst (λ (q : Place). Takes (1 ∷ bytes) (place_spelling q) rest × IsSpelledPlace q) (sym p.is) (
       record { parts = ap (λ (l : List ℕ). 1 ∷ l) both.parts; rest_fits = both.rest_fits },
-      record { address = text_limits 1 2048 bytes p.at p.middle p.at_read; foreign = p.foreign; sum = text_limits 0 128 p.middle p.checksum rest p.checksum_read },
+      (let at = text_limits 1 2048 bytes p.at p.middle p.at_read in
+          let sum = text_limits 0 128 p.middle p.checksum rest p.checksum_read in
+          record { limits = record { some = at.long; short = at.short; foreign = p.foreign; short_checksum = sum.short }; address = at.utf8; sum = sum.utf8 }),
     )
 place_takes (suc (suc b) ∷ bytes) place rest fits e = absurd cc
 
@@ -120,7 +122,11 @@ place_again (Own number digest) rest is =
     ap own_at regrouped ∙ rw (number_again w64 (2 ^ 64) wide64 number (digest.0 ++ rest) is.wide, bytes_again 32 digest.0 rest is.sum.long) refl
 place_again (External at checksum) rest is =
     let regrouped : (short_text at ++ short_text checksum) ++ rest ≡ short_text at ++ (short_text checksum ++ rest) = append_assoc (short_text at) (short_text checksum) rest in
-    ap external_at regrouped ∙ rw (text_again 1 2048 at (short_text checksum ++ rest) (lit< tt) is.address, is.foreign, text_again 0 128 checksum rest (lit< tt) is.sum) refl
+    ap external_at regrouped ∙ rw (
+      text_again 1 2048 at (short_text checksum ++ rest) (lit< tt) (record { long = is.limits.some; short = is.limits.short; utf8 = is.address }),
+      is.limits.foreign,
+      text_again 0 128 checksum rest (lit< tt) (record { long = omega arith; short = is.limits.short_checksum; utf8 = is.sum }),
+    ) refl
 
 -- ---- metadata
 

@@ -185,10 +185,10 @@ names_ascend after (x ∷ s) h n = by (is_lt (byte_order after x.0)) (names_asce
     by true rest = (subst (λ k. AllByRecursion (λ y. byte_order k y ≡ Less) (map item_name (map (λ i. i.1) (above after s)))) n.0 (names_below x.0 after s (head_below x s h) n.1), rest)
     by false rest = rest
 
-has_first : (x : List ℕ × Item) (s : Items) (i : Item) → x.1 ≡ i → Contains (map (λ y. y.1) (x ∷ s)) i
+pub has_first : (x : List ℕ × Item) (s : Items) (i : Item) → x.1 ≡ i → Contains (map (λ y. y.1) (x ∷ s)) i
 has_first x s i is = (0, omega arith, is)
 
-has_later : (x : List ℕ × Item) (s : Items) (i : Item) → Contains (map (λ y. y.1) s) i → Contains (map (λ y. y.1) (x ∷ s)) i
+pub has_later : (x : List ℕ × Item) (s : Items) (i : Item) → Contains (map (λ y. y.1) s) i → Contains (map (λ y. y.1) (x ∷ s)) i
 has_later x s i (k, lt, is) = (suc k, omega arith, is)
 
 has_cases : (x : List ℕ × Item) (s : Items) (i : Item) → Contains (map (λ y. y.1) (x ∷ s)) i → (x.1 ≡ i) ⊎ Contains (map (λ y. y.1) s) i

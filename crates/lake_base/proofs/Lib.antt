@@ -1,3 +1,4 @@
+pub mod AllItems
 pub mod Applied
 pub mod Ascending
 pub mod Bases

@@ -12,7 +12,7 @@ use Rattle.std.specs.FinMap.{put, empty, insert, entries, entries-insert, len-en
 use Rattle.std.specs.FinMap.Entries.{below_all, by_order}
 use Rattle.lake_base.specs.Entry.{Object}
 use Rattle.lake_base.specs.Maps.{byte_order, HasAscendingKeys}
-use Rattle.lake_base.specs.Listing.{common_prefix, item_from, item_of, item_name, listed, above, still}
+use Rattle.lake_base.specs.Listing.{common_prefix, item_from, item_of, item_name, listed, above, items_left}
 use Rattle.lake_base.specs.PageSteps.{is_before, IsRest, Visits, IsFull, IsPast, IsFirst}
 use Rattle.lake_base.specs.declared.listing.Item.{Item}
 use Rattle.lake_base.specs.declared.listing.Item.TheVariants as item
@@ -175,7 +175,7 @@ rest_after query [] left rest = rest
 rest_after query (e ∷ run) left rest = rest_after query run left (rest_tail query e (run ++ left) rest)
 
 -- the first entry isn't below the prefix, and doesn't begin with it
-pub none_left : (query : PageQuery) (es : List (List ℕ × Object)) → IsRest query es → (x : List ℕ × Object) → slice_get es 0 ≡ Some x → starts_with nat_eq x.0 query.prefix ≡ false → still query es ≡ []
+pub none_left : (query : PageQuery) (es : List (List ℕ × Object)) → IsRest query es → (x : List ℕ × Object) → slice_get es 0 ≡ Some x → starts_with nat_eq x.0 query.prefix ≡ false → items_left query es ≡ []
 none_left query [] rest x got never = absurd cc
 none_left query (e ∷ es) rest x got never =
     let same : e ≡ x = cc in
@@ -187,12 +187,12 @@ pub first_is : (query : PageQuery) (es : List (List ℕ × Object)) (x : List �
 first_is query [] x got begins = absurd cc
 first_is query (e ∷ es) x got begins = let same : e ≡ x = cc in ap (λ y. starts_with nat_eq y.0 query.prefix) same ∙ begins
 
-pub nothing_left : (query : PageQuery) (es : List (List ℕ × Object)) → length es ≡ 0 → still query es ≡ []
-nothing_left query es e = ap (still query) (nothing es e) ∙ ap (λ l. map (λ i. i.1) (above query.after l)) none_listed
+pub nothing_left : (query : PageQuery) (es : List (List ℕ × Object)) → length es ≡ 0 → items_left query es ≡ []
+nothing_left query es e = ap (items_left query) (nothing es e) ∙ ap (λ l. map (λ i. i.1) (above query.after l)) none_listed
 
 -- an object
 pub object_still : (query : PageQuery) (e : List ℕ × Object) (es : List (List ℕ × Object)) → IsRest query (e ∷ es) → starts_with nat_eq e.0 query.prefix ≡ true → common_prefix query.prefix query.delimiter e.0 ≡ None
-    → still query (e ∷ es) ≡ item.Object e.0 e.1 ∷ still query es
+    → items_left query (e ∷ es) ≡ item.Object e.0 e.1 ∷ items_left query es
 object_still query e es rest u none =
     ap (λ l. map (λ i. i.1) (above query.after l)) (object_first query.prefix query.delimiter e es rest.ascend u none)
     ∙ ap (map (λ i. i.1)) (above_front query.after e.0 (item.Object e.0 e.1) (items query.prefix query.delimiter es) rest.later.0)
@@ -200,7 +200,7 @@ object_still query e es rest u none =
 pub object_visit : (query : PageQuery) (old : List Item) (e : List ℕ × Object) (es : List (List ℕ × Object)) → IsRest query (e ∷ es) → starts_with nat_eq e.0 query.prefix ≡ true → common_prefix query.prefix query.delimiter e.0 ≡ None
     → length old < query.amount → Visits query old (old ++ item.Object e.0 e.1 ∷ []) (e ∷ es) es
 object_visit query old e es rest u none lt = record {
-  same = append_assoc old (item.Object e.0 e.1 ∷ []) (still query es) ∙ ap (λ l. old ++ l) (sym (object_still query e es rest u none));
+  same = append_assoc old (item.Object e.0 e.1 ∷ []) (items_left query es) ∙ ap (λ l. old ++ l) (sym (object_still query e es rest u none));
   room = omega (arith, length-append old (item.Object e.0 e.1 ∷ []));
   rest = rest_tail query e es rest;
   shorter = omega arith;
@@ -256,14 +256,14 @@ run_parts query e es left text rest u is (f ∷ run) some whole begin others =
 pub past_parts : (query : PageQuery) (e : List ℕ × Object) (es left : List (List ℕ × Object)) (text : List ℕ) → IsRest query (e ∷ es) → starts_with nat_eq e.0 query.prefix ≡ true → common_prefix query.prefix query.delimiter e.0 ≡ Some text → IsPast (e ∷ es) text left → RunParts query e es left text
 past_parts query e es left text rest u is past = run_parts query e es left text rest u is past.run past.some past.whole past.begin past.others
 
-prefix_still : (query : PageQuery) (e : List ℕ × Object) (es left : List (List ℕ × Object)) (text : List ℕ) → RunParts query e es left text → is_lt (byte_order query.after text) ≡ true → still query (e ∷ es) ≡ item.Prefix text ∷ still query left
+prefix_still : (query : PageQuery) (e : List ℕ × Object) (es left : List (List ℕ × Object)) (text : List ℕ) → RunParts query e es left text → is_lt (byte_order query.after text) ≡ true → items_left query (e ∷ es) ≡ item.Prefix text ∷ items_left query left
 prefix_still query e es left text parts lt =
     ap (λ l. map (λ i. i.1) (above query.after l)) parts.items_are
     ∙ ap (λ b. map (λ i. i.1) (cond b ((text, item.Prefix text) ∷ above query.after (items query.prefix query.delimiter left)) (above query.after (items query.prefix query.delimiter left)))) lt
 
 pub prefix_visit : (query : PageQuery) (old : List Item) (e : List ℕ × Object) (es left : List (List ℕ × Object)) (text : List ℕ) → RunParts query e es left text → is_lt (byte_order query.after text) ≡ true → length old < query.amount → Visits query old (old ++ item.Prefix text ∷ []) (e ∷ es) left
 prefix_visit query old e es left text parts lt room = record {
-  same = append_assoc old (item.Prefix text ∷ []) (still query left) ∙ ap (λ l. old ++ l) (sym (prefix_still query e es left text parts lt));
+  same = append_assoc old (item.Prefix text ∷ []) (items_left query left) ∙ ap (λ l. old ++ l) (sym (prefix_still query e es left text parts lt));
   room = omega (arith, length-append old (item.Prefix text ∷ []));
   rest = parts.rest;
   shorter = parts.shorter;
@@ -321,7 +321,7 @@ before_still query e es before = by (starts_with nat_eq e.0 query.prefix) refl
         ap (above query.after) (items_under query.prefix query.delimiter e es u)
         ∙ above_put query.after n (item_of query.prefix query.delimiter e.0 e.1) (items query.prefix query.delimiter es) (low_name query.after n e.0 le late _ refl)
 
-pub start_still : (query : PageQuery) (front es : List (List ℕ × Object)) → AllByRecursion (λ e. is_before query e.0 ≡ true) front → still query (front ++ es) ≡ still query es
+pub start_still : (query : PageQuery) (front es : List (List ℕ × Object)) → AllByRecursion (λ e. is_before query e.0 ≡ true) front → items_left query (front ++ es) ≡ items_left query es
 start_still query [] es all = refl
 start_still query (e ∷ front) es all = ap (map (λ i. i.1)) (before_still query e (front ++ es) all.0) ∙ start_still query front es all.1
 
@@ -484,9 +484,9 @@ start_rest query es at h back =
     let all = part_back (λ e. is_before query e.0 ≡ false) es at back in
     record { ascend = ascends_drop at es h; later = start_later query (drop at es) all; from = start_from query (drop at es) all }
 
-pub start_same : (query : PageQuery) (es : List (List ℕ × Object)) (at : ℕ) → at ≤ length es → AllWithin (λ e. is_before query e.0 ≡ true) es 0 at → still query (drop at es) ≡ still query es
+pub start_same : (query : PageQuery) (es : List (List ℕ × Object)) (at : ℕ) → at ≤ length es → AllWithin (λ e. is_before query e.0 ≡ true) es 0 at → items_left query (drop at es) ≡ items_left query es
 start_same query es at le front =
-    sym (start_still query (take at es) (drop at es) (part_front (λ e. is_before query e.0 ≡ true) es at le front)) ∙ ap (still query) (take-append-drop at es)
+    sym (start_still query (take at es) (drop at es) (part_front (λ e. is_before query e.0 ≡ true) es at le front)) ∙ ap (items_left query) (take-append-drop at es)
 
 pub any_key : (es : List (List ℕ × Object)) → AllByRecursion (λ e. Unit {0}) es
 any_key [] = tt

@@ -96,11 +96,10 @@ after_item after [] a d h lt = absurd (omega arith)
 after_item after (e ∷ es) a d h lt = after_step after e es a d h lt (after_item after es a d (tail_ascends e es h)) _ refl
 
 -- the last of the first so many
-last_take : (s : Items) (a : ℕ) (d : List ℕ × Item) → Named s → a < length s → last_name (take (suc a) (map (λ i. i.1) s)) ≡ (get_or s a d).0
-last_take [] a d h lt = absurd (omega arith)
-last_take (x ∷ s) zero d h lt = sym h.0
-last_take (x ∷ []) (suc a) d h lt = absurd (omega arith)
-last_take (x ∷ y ∷ s) (suc a) d h lt = last_take (y ∷ s) a d h.1 (omega arith)
+last_take : (before : List ℕ) (s : Items) (a : ℕ) (d : List ℕ × Item) → Named s → a < length s → last_name before (take (suc a) (map (λ i. i.1) s)) ≡ (get_or s a d).0
+last_take before [] a d h lt = absurd (omega arith)
+last_take before (x ∷ s) zero d h lt = sym h.0
+last_take before (x ∷ s) (suc a) d h lt = last_take (item_name x.1) s a d h.1 (omega arith)
 
 named_above : (after : List ℕ) (es : Items) → Named es → Named (above after es)
 named_above after [] h = tt
@@ -121,13 +120,13 @@ length_map (x ∷ s) = ap suc (length_map s)
 
 -- the items after a page
 next_items : (after : List ℕ) (es : Items) (a : ℕ) → HasAscendingKeys es → Named es → 0 < a → a < length (map (λ i. i.1) (above after es))
-    → map (λ i. i.1) (above (last_name (take a (map (λ i. i.1) (above after es)))) es) ≡ drop a (map (λ i. i.1) (above after es))
+    → map (λ i. i.1) (above (last_name after (take a (map (λ i. i.1) (above after es)))) es) ≡ drop a (map (λ i. i.1) (above after es))
 next_items after [] a h n some lt = absurd (omega arith)
 next_items after (e ∷ es) zero h n some lt = absurd (omega arith)
 next_items after (e ∷ es) (suc a) h n some lt =
     let s : Items = above after (e ∷ es) in
     let within : a < length s = omega (arith, length_map s) in
-    ap (λ k. map (λ i. i.1) (above k (e ∷ es))) (last_take s a e (named_above after (e ∷ es) n) within)
+    ap (λ k. map (λ i. i.1) (above k (e ∷ es))) (last_take after s a e (named_above after (e ∷ es) n) within)
     ∙ ap (map (λ i. i.1)) (after_item after (e ∷ es) a e h within)
     ∙ drop_map (suc a) s
 

@@ -1,5 +1,5 @@
 -- Clocks that give fixed moments.
-use Rattle.std.specs.Prelude.{◌-◌, ◌++◌, ℕ, List, Option, Some, None, length, take, slice_index, replicate, min, nat_lt, if◌then◌else◌}
+use Rattle.std.specs.Prelude.{◌-◌, ◌++◌, ◌∷◌, [], ℕ, zero, suc, List, Option, Some, None, length, slice_index, replicate, min, nat_lt, if◌then◌else◌}
 use Rattle.lake_base.specs.Outside.{last_count}
 
 -- a clock that always gives one moment, and how many readings it gave
@@ -16,10 +16,10 @@ pub record Script : Type 0 where
 abbrev pub moment_after : List ℕ → ℕ → ℕ
 moment_after moments given = slice_index moments (min given (length moments - 1))
 
--- the first readings of such a clock
+-- its first readings, so many
 abbrev pub first_moments : List ℕ → ℕ → List ℕ
-first_moments moments given =
-    take given moments ++ replicate (given - length moments) (slice_index moments (length moments - 1))
+first_moments moments zero = []
+first_moments moments (suc given) = first_moments moments given ++ moment_after moments given ∷ []
 
 -- readings are told as long as their count isn't at its end
 abbrev pub told_before_end : ℕ → List ℕ → Option (List ℕ)

@@ -61,12 +61,12 @@ abbrev pub above : List ℕ → List (List ℕ × Item) → List (List ℕ × It
 above after items = filter (λ i. is_lt (byte_order after i.0)) items
 
 -- the items that a sorted list of entries still gives
-abbrev pub still : PageQuery → List (List ℕ × Object) → List Item
-still query es = map (λ i. i.1) (above query.after (items_of query es))
+abbrev pub items_left : PageQuery → List (List ℕ × Object) → List Item
+items_left query es = map (λ i. i.1) (above query.after (items_of query es))
 
 -- the items of a map above `after`, in byte order of their names
 abbrev pub items_above : PageQuery → Objects → List Item
-items_above query objects = still query (entries objects)
+items_above query objects = items_left query (entries objects)
 
 -- a page is the first of them, so many
 abbrev pub page_items : PageQuery → Objects → List Item
@@ -76,15 +76,14 @@ page_items query objects = take query.amount (items_above query objects)
 abbrev pub has_more : PageQuery → Objects → Bool
 has_more query objects = nat_lt query.amount (length (items_above query objects))
 
--- the name of the last item
-abbrev pub last_name : List Item → List ℕ
-last_name [] = []
-last_name (i ∷ []) = item_name i
-last_name (i ∷ j ∷ items) = last_name (j ∷ items)
+-- the name of the last item, or the one before where there is none
+abbrev pub last_name : List ℕ → List Item → List ℕ
+last_name before [] = before
+last_name before (i ∷ items) = last_name (item_name i) items
 
 -- the query for what comes after these items
 abbrev pub after_page : PageQuery → List Item → PageQuery
-after_page query items = record { prefix = query.prefix; after = last_name items; amount = query.amount; delimiter = query.delimiter }
+after_page query items = record { prefix = query.prefix; after = last_name query.after items; amount = query.amount; delimiter = query.delimiter }
 
 -- the items of at most so many pages, each taken after the last item of the one before
 abbrev pub pages : ℕ → PageQuery → Objects → List Item

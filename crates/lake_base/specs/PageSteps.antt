@@ -4,7 +4,7 @@ use Rattle.std.specs.List.{starts_with, AllByRecursion}
 use Rattle.std.specs.Ordering.{is_lt, is_gt}
 use Rattle.std.specs.declared.cmp.Ordering.TheVariants.{Less}
 use Rattle.lake_base.specs.Entry.{Object}
-use Rattle.lake_base.specs.Listing.{still}
+use Rattle.lake_base.specs.Listing.{items_left}
 use Rattle.lake_base.specs.Maps.{byte_order, HasAscendingKeys}
 use Rattle.lake_base.specs.declared.listing.Item.{Item}
 use Rattle.lake_base.specs.declared.listing.PageQuery.{PageQuery}
@@ -17,7 +17,7 @@ pub record IsRest (query : PageQuery) (es : List (List ℕ × Object)) : Type 0 
 
 -- one more entry was visited: its item, if it is above `after`, is appended
 pub record Visits (query : PageQuery) (old new : List Item) (es left : List (List ℕ × Object)) : Type 0 where
-  pub same : new ++ still query left ≡ old ++ still query es
+  pub same : new ++ items_left query left ≡ old ++ items_left query es
   pub room : length new ≤ query.amount
   pub rest : IsRest query left
   pub shorter : length left < length es
@@ -25,7 +25,7 @@ pub record Visits (query : PageQuery) (old new : List Item) (es left : List (Lis
 -- the page is full, and an item is left
 pub record IsFull (query : PageQuery) (items : List Item) (es : List (List ℕ × Object)) : Type 0 where
   pub full : length items ≡ query.amount
-  pub left : 0 < length (still query es)
+  pub left : 0 < length (items_left query es)
 
 -- whether a path is up to `after`, or below the prefix
 abbrev pub is_before : PageQuery → List ℕ → Bool

@@ -1,10 +1,7 @@
 -- The metadata of an object or a commit.
 use Rattle.std.specs.Prelude.{◌≡◌, ◌==◌, ◌&&◌, nat_lt, nat_le, is_none, if◌then◌else◌, Option, Some, None, Result, Ok, Err, ◌≤◌, ◌<◌, ℕ, List, length, map, All}
 use Rattle.std.specs.FinMap.{find}
-use Rattle.std.specs.List.Sorted.{IsStrictlySortedBy}
-use Rattle.std.specs.Ordering.{nat_cmp}
-use Rattle.std.specs.Cmp.Lexicographic.{slice_cmp}
-use Rattle.lake_base.specs.Maps.{byte_order}
+use Rattle.lake_base.specs.Maps.{byte_order, IsAscending}
 use Rattle.lake_base.specs.declared.pairs.PairsFault.{PairsFault}
 use Rattle.lake_base.specs.declared.pairs.PairsFault.TheVariants.{Key, Value, Full, NoMemory}
 
@@ -18,7 +15,7 @@ pub record IsPair (pair : List ℕ × List ℕ) : Type 0 where
 pub record ArePairs (pairs : List (List ℕ × List ℕ)) : Type 0 where
   pub few : length pairs ≤ 64
   pub each : All IsPair pairs
-  pub ascending : IsStrictlySortedBy (slice_cmp nat_cmp) (map (λ pair. pair.0) pairs)
+  pub ascending : IsAscending (map (λ pair. pair.0) pairs)
 
 -- a new key has no room beside 64 pairs
 abbrev pub room_fault : List ℕ → List (List ℕ × List ℕ) → Option PairsFault

@@ -17,13 +17,13 @@ abbrev pub ◌>>=◌ : {A B : Type 0} → Result A EntryFault → (A → Result 
 (Ok x) >>= f = f x
 (Err e) >>= f = Err e
 
--- What a reader answered, seen by view, is what reading gives, unless memory ran out.
+-- reading meets the fault that a reader answered, unless memory ran out
 abbrev pub Fails : {Y : Type 0} → EntryFault → Result Y EntryFault → Type 0
 Fails NoMemory read = Unit {0}
 Fails Short read = read ≡ Err Short
 Fails Bad read = read ≡ Err Bad
 
--- an answer of value and rest, or of the fault that reading meets
+-- What a reader answered, seen by view, is what reading gives, unless memory ran out.
 abbrev pub Gives : {X Y : Type 0} → (X → Y) → Result X EntryFault → Result Y EntryFault → Type 0
 Gives view (Ok x) read = read ≡ Ok (view x)
 Gives view (Err e) read = Fails e read

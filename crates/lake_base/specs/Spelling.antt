@@ -1,14 +1,15 @@
 -- The one spelling of each value as bytes: the project's own formats, numbers with their high byte first.
-use Rattle.std.specs.Prelude.{◌≡◌, ◌<◌, ◌≤◌, ◌-◌, ◌^◌, ℕ, false, true, List, [], ◌∷◌, ◌++◌, length, slice_get, slice_index, codes, nat_eq, option_map, None}
+use Rattle.std.specs.Prelude.{◌≡◌, ◌<◌, ◌≤◌, ◌-◌, ◌^◌, ℕ, false, true, List, [], ◌∷◌, ◌++◌, length, slice_get, slice_index, codes, option_map, None}
 use Rattle.std.specs.Option.{unwrap_or}
-use Rattle.std.specs.List.{flat_map, starts_with, AllByRecursion}
+use Rattle.std.specs.List.{flat_map, AllByRecursion}
 use Rattle.std.specs.Int.{w16, w32, w64, to_be_bytes}
 use Rattle.std.specs.Ordering.{is_gt}
 use Rattle.std.specs.Str.{is_utf8}
 use Rattle.std.specs.declared.cmp.Ordering.TheVariants.{Less}
+use Rattle.hex.specs.Hex.{encode_lower}
 use Rattle.lake_base.specs.Commit.{Commit, IsCommit}
 use Rattle.lake_base.specs.Digest.{sha256}
-use Rattle.lake_base.specs.Entry.{Object}
+use Rattle.lake_base.specs.Entry.{Object, IsOutside}
 use Rattle.lake_base.specs.Maps.{byte_order, HasAscendingKeys}
 use Rattle.lake_base.specs.Names.{path_fault}
 use Rattle.lake_base.specs.Pairs.{ArePairs}
@@ -25,6 +26,10 @@ short_text text = to_be_bytes w16 (length text) ++ text
 abbrev pub place_spelling : Place → List ℕ
 place_spelling (Own number digest) = 0 ∷ (to_be_bytes w64 number ++ digest.0)
 place_spelling (External at checksum) = 1 ∷ (short_text at ++ short_text checksum)
+
+-- how the address of an own object is printed: behind `lake://objects/`, its number as 16 lower-case hex digits
+unfoldable pub own_address : ℕ → List ℕ
+own_address number = codes "lake://objects/" ++ encode_lower (to_be_bytes w64 number)
 
 -- a key and its value, each behind two bytes of length
 abbrev pub pair_spelling : List ℕ × List ℕ → List ℕ
@@ -103,11 +108,11 @@ pub record IsOwn (number : ℕ) (digest : List ℕ) : Type 0 where
   pub wide : number < 2 ^ 64
   pub sum : IsDigest digest
 
--- an address that isn't the lake's own, and a checksum
+-- an address outside and its checksum, within their limits, both UTF-8
 pub record IsExternal (at checksum : List ℕ) : Type 0 where
-  pub address : IsText 1 2048 at
-  pub foreign : starts_with nat_eq at (codes "lake://") ≡ false
-  pub sum : IsText 0 128 checksum
+  pub limits : IsOutside at checksum
+  pub address : is_utf8 at ≡ true
+  pub sum : is_utf8 checksum ≡ true
 
 -- a place within its limits, all of it UTF-8
 abbrev pub IsSpelledPlace : Place → Type 0

@@ -5,7 +5,8 @@
 //! - `text`, `names`: texts, paths and the names of repositories, branches and tags, each read from bytes.
 //! - `digest`: SHA-256.
 //! - `sequence`: a vector that contracts see as a list.
-//! - `pairs`, `entry`, `changes`, `key_map`: metadata, what stands at a path, what is put and deleted, and maps.
+//! - `pairs`, `entry`, `changes`, `key_map`: metadata, what stands at a path, what is put and deleted, and maps;
+//!   `places`: where a path stands in a list of either.
 //! - `listing`: pages of a map under a prefix and a delimiter.
 //! - `commit`, `settings`: commits, and the settings of a repository, within their limits.
 //! - `fields`, `spelling`, `files`: entries, ranges, metaranges and commits as bytes.
@@ -13,6 +14,7 @@
 //!   graphs, retention, the cut of trees, and rules.
 //! - `outside`: sources, sinks and clocks, whose failures are counted; `memory`, `clocks`: those of tests and of
 //!   runs in memory.
+//! - `crossing`: which values may go from thread to thread.
 //!
 //! The promise to the layer above: what a reader accepts is what it was given, and it refuses exactly what
 //! breaks the stated limits; a map is its look-ups; a value has one spelling; an object of the outside fails
@@ -63,5 +65,5 @@ pub use outside::{Clock, Failed, NoMemory, Sink, Source, Trouble};
 pub use pairs::{Pairs, PairsFault};
 pub use sequence::Sequence;
 pub use settings::{BranchDays, Deny, HookRule, HookRules, Note, Protection, Rules};
-pub use spelling::{entry_bytes, entry_read};
+pub use spelling::{entry_bytes, entry_read, own_address};
 pub use text::{Text, is_utf8};

@@ -6,7 +6,7 @@
 ghost use Rattle.std.specs.Prelude.{◌≡◌, ◌<◌, ◌≤◌, ◌↔◌, ℕ, true, [], length, map, take, Some, None, IfOk, IfSome, MatchOption, option_copied, nat_eq, nat_lt};
 ghost use Rattle.std.specs.Bool.{MatchBool};
 ghost use Rattle.std.specs.List.{starts_with, Contains};
-ghost use Rattle.std.specs.FinMap.{entries};
+ghost use Rattle.std.specs.FinMap.{entries, get};
 ghost use Rattle.std.specs.Ordering.{is_lt};
 ghost use Rattle.std.specs.declared.cmp.Ordering.TheVariants.{Less};
 ghost use Rattle.std.specs.Str.{is_utf8};
@@ -14,7 +14,7 @@ ghost use Rattle.lake_base.specs.Maps.{HasAscendingKeys, IsAscending, byte_order
 ghost use Rattle.lake_base.specs.KeyMap.{Objects};
 ghost use Rattle.lake_base.specs.declared.listing.PageQuery.{PageQuery as Query};
 ghost use Rattle.lake_base.specs.declared.listing.Item.{Item as Line};
-ghost use Rattle.lake_base.specs.Listing.{through, common_prefix, IsItem, item_name, items_of, still, items_above, page_items, has_more, pages};
+ghost use Rattle.lake_base.specs.Listing.{through, common_prefix, IsItem, item_name, items_of, items_left, items_above, page_items, has_more, pages};
 ghost use Rattle.lake_base.specs.PageSteps.{is_before, IsRest, IsFull, IsPast, IsFirst, Visits};
 
 use crate::entry::Entry;
@@ -114,8 +114,8 @@ impl KeyMap {
     }
 }
 
-/// Pages of an amount above 0, each taken after the last item of the one before, give all items, each once,
-/// in order. (A law: it does nothing.)
+/// Pages of an amount above 0, each taken after the last item of the one before, give all items above the first
+/// query's `after`, each once, in order. (A law: it does nothing.)
 pub fn law_of_pages()
     ensures { (n : ℕ) (query : Query) (objects : Objects) → 0 < query.amount
         → length (items_above query objects) ≤ n → pages n query objects ≡ items_above query objects }
@@ -130,13 +130,16 @@ pub fn law_of_items()
     // Pages give those of them whose name is above `after`.
     ensures above { (query : Query) (objects : Objects) (item : Line)
         → Contains (items_above query objects) item ↔ (IsItem query objects item × (byte_order query.after (item_name item) ≡ Less)) }
+    // Those are all items where `after` is empty, since no path is.
+    ensures all { (query : Query) (objects : Objects) → query.after ≡ [] → get objects [] ≡ None
+        → items_above query objects ≡ map (λ i. i.1) (items_of query (entries objects)) }
 {}
 
 // The page of these entries.
 fn page_of(alloc: Global, entries: &[(Path, Entry)], query: &PageQuery) -> Result<Page, NoMemory>
     requires { HasAscendingKeys entries.now }
-    ensures items { IfOk result (λ page. page.items ≡ take query.now.amount (still query.now entries.now)) }
-    ensures more { IfOk result (λ page. page.has_more ≡ nat_lt query.now.amount (length (still query.now entries.now))) }
+    ensures items { IfOk result (λ page. page.items ≡ take query.now.amount (items_left query.now entries.now)) }
+    ensures more { IfOk result (λ page. page.has_more ≡ nat_lt query.now.amount (length (items_left query.now entries.now))) }
 {
     let mut items = Vec::new(alloc);
     let mut rest = start(entries, query);
@@ -160,7 +163,7 @@ fn page_of(alloc: Global, entries: &[(Path, Entry)], query: &PageQuery) -> Resul
 // The entries from the first on that can be listed: above `after`, and not below the prefix.
 fn start<'a>(entries: &'a [(Path, Entry)], query: &PageQuery) -> &'a [(Path, Entry)]
     requires { HasAscendingKeys entries.now }
-    ensures same { still query.now result.now ≡ still query.now entries.now }
+    ensures same { items_left query.now result.now ≡ items_left query.now entries.now }
     ensures rest { IsRest query.now result.now }
 {
     let at = entries.partition_point(|entry| is_before(&entry.0, query));
@@ -185,7 +188,7 @@ fn is_before(path: &Path, query: &PageQuery) -> bool
 // Whether the first entry begins with the prefix. If it doesn't, no later one does.
 fn is_listed(rest: &[(Path, Entry)], query: &PageQuery) -> bool
     requires { IsRest query.now rest.now }
-    ensures { MatchBool result (IsFirst rest.now query.now.prefix) (still query.now rest.now ≡ []) }
+    ensures { MatchBool result (IsFirst rest.now query.now.prefix) (items_left query.now rest.now ≡ []) }
 {
     match rest.first() {
         Some(entry) => entry.0.as_slice().starts_with(query.prefix.as_slice()),

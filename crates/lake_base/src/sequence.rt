@@ -1,6 +1,8 @@
 //! A list of values that contracts see as that list.
-ghost use Rattle.std.specs.Prelude.{◌≡◌};
+ghost use Rattle.std.specs.Prelude.{◌≡◌, IfOk};
 
+use crate::outside::NoMemory;
+use std::alloc::Global;
 use std::marker::Model;
 
 /// A vector that contracts see as the list of its items.
@@ -30,6 +32,17 @@ impl<T> Sequence<T> {
         ensures { result.now ≡ self.now }
     {
         self.items.as_slice()
+    }
+
+    /// An equal list.
+    pub fn copy(&self, alloc: Global) -> Result<Sequence<T>, NoMemory>
+    where
+        T: Copy,
+        ensures { IfOk result (λ copy. copy ≡ self.now) }
+    {
+        let mut items = Vec::new(alloc);
+        items.extend_from_slice(self.items.as_slice())?;
+        Ok(Sequence { items })
     }
 
     /// The vector of the items. It takes no memory.

@@ -13,7 +13,7 @@
 ghost use Rattle.std.specs.Prelude.{◌≡◌, ◌≢◌, ◌++◌, ◌+◌, ◌-◌, ◌≤◌, ℕ, List, length, drop, Ok, Err, OnOk, IfOk};
 ghost use Rattle.std.specs.Int.{w64, to_be_bytes};
 ghost use Rattle.lake_base.specs.Entry.{Object, IsPlace};
-ghost use Rattle.lake_base.specs.Spelling.{place_spelling, entry_spelling, IsOwn, IsSpelledPlace, IsEntry, AreBytes};
+ghost use Rattle.lake_base.specs.Spelling.{place_spelling, entry_spelling, own_address, IsOwn, IsSpelledPlace, IsEntry, AreBytes};
 ghost use Rattle.lake_base.specs.declared.fields.EntryFault.TheVariants.{Short, Bad};
 ghost use Rattle.lake_base.specs.Reading.{Gives, address_at, own_at, external_at, place_at, entry_at, entry_from};
 
@@ -173,6 +173,17 @@ fn entry_with_end(alloc: Global, bytes: &[u8], from: usize) -> Result<(Entry, us
     Ok((entry, bytes.len() - rest.len()))
 }
 
+/// The address of an own object as it is printed: `lake://objects/` and its number as 16 lower-case hex digits.
+#[tactic(auto, unfolding(crate::specs::Spelling::own_address))]
+pub fn own_address(alloc: Global, number: u64) -> Result<Text, NoMemory>
+    ensures { IfOk result (λ address. address ≡ own_address number) }
+{
+    let digits = hex::encode(alloc, &number.to_be_bytes())?;
+    let mut address = String::from_str(alloc, "lake://objects/")?;
+    address.push_str(digits.as_str())?;
+    Ok(Text::of(address))
+}
+
 /// What is spelled is read again, whatever follows it. So no entry's spelling begins with another's, and
 /// none has two. What is read is spelled so. (A law: it does nothing.)
 pub fn laws_of_spelling()
@@ -183,9 +194,9 @@ pub fn laws_of_spelling()
         → entry_at bytes ≡ Ok (e, rest) → IsEntry e × (bytes ≡ entry_spelling e ++ rest) }
 {}
 
-/// Short is answered just where the verdict still waits for bytes: what was read, or refused as Bad, stays
-/// so whatever follows; and what is Short isn't Short any more once enough bytes follow. No entry takes more
-/// than 76,440 bytes, and that many are never Short. (A law: it does nothing.)
+/// What was read, or refused as Bad, stays so whatever follows; and what is Short isn't Short any more once
+/// enough bytes follow. No entry takes more than 76,440 bytes, and that many are never Short. (A law: it does
+/// nothing.)
 pub fn law_of_reading()
     ensures found { (bytes more : List ℕ) (e : Object) (rest : List ℕ)
         → entry_at bytes ≡ Ok (e, rest) → entry_at (bytes ++ more) ≡ Ok (e, rest ++ more) }

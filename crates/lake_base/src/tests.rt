@@ -1,3 +1,4 @@
+mod addresses;
 mod copies;
 mod cuts;
 mod decisions;

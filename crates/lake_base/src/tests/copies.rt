@@ -180,3 +180,13 @@ fn commits_are_copied(rt: HostRuntime) -> Result<(), Fail> {
     assert!(rt; commit.committer.as_slice() == b"me".as_slice());
     Ok(())
 }
+
+#[test]
+fn sequences_are_copied(rt: HostRuntime) -> Result<(), Fail> {
+    let alloc = rt.alloc();
+    let mut ids = Vec::new(alloc);
+    ids.push(7u64)?;
+    let ids = Sequence::of(ids);
+    assert!(rt; ids.copy(alloc)?.as_slice() == [7u64].as_slice());
+    Ok(())
+}

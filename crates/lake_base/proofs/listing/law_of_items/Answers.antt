@@ -1,5 +1,6 @@
+use Rattle.lake_base.proofs.AllItems.{all_above_empty}
 use Rattle.lake_base.proofs.Items.{listed_is, items_ascend, above_is}
 use Rattle.lake_base.proofs.listing.law_of_items.Goals as goal
 
 pub returns : goal.returns
-returns c = record { listed = listed_is; ascending = items_ascend; above = above_is }
+returns c = record { listed = listed_is; ascending = items_ascend; above = above_is; all = all_above_empty }

@@ -1,7 +1,7 @@
 use Rattle.std.proofs.Common.{◌≡◌, true, false, rules, ◌∙◌, ap}
 use Rattle.std.specs.List.Sorted.{IsPartitionPoint}
 use Rattle.std.proofs.lemmas.List.Sorted.{IsPartitionPoint-from_clause}
-use Rattle.lake_base.specs.Listing.{still}
+use Rattle.lake_base.specs.Listing.{items_left}
 use Rattle.lake_base.specs.PageSteps.{is_before}
 use Rattle.lake_base.proofs.Listed.{partitioned, before_down, any_key, start_rest, start_same}
 use Rattle.lake_base.proofs.listing.start.Goals as goal
@@ -15,7 +15,7 @@ parts c =
 
 pub returns-clause-same : goal.returns-clause-same
 returns-clause-same c =
-    ap (still c.args.query.now) c.split_at.ensures.back ∙ start_same c.args.query.now c.args.entries.now c.partition_point-at.result c.partition_point-at.ensures.bound (parts c).0
+    ap (items_left c.args.query.now) c.split_at.ensures.back ∙ start_same c.args.query.now c.args.entries.now c.partition_point-at.result c.partition_point-at.ensures.bound (parts c).0
 
 pub returns-clause-rest : goal.returns-clause-rest
 returns-clause-rest c = rw c.split_at.ensures.back (start_rest c.args.query.now c.args.entries.now c.partition_point-at.result c.requires (parts c).1)
