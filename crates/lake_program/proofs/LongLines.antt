@@ -7,7 +7,7 @@ use Rattle.std.specs.Str.{is_utf8}
 use Rattle.std.specs.Str.Lines.{strip_carriage_return}
 use Rattle.lake_program.specs.declared.word.TheConstants.{LINE_LIMIT}
 use Rattle.lake_program.specs.Command.{request_of, request_of_words, words_of}
-use Rattle.lake_program.specs.Batch.{Lake, Served, leaving, does, asked, turn}
+use Rattle.lake_program.specs.Batch.{Lake, Served, leaving, success, asked, turn}
 use Rattle.lake_program.specs.Feeding.{line_room}
 
 -- what is told by the length and the first byte
@@ -22,12 +22,12 @@ no_request x long =
 
 -- what a line that is too long comes to
 abbrev told : ℕ → List ℕ → Lake → Served
-told first moments lake = cond (first == 35) (leaving moments (does lake [])) (asked None moments lake)
+told first moments lake = cond (first == 35) (leaving moments (success lake [])) (asked None moments lake)
 
 turn_long : (x : List ℕ) (first : ℕ) (moments : List ℕ) (lake : Lake) → Long x first → turn x moments lake ≡ told first moments lake
 turn_long [] first moments lake is = absurd (omega (arith, is.long))
 turn_long (byte ∷ bytes) first moments lake is =
-    ap (λ r. cond (byte == 35) (leaving moments (does lake [])) (asked r moments lake)) (no_request (byte ∷ bytes) is.long) ∙ ap (λ b. told b moments lake) is.begins
+    ap (λ r. cond (byte == 35) (leaving moments (success lake [])) (asked r moments lake)) (no_request (byte ∷ bytes) is.long) ∙ ap (λ b. told b moments lake) is.begins
 
 choose : (P : List ℕ → Type 0) (b : Bool) (x y : List ℕ) → P x → P y → P (cond b x y)
 choose P true x y p q = p

@@ -8,7 +8,7 @@ use Rattle.std.specs.List.{All}
 use Rattle.std.specs.Str.Lines.{lines}
 use Rattle.lake_base.specs.declared.outside.Failed.{Failed}
 use Rattle.lake_program.specs.declared.words.Timing.{Timing}
-use Rattle.lake_program.specs.Batch.{Lake, Served, leaving, does, turn, before, batch, batch_of, cut_off, ended_lines, fresh_lake}
+use Rattle.lake_program.specs.Batch.{Lake, Served, leaving, success, turn, before, batch, batch_of, cut_off, ended_lines, fresh_lake}
 use Rattle.lake_program.specs.Front.{IsPrefix, AsStated, IsServed}
 use Rattle.lake_program.specs.Text.{out_of_memory, too_long}
 use Rattle.lake_program.specs.Feeding.{Progress, InLine, line_room, Holds, stated, Went, Stuck, Cut, Comes, Feeds, Turns, Answers, Serves}
@@ -115,7 +115,7 @@ outcome_source_failed timing limit total r0 r1 w0 w1 left input new within reach
     }
 
 -- the last line, which nothing ends, and an empty one that is no line
-last_turn : (next moments : List ℕ) (lake : Lake) → All InLine next → batch (lines next) moments lake ≡ (let t = turn next moments lake in before t.text t.done (leaving t.left (does t.lake [])))
+last_turn : (next moments : List ℕ) (lake : Lake) → All InLine next → batch (lines next) moments lake ≡ (let t = turn next moments lake in before t.text t.done (leaving t.left (success t.lake [])))
 last_turn [] moments lake in_line = refl
 last_turn (byte ∷ next) moments lake in_line = ap (λ (l : List (List ℕ)). batch l moments lake) (lines_last (byte ∷ next) in_line ∙ some)
   where
@@ -148,12 +148,12 @@ module _ (timing : Timing) (limit : ℕ) (r0 r1 r2 w0 w1 w2 left : Option (List 
 
   module _ (next : List ℕ) (holds : Holds next new.line) (v : Went start [] input a.moments a.out new next) where
     -- the last line's turn, from what is kept of it
-    last_is : (n later : List ℕ) → batch_of limit input ((a.moments ++ n) ++ later) ≡ (let t = turn new.line (n ++ later) new.lake in before a.out v.done (before t.text t.done (leaving t.left (does t.lake []))))
+    last_is : (n later : List ℕ) → batch_of limit input ((a.moments ++ n) ++ later) ≡ (let t = turn new.line (n ++ later) new.lake in before a.out v.done (before t.text t.done (leaving t.left (success t.lake []))))
     last_is n later =
         regroup n later ∙ v.each lines [] (n ++ later) lines_cut
         ∙ ap (λ (l : List ℕ). before a.out v.done (batch (lines l) (n ++ later) new.lake)) (append-nil next)
         ∙ ap (before a.out v.done) (last_turn next (n ++ later) new.lake holds.in_line)
-        ∙ ap (λ (t : Served). before a.out v.done (before t.text t.done (leaving t.left (does t.lake [])))) (sym (ap (λ (l : List ℕ). turn l (n ++ later) new.lake) holds.front ∙ turn_last next (n ++ later) new.lake))
+        ∙ ap (λ (t : Served). before a.out v.done (before t.text t.done (leaving t.left (success t.lake [])))) (sym (ap (λ (l : List ℕ). turn l (n ++ later) new.lake) holds.front ∙ turn_last next (n ++ later) new.lake))
 
     went_stated : (n out : List ℕ) (result : Result (Unit {0}) Failed) → Answers new.line n out new final result → (later : List ℕ) → AsStated (a.out ++ out) (batch_of limit input ((a.moments ++ n) ++ later)).text
     went_stated n out (Ok u) answers later =
@@ -163,7 +163,7 @@ module _ (timing : Timing) (limit : ℕ) (r0 r1 r2 w0 w1 w2 left : Option (List 
             so_far = subst (λ (s : Served). IsPrefix a.out s.text) (sym (last_is n later)) (_, refl);
             text = inl (subst (λ (o : List ℕ). IsPrefix (a.out ++ out_of_memory) (a.out ++ o)) (sym is) (front_of_self (a.out ++ out_of_memory)));
           })
-          | false ↦ λ went. inl (subst (λ (s : Served). IsPrefix (a.out ++ out) s.text) (sym (last_is n later ∙ ap (λ (t : Served). before a.out v.done (before t.text t.done (leaving t.left (does t.lake [])))) (went.2 later)))
+          | false ↦ λ went. inl (subst (λ (s : Served). IsPrefix (a.out ++ out) s.text) (sym (last_is n later ∙ ap (λ (t : Served). before a.out v.done (before t.text t.done (leaving t.left (success t.lake [])))) (went.2 later)))
               ([], append_assoc a.out out []))
         ] answers
     went_stated n out (Err failed) (inl cut) later =
@@ -180,11 +180,11 @@ module _ (timing : Timing) (limit : ℕ) (r0 r1 r2 w0 w1 w2 left : Option (List 
         elim final.starved as (λ b. final.starved ≡ b → MatchBool b (out ≡ out_of_memory) ((d : Bool) × (final.done ≡ (new.done && d)) × Turns new.line n out d new.lake final.lake) → IsWhole limit input (a.moments ++ n) (a.out ++ out) status) [
           | true ↦ λ starved wants. absurd (omega (arith, low, is ∙ ap (λ b. status_of b final.done) starved))
           | false ↦ λ plenty went.
-              let shown = ap (batch_of limit input) (sym (append-nil (a.moments ++ n))) ∙ last_is n [] ∙ ap (λ (t : Served). before a.out v.done (before t.text t.done (leaving t.left (does t.lake [])))) (went.2 []) in
+              let shown = ap (batch_of limit input) (sym (append-nil (a.moments ++ n))) ∙ last_is n [] ∙ ap (λ (t : Served). before a.out v.done (before t.text t.done (leaving t.left (success t.lake [])))) (went.2 []) in
               record {
                 text = sym (ap (λ (s : Served). s.text) shown ∙ ap (λ (l : List ℕ). a.out ++ l) (append-nil out));
                 done = is ∙ ap (λ b. status_of b final.done) plenty ∙ ap (λ b. cond b 0 1) (all_done v.done went.0 final.done new.done v.all_done went.1 ∙ sym (ap (λ (s : Served). s.done) shown));
-                just = λ later. ap (λ (s : Served). s.left) (last_is n later ∙ ap (λ (t : Served). before a.out v.done (before t.text t.done (leaving t.left (does t.lake [])))) (went.2 later));
+                just = λ later. ap (λ (s : Served). s.left) (last_is n later ∙ ap (λ (t : Served). before a.out v.done (before t.text t.done (leaving t.left (success t.lake [])))) (went.2 later));
               }
         ] refl answers
       where
@@ -231,7 +231,7 @@ module _ (timing : Timing) (limit : ℕ) (r0 r1 w0 w1 w2 left : Option (List ℕ
       ∙ ap (λ (l : List ℕ). cut_off (batch (ended_lines l) (a.moments ++ later) fresh_lake)) (sym (append-nil (take limit input)))
 
   after_lines : (next : List ℕ) → Holds next new.line → (v : Went start [] (take limit input) a.moments a.out new next) → (later : List ℕ)
-      → batch_of limit input (a.moments ++ later) ≡ cut_off (before a.out v.done (leaving later (does new.lake [])))
+      → batch_of limit input (a.moments ++ later) ≡ cut_off (before a.out v.done (leaving later (success new.lake [])))
   after_lines next holds v later =
       cut_is later ∙ ap cut_off (v.each ended_lines [] later ended_cut
       ∙ ap (λ (l : List ℕ). before a.out v.done (batch (ended_lines l) later new.lake)) (append-nil next)

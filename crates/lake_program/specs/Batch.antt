@@ -45,28 +45,28 @@ pub record Shown : Type 0 where
   pub lake : Lake
 
 -- a request that was refused
-abbrev pub refuses : Lake → List ℕ → Shown
-refuses lake text = record { text = text; done = false; lake = lake }
+abbrev pub refusal : Lake → List ℕ → Shown
+refusal lake text = record { text = text; done = false; lake = lake }
 
 -- a request that was done
-abbrev pub does : Lake → List ℕ → Shown
-does lake text = record { text = text; done = true; lake = lake }
+abbrev pub success : Lake → List ℕ → Shown
+success lake text = record { text = text; done = true; lake = lake }
 
 -- one more request
-abbrev pub begun : Lake → Lake
-begun lake = record { history = lake.history; objects = lake.objects; calls = lake.calls + 1 }
+abbrev pub with_call : Lake → Lake
+with_call lake = record { history = lake.history; objects = lake.objects; calls = lake.calls + 1 }
 
 -- one more entry, made in the present request by the one seat
-abbrev pub adds : EntryKind → Lake → Lake
-adds kind lake = record {
+abbrev pub with_entry : EntryKind → Lake → Lake
+with_entry kind lake = record {
   history = lake.history ++ record { by = record { seat = 0; call = lake.calls }; kind = kind } ∷ [];
   objects = lake.objects;
   calls = lake.calls;
 }
 
 -- the text is held under the number
-abbrev pub holding : ℕ → List ℕ → Lake → Lake
-holding number text lake = record { history = lake.history; objects = insert lake.objects number text; calls = lake.calls }
+abbrev pub with_object : ℕ → List ℕ → Lake → Lake
+with_object number text lake = record { history = lake.history; objects = insert lake.objects number text; calls = lake.calls }
 
 -- the entry of a text that is uploaded at a moment under a number
 abbrev pub entry_of : ℕ → List ℕ → ℕ → Object
@@ -79,31 +79,31 @@ entry_of number text moment = record {
 }
 
 -- the ticket of a number is given up, where the history has room for that
-abbrev pub gives_up : ℕ → Result ℕ StepFault → Lake → Lake
-gives_up number (Ok at) lake = adds (TicketDrop number) lake
-gives_up number (Err fault) lake = lake
+abbrev pub without_ticket : ℕ → Result ℕ StepFault → Lake → Lake
+without_ticket number (Ok at) lake = with_entry (TicketDrop number) lake
+without_ticket number (Err fault) lake = lake
 
 -- an upload whose entry was staged, or refused
-abbrev pub stages : ℕ → List ℕ → List ℕ → ℕ → Result ℕ StepFault → Lake → Shown
-stages number path text moment (Ok at) lake =
-    does (adds (Stage FIRST_REPO.now FIRST_BRANCH.now path (Put (entry_of number text moment))) lake) (uploaded path text)
-stages number path text moment (Err fault) lake = refuses (gives_up number (drop_reply (now lake)) lake) (refused fault)
+abbrev pub upload_staged : ℕ → List ℕ → List ℕ → ℕ → Result ℕ StepFault → Lake → Shown
+upload_staged number path text moment (Ok at) lake =
+    success (with_entry (Stage FIRST_REPO.now FIRST_BRANCH.now path (Put (entry_of number text moment))) lake) (uploaded path text)
+upload_staged number path text moment (Err fault) lake = refusal (without_ticket number (drop_reply (now lake)) lake) (refused fault)
 
 -- an upload that read the branch's version, by which its entry is staged
-abbrev pub guards : ℕ → List ℕ → List ℕ → ℕ → Result Versions StepFault → Lake → Shown
-guards number path text moment (Ok versions) lake =
-    stages number path text moment (stage_reply (now lake) FIRST_REPO.now FIRST_BRANCH.now versions.version) lake
-guards number path text moment (Err fault) lake = refuses (gives_up number (drop_reply (now lake)) lake) (refused fault)
+abbrev pub upload_versioned : ℕ → List ℕ → List ℕ → ℕ → Result Versions StepFault → Lake → Shown
+upload_versioned number path text moment (Ok versions) lake =
+    upload_staged number path text moment (stage_reply (now lake) FIRST_REPO.now FIRST_BRANCH.now versions.version) lake
+upload_versioned number path text moment (Err fault) lake = refusal (without_ticket number (drop_reply (now lake)) lake) (refused fault)
 
 -- an upload whose text is held
-abbrev pub guarded : ℕ → List ℕ → List ℕ → ℕ → Lake → Shown
-guarded number path text moment lake = guards number path text moment (versions_reply (now lake) FIRST_REPO.now FIRST_BRANCH.now) lake
+abbrev pub upload_held : ℕ → List ℕ → List ℕ → ℕ → Lake → Shown
+upload_held number path text moment lake = upload_versioned number path text moment (versions_reply (now lake) FIRST_REPO.now FIRST_BRANCH.now) lake
 
 -- an upload that was given a number, which then holds the text
-abbrev pub takes : List ℕ → List ℕ → ℕ → Result (ℕ × ℕ) StepFault → Lake → Shown
-takes path text moment (Ok taken) lake =
-    guarded taken.1 path text moment (holding taken.1 text (adds (TicketTake FIRST_REPO.now FIRST_BRANCH.now taken.1) lake))
-takes path text moment (Err fault) lake = refuses lake (refused fault)
+abbrev pub upload_ticketed : List ℕ → List ℕ → ℕ → Result (ℕ × ℕ) StepFault → Lake → Shown
+upload_ticketed path text moment (Ok taken) lake =
+    upload_held taken.1 path text moment (with_object taken.1 text (with_entry (TicketTake FIRST_REPO.now FIRST_BRANCH.now taken.1) lake))
+upload_ticketed path text moment (Err fault) lake = refusal lake (refused fault)
 
 -- the bytes that are held of an entry
 abbrev pub held_of : Objects → Object → Option (List ℕ)
@@ -111,23 +111,23 @@ held_of objects entry = option_and_then (get objects) (own_number entry.place)
 
 -- what is shown of the bytes that are held
 abbrev pub body : List ℕ → Option (List ℕ) → Lake → Shown
-body path (Some bytes) lake = does lake bytes
-body path None lake = refuses lake (lost path)
+body path (Some bytes) lake = success lake bytes
+body path None lake = refusal lake (lost path)
 
 -- what is shown of the entry that was found
 abbrev pub found : List ℕ → Option Object → Lake → Shown
 found path (Some entry) lake = body path (held_of lake.objects entry) lake
-found path None lake = refuses lake (no_path path)
+found path None lake = refusal lake (no_path path)
 
 -- what is shown of what was seen at a path
-abbrev pub looks : List ℕ → Result Seen StepFault → Lake → Shown
-looks path (Ok seen) lake = found path seen.found lake
-looks path (Err fault) lake = refuses lake (refused fault)
+abbrev pub cat_seen : List ℕ → Result Seen StepFault → Lake → Shown
+cat_seen path (Ok seen) lake = found path seen.found lake
+cat_seen path (Err fault) lake = refusal lake (refused fault)
 
 -- what a request comes to at a moment
 abbrev pub serve : Request → ℕ → Lake → Shown
-serve (Upload path text) moment lake = takes path text moment (ticket_reply (now lake) FIRST_REPO.now FIRST_BRANCH.now) lake
-serve (Cat path) moment lake = looks path (look_reply (now lake) FIRST_REPO.now FIRST_BRANCH.now path) lake
+serve (Upload path text) moment lake = upload_ticketed path text moment (ticket_reply (now lake) FIRST_REPO.now FIRST_BRANCH.now) lake
+serve (Cat path) moment lake = cat_seen path (look_reply (now lake) FIRST_REPO.now FIRST_BRANCH.now path) lake
 
 -- what was shown of some lines, whether each was done, the lake after them, and the moments that are left for the next requests
 pub record Served : Type 0 where
@@ -142,11 +142,11 @@ leaving moments shown = record { text = shown.text; done = shown.done; lake = sh
 
 -- what a line comes to; a request takes the next moment
 abbrev pub asked : Option Request → List ℕ → Lake → Served
-asked (Some request) moments lake = leaving (drop 1 moments) (serve request (slice_index moments 0) (begun lake))
-asked None moments lake = leaving moments (refuses lake not_built)
+asked (Some request) moments lake = leaving (drop 1 moments) (serve request (slice_index moments 0) (with_call lake))
+asked None moments lake = leaving moments (refusal lake not_built)
 
 abbrev pub turn : List ℕ → List ℕ → Lake → Served
-turn line moments lake = if is_skipped line then leaving moments (does lake []) else asked (request_of line) moments lake
+turn line moments lake = if is_skipped line then leaving moments (success lake []) else asked (request_of line) moments lake
 
 -- what was shown, and then what came after it
 abbrev pub before : List ℕ → Bool → Served → Served
@@ -154,7 +154,7 @@ before text done next = record { text = text ++ next.text; done = done && next.d
 
 -- What the lines come to, one after the other.
 abbrev pub batch : List (List ℕ) → List ℕ → Lake → Served
-batch [] moments lake = leaving moments (does lake [])
+batch [] moments lake = leaving moments (success lake [])
 batch (line ∷ lines) moments lake =
     let served = turn line moments lake in
     before served.text served.done (batch lines served.left served.lake)

@@ -42,7 +42,7 @@ impl Session {
     ghost use Rattle.lake_program.specs.Session.{lake_of};
     ghost use Rattle.lake_program.specs.Seen.{request_seen};
     ghost use Rattle.lake_program.specs.Reply.{shown};
-    ghost use Rattle.lake_program.specs.Batch.{fresh_lake, now, serve, begun, gives_up, holding, takes, guarded, stages, looks, found, held_of};
+    ghost use Rattle.lake_program.specs.Batch.{fresh_lake, now, serve, with_call, without_ticket, with_object, upload_ticketed, upload_held, upload_staged, cat_seen, found, held_of};
 
     /// A session on a fresh lake, which holds no object.
     pub fn new(alloc: Global) -> Result<Session, NoMemory>
@@ -68,7 +68,7 @@ impl Session {
     /// may stand, and its number may have been given out.
     pub fn serve(&mut self, command: Command<'_>, moment: u64) -> Result<Reply, NoMemory>
         requires { self.old.calls + 1 < 2 ^ 64 }
-        ensures reply { IfOk result (λ reply. serve (request_seen command.entry) moment (begun (lake_of self.old))
+        ensures reply { IfOk result (λ reply. serve (request_seen command.entry) moment (with_call (lake_of self.old))
             ≡ shown reply (lake_of self.new)) }
         ensures calls { self.new.calls ≡ self.old.calls + 1 }
     {
@@ -91,7 +91,7 @@ impl Session {
 
     // Takes a number for the text, and stages its entry.
     fn upload(&mut self, path: Path, text: &[u8], moment: u64) -> Result<Reply, NoMemory>
-        ensures reply { IfOk result (λ reply. takes path text.now moment (ticket_reply (now (lake_of self.old)) FIRST_REPO.now FIRST_BRANCH.now) (lake_of self.old)
+        ensures reply { IfOk result (λ reply. upload_ticketed path text.now moment (ticket_reply (now (lake_of self.old)) FIRST_REPO.now FIRST_BRANCH.now) (lake_of self.old)
             ≡ shown reply (lake_of self.new)) }
         ensures calls { self.new.calls ≡ self.old.calls }
     {
@@ -105,7 +105,7 @@ impl Session {
     // The text is held under the number that was taken, and its entry is staged.
     fn hold(&mut self, number: u64, path: Path, text: &[u8], moment: u64) -> Result<Reply, NoMemory>
         requires { HasTicket (now (lake_of self.old)) 0 number }
-        ensures reply { IfOk result (λ reply. guarded number path text.now moment (holding number text.now (lake_of self.old)) ≡ shown reply (lake_of self.new)) }
+        ensures reply { IfOk result (λ reply. upload_held number path text.now moment (with_object number text.now (lake_of self.old)) ≡ shown reply (lake_of self.new)) }
         ensures calls { self.new.calls ≡ self.old.calls }
     {
         if self.blocks.put(number, text).is_err() {
@@ -131,7 +131,7 @@ impl Session {
         moment: u64,
     ) -> Result<Reply, NoMemory>
         requires { HasTicket (now (lake_of self.old)) 0 number }
-        ensures reply { IfOk result (λ reply. stages number path text.now moment (stage_reply (now (lake_of self.old)) FIRST_REPO.now FIRST_BRANCH.now version) (lake_of self.old)
+        ensures reply { IfOk result (λ reply. upload_staged number path text.now moment (stage_reply (now (lake_of self.old)) FIRST_REPO.now FIRST_BRANCH.now version) (lake_of self.old)
             ≡ shown reply (lake_of self.new)) }
         ensures calls { self.new.calls ≡ self.old.calls }
     {
@@ -156,7 +156,7 @@ impl Session {
     // The upload of the number is given up, where the history has room for that.
     fn give_up(&mut self, number: u64) -> Result<(), NoMemory>
         requires { HasTicket (now (lake_of self.old)) 0 number }
-        ensures ok { OnOk result (lake_of self.new ≡ gives_up number (drop_reply (now (lake_of self.old))) (lake_of self.old)) }
+        ensures ok { OnOk result (lake_of self.new ≡ without_ticket number (drop_reply (now (lake_of self.old))) (lake_of self.old)) }
         ensures calls { self.new.calls ≡ self.old.calls }
     {
         let by = self.by();
@@ -168,7 +168,7 @@ impl Session {
 
     // Shows the object at the path.
     fn cat(&mut self, path: Path) -> Result<Reply, NoMemory>
-        ensures reply { IfOk result (λ reply. looks path (look_reply (now (lake_of self.old)) FIRST_REPO.now FIRST_BRANCH.now path) (lake_of self.old)
+        ensures reply { IfOk result (λ reply. cat_seen path (look_reply (now (lake_of self.old)) FIRST_REPO.now FIRST_BRANCH.now path) (lake_of self.old)
             ≡ shown reply (lake_of self.new)) }
         ensures calls { self.new.calls ≡ self.old.calls }
     {
