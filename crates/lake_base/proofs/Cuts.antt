@@ -1,6 +1,6 @@
 -- How rows are cut into ranges, range by range.
 use Rattle.std.proofs.Common.{◌≡◌, ℕ, zero, suc, ◌<◌, ◌≤◌, Bool, true, false, eqb, List, [], ◌∷◌, length, take, drop, refl, sym, ap, ◌∙◌, arith, inl, inr}
-use Rattle.std.proofs.lemmas.Bool.{cases_Bool, eqb-true}
+use Rattle.std.proofs.lemmas.Bool.{cases_Bool, eqb-true, eqb-false}
 use Rattle.std.proofs.lemmas.List.{length-drop, length-take}
 use Rattle.lake_base.specs.Entry.{Object}
 use Rattle.lake_base.specs.declared.cutting.Cut.{Cut}
@@ -26,6 +26,27 @@ longest_some cut row rows (suc n) =
     elim (cases_Bool (is_range cut (take (suc (suc n)) (row ∷ rows)))) [
       | inl fits ↦ rw fits (omega arith)
       | inr over ↦ rw over (longest_some cut row rows n)
+    ]
+
+-- it can be one range
+longest_can : (cut : Cut) (rows : List (List ℕ × Object)) (n : ℕ) → is_range cut (take (longest cut rows n) rows) ≡ true
+longest_can cut rows zero = refl
+longest_can cut rows (suc n) =
+    elim (cases_Bool (is_range cut (take (suc n) rows))) [
+      | inl fits ↦ rw fits fits
+      | inr over ↦ rw over (longest_can cut rows n)
+    ]
+
+-- no longer front can
+longest_most : (cut : Cut) (rows : List (List ℕ × Object)) (n len : ℕ) → len ≤ n → is_range cut (take len rows) ≡ true → len ≤ longest cut rows n
+longest_most cut rows zero len short fits = short
+longest_most cut rows (suc n) len short fits =
+    elim (cases_Bool (is_range cut (take (suc n) rows))) [
+      | inl all ↦ rw all short
+      | inr over ↦ rw over (elim (cases_Bool (eqb len (suc n))) [
+          | inl same ↦ let is = eqb-true len (suc n) same in absurd cc
+          | inr less ↦ longest_most cut rows n len (omega (arith, eqb-false len (suc n) less)) fits
+        ])
     ]
 
 pub first_some : (cut : Cut) (row : List ℕ × Object) (rows : List (List ℕ × Object)) → 0 < first_len cut (row ∷ rows)
@@ -88,6 +109,14 @@ first_some_of cut (row ∷ rows) lt = first_some cut row rows
 pub ranges_of : (cut : Cut) (rows : List (List ℕ × Object)) → 0 < length rows → ranges cut rows ≡ take (first_len cut rows) rows ∷ ranges cut (drop (first_len cut rows) rows)
 ranges_of cut [] lt = absurd (omega arith)
 ranges_of cut (row ∷ rows) lt = ranges_cons cut row rows
+
+pub first_can : (cut : Cut) (rows : List (List ℕ × Object)) → 0 < length rows → (0 < first_len cut rows) × (first_len cut rows ≤ length rows) × (is_range cut (take (first_len cut rows) rows) ≡ true)
+unfolding first_len
+first_can cut rows lt = (first_some_of cut rows lt, first_below cut rows, longest_can cut rows (length rows))
+
+pub first_longest : (cut : Cut) (rows : List (List ℕ × Object)) (len : ℕ) → len ≤ length rows → is_range cut (take len rows) ≡ true → len ≤ first_len cut rows
+unfolding first_len
+first_longest cut rows len = longest_most cut rows (length rows) len
 
 -- what is known of the first range and the rows after it
 pub record IsFirst (cut : Cut) (rows front rest : List (List ℕ × Object)) : Type 0 where

@@ -8,10 +8,11 @@
 //! ```
 //!
 //! With less room the rows between two break keys are cut into several ranges.
-ghost use Rattle.std.specs.Prelude.{◌≡◌, ◌-◌, ◌<◌, ◌≤◌, not, length, take, drop, nat_le};
+ghost use Rattle.std.specs.Prelude.{◌≡◌, ◌-◌, ◌<◌, ◌≤◌, ◌∷◌, [], ℕ, List, true, not, length, take, drop, nat_le};
 ghost use Rattle.std.specs.List.{list_all};
-ghost use Rattle.lake_base.specs.Cutting.{fnv1a, is_break, row_bytes, is_range, first_len};
-ghost use Rattle.lake_base.specs.Entry.{IsPlace};
+ghost use Rattle.lake_base.specs.declared.cutting.Cut.{Cut as AnyCut};
+ghost use Rattle.lake_base.specs.Cutting.{fnv1a, is_break, row_bytes, is_range, first_len, ranges};
+ghost use Rattle.lake_base.specs.Entry.{IsPlace, Object};
 ghost use Rattle.lake_base.specs.Spelling.{row_spelling, place_spelling, pairs_spelling};
 
 use crate::entry::{Entry, Place};
@@ -79,6 +80,15 @@ pub fn first_range<'a>(
     }
     rows.split_at(len)
 }
+
+/// The cut: of no rows there is no range; else the first range is the longest front that can be one, and the rest
+/// is cut likewise. (A law: it does nothing.)
+pub fn law_of_cut()
+    ensures none { (cut : AnyCut) → ranges cut [] ≡ [] }
+    ensures first { (cut : AnyCut) (rows : List (List ℕ × Object)) → 0 < length rows → ranges cut rows ≡ take (first_len cut rows) rows ∷ ranges cut (drop (first_len cut rows) rows) }
+    ensures can { (cut : AnyCut) (rows : List (List ℕ × Object)) → 0 < length rows → (0 < first_len cut rows) × (first_len cut rows ≤ length rows) × (is_range cut (take (first_len cut rows) rows) ≡ true) }
+    ensures longest { (cut : AnyCut) (rows : List (List ℕ × Object)) (len : ℕ) → len ≤ length rows → is_range cut (take len rows) ≡ true → len ≤ first_len cut rows }
+{}
 
 // Whether rows can be one range.
 fn is_range(rows: &[(Path, Entry)], cut: &Cut) -> bool
