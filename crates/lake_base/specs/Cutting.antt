@@ -54,13 +54,17 @@ ranges_within (suc n) cut (row ∷ rows) =
 unfoldable pub ranges : Cut → List (List ℕ × Object) → List (List (List ℕ × Object))
 ranges cut rows = ranges_within (length rows) cut rows
 
+-- the metarange of a tree: what is said of its ranges, in order
+abbrev pub metarange_of : Cut → Objects → List ℕ
+metarange_of cut objects = metarange_spelling (map line_of (ranges cut (entries objects)))
+
 -- the files of a tree: the metarange, and then the ranges in order
 unfoldable pub files : Cut → Objects → List (List ℕ)
-files cut objects = metarange_spelling (map line_of (ranges cut (entries objects))) ∷ map range_spelling (ranges cut (entries objects))
+files cut objects = metarange_of cut objects ∷ map range_spelling (ranges cut (entries objects))
 
 -- a tree is known by the SHA-256 of its metarange
 unfoldable pub tree_id : Cut → Objects → Digest
-tree_id cut objects = file_name (metarange_spelling (map line_of (ranges cut (entries objects))))
+tree_id cut objects = file_name (metarange_of cut objects)
 
 -- a row before the segments of the rows after it
 abbrev pub before_segments : Cut → List ℕ × Object → List (List (List ℕ × Object)) → List (List (List ℕ × Object))
