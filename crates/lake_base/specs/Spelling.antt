@@ -163,15 +163,13 @@ pub record AreInOrder (lines : List RangeLine) : Type 0 where
   pub spans : AllByRecursion IsSpan lines
   pub follow : FollowOn lines
 
--- what is said of a range, within its limits: a name of 32 bytes, at least one row and fewer than 2^32, and a
--- first path that is at most its last
+-- what is said of a range that has rows, within its limits: a name of 32 bytes, fewer than 2^32 rows, and paths
 pub record IsLine (line : RangeLine) : Type 0 where
+  pub span : IsSpan line
   pub name : IsDigest line.name.0
-  pub some : 1 ≤ line.rows
   pub wide : line.rows < 2 ^ 32
   pub first : path_fault line.first ≡ None
   pub last : path_fault line.last ≡ None
-  pub order : is_gt (byte_order line.first line.last) ≡ false
 
 -- what is said of ranges, within its limits: fewer than 2^32, one after the other
 pub record IsMetarange (lines : List RangeLine) : Type 0 where
