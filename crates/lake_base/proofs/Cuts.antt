@@ -44,9 +44,9 @@ longest_most cut rows (suc n) len short fits =
     elim (cases_Bool (is_range cut (take (suc n) rows))) [
       | inl all ↦ rw all short
       | inr over ↦ rw over (elim (cases_Bool (eqb len (suc n))) [
-          | inl same ↦ let is = eqb-true len (suc n) same in absurd cc
-          | inr less ↦ longest_most cut rows n len (omega (arith, eqb-false len (suc n) less)) fits
-        ])
+        | inl same ↦ let is = eqb-true len (suc n) same in absurd cc
+        | inr less ↦ longest_most cut rows n len (omega (arith, eqb-false len (suc n) less)) fits
+      ])
     ]
 
 pub first_some : (cut : Cut) (row : List ℕ × Object) (rows : List (List ℕ × Object)) → 0 < first_len cut (row ∷ rows)

@@ -5,7 +5,7 @@ use Rattle.std.specs.List.{AllByRecursion}
 use Rattle.std.specs.Ordering.{is_gt}
 use Rattle.std.specs.declared.cmp.Ordering.TheVariants.{Less}
 use Rattle.std.proofs.lemmas.Cmp.{nat_list_cmp_total, tied_itself}
-use Rattle.std.proofs.lemmas.List.{append-nil, length-take}
+use Rattle.std.proofs.lemmas.List.{length-take}
 use Rattle.lake_base.specs.Entry.{Object}
 use Rattle.lake_base.specs.Maps.{byte_order, HasAscendingKeys}
 use Rattle.lake_base.specs.Spelling.{path_at, line_of, IsSpan, IsBelowNext, FollowOn, AreInOrder}
@@ -13,8 +13,8 @@ use Rattle.lake_base.specs.Cutting.{first_len, ranges_within, ranges}
 use Rattle.lake_base.specs.declared.cutting.Cut.{Cut}
 use Rattle.lake_base.specs.declared.files.RangeLine.{RangeLine}
 use Rattle.lake_base.proofs.Ascending.{second, below_at, head_below, tail_ascends, ascends_drop}
-use Rattle.lake_base.proofs.Cuts.{first_some, first_below, ranges_none}
-use Rattle.lake_base.proofs.TreeFiles.{path_is, ascends_take}
+use Rattle.lake_base.proofs.Cuts.{first_some, first_below}
+use Rattle.lake_base.proofs.TreeFiles.{path_is, all_done, ascends_take}
 
 -- what holds of all holds of the one at a place
 pub all_at : {X : Type 0} (P : X → Type 0) (xs : List X) (i : ℕ) (x : X) → i < length xs → x ≡ get_or xs i x → AllByRecursion P xs → P x
@@ -110,6 +110,4 @@ in_order cut rows h = record { spans = spans_within cut (length rows) rows h; fo
 pub lines_in_order : (cut : Cut) (rows rest : List (List ℕ × Object)) (lines : List RangeLine)
     → HasAscendingKeys rows → rest ≡ [] → lines ++ map line_of (ranges cut rest) ≡ map line_of (ranges cut rows) → AreInOrder lines
 lines_in_order cut rows rest lines h none said =
-    let nothing : ranges cut rest ≡ [] = ap (ranges cut) none ∙ ranges_none cut in
-    let all_said : lines ≡ map line_of (ranges cut rows) = sym (append-nil lines) ∙ sym (ap (λ r. lines ++ map line_of r) nothing) ∙ said in
-    subst AreInOrder (sym all_said) (in_order cut rows h)
+    subst AreInOrder (sym (all_done line_of cut rows rest lines none said)) (in_order cut rows h)

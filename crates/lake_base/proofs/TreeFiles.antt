@@ -1,14 +1,13 @@
 -- What one call after another appends, and the files of a tree, range by range.
 use Rattle.std.proofs.Common.{T, ◌≡◌, ℕ, zero, suc, ◌+◌, ◌-◌, ◌<◌, List, [], ◌∷◌, ◌++◌, length, get_or, take, map, refl, sym, ap, subst, ◌∙◌, append_assoc, add-one, arith}
-use Rattle.std.specs.FinMap.{entries}
 use Rattle.std.specs.FinMap.Entries.{below_all}
 use Rattle.std.specs.List.{flat_map, AllByRecursion}
-use Rattle.std.proofs.lemmas.List.{take_more, append-nil, map-append}
+use Rattle.std.proofs.lemmas.List.{take_more, append-nil}
 use Rattle.std.proofs.lemmas.List.Concat.{flat_map-append}
 use Rattle.lake_base.specs.Digest.{sha256}
 use Rattle.lake_base.specs.Entry.{Object}
 use Rattle.lake_base.specs.Spelling.{path_at, range_spelling, line_of, metarange_spelling, file_name}
-use Rattle.lake_base.specs.Cutting.{ranges, files, tree_id}
+use Rattle.lake_base.specs.Cutting.{ranges, metarange_of, files, tree_id}
 use Rattle.lake_base.specs.KeyMap.{Objects}
 use Rattle.lake_base.specs.Maps.{byte_order, HasAscendingKeys}
 use Rattle.lake_base.specs.declared.cutting.Cut.{Cut}
@@ -60,30 +59,29 @@ line_is rows line name len low high = λ i. record { name = record { 0 = name i 
 
 -- ---- files
 
--- one more file, and one range less
-pub made_more : {A B C : Type 0} (f : A → C) (g : B → C) (done : List B) (y : B) (x : A) (xs rest : List A) (all : List C)
-    → map g done ++ map f xs ≡ all → xs ≡ x ∷ rest → g y ≡ f x → map g (done ++ y ∷ []) ++ map f rest ≡ all
-made_more f g done y x xs rest all made is same =
-    ap (λ l. l ++ map f rest) (map-append g done (y ∷ [])) ∙ append_assoc (map g done) (g y ∷ []) (map f rest)
-    ∙ ap (λ c. map g done ++ c ∷ map f rest) same ∙ sym (ap (λ l. map g done ++ map f l) is) ∙ made
+-- one more file or line, and one range less
+pub one_more : {A B : Type 0} (h : A → B) (old : List B) (new : B) (x : A) (xs rest : List A) (all : List B)
+    → old ++ map h xs ≡ all → xs ≡ x ∷ rest → new ≡ h x → (old ++ new ∷ []) ++ map h rest ≡ all
+one_more h old new x xs rest all so_far is same =
+    append_assoc old (new ∷ []) (map h rest) ∙ ap (λ y. old ++ y ∷ map h rest) same ∙ sym (ap (λ l. old ++ map h l) is) ∙ so_far
 
--- one more line, and one range less
-pub said_more : {A B : Type 0} (h : A → B) (old : List B) (line : B) (x : A) (xs rest : List A) (all : List B)
-    → old ++ map h xs ≡ all → xs ≡ x ∷ rest → line ≡ h x → (old ++ line ∷ []) ++ map h rest ≡ all
-said_more h old line x xs rest all said is same =
-    append_assoc old (line ∷ []) (map h rest) ∙ ap (λ y. old ++ y ∷ map h rest) same ∙ sym (ap (λ l. old ++ map h l) is) ∙ said
+-- all of them, once no row is left
+pub all_done : {B : Type 0} (h : List (List ℕ × Object) → B) (cut : Cut) (rows rest : List (List ℕ × Object)) (done : List B)
+    → rest ≡ [] → done ++ map h (ranges cut rest) ≡ map h (ranges cut rows) → done ≡ map h (ranges cut rows)
+all_done h cut rows rest done none so_far =
+    let nothing : ranges cut rest ≡ [] = ap (ranges cut) none ∙ ranges_none cut in
+    sym (append-nil done) ∙ sym (ap (λ r. done ++ map h r) nothing) ∙ so_far
 
 -- the files, once no row is left
-pub tree_is : {B : Type 0} (g : B → List ℕ) (cut : Cut) (rows rest : List (List ℕ × Object)) (done : List B) (y : B) (lines : List RangeLine)
-    → rest ≡ [] → map g done ++ map range_spelling (ranges cut rest) ≡ map range_spelling (ranges cut rows)
+pub tree_is : (cut : Cut) (rows rest : List (List ℕ × Object)) (done : List (List ℕ)) (metarange : List ℕ) (lines : List RangeLine)
+    → rest ≡ [] → done ++ map range_spelling (ranges cut rest) ≡ map range_spelling (ranges cut rows)
     → lines ++ map line_of (ranges cut rest) ≡ map line_of (ranges cut rows)
-    → g y ≡ metarange_spelling lines
-    → g y ∷ map g done ≡ metarange_spelling (map line_of (ranges cut rows)) ∷ map range_spelling (ranges cut rows)
-tree_is g cut rows rest done y lines none made said head =
-    let nothing : ranges cut rest ≡ [] = ap (ranges cut) none ∙ ranges_none cut in
-    let all_made : map g done ≡ map range_spelling (ranges cut rows) = sym (append-nil (map g done)) ∙ sym (ap (λ r. map g done ++ map range_spelling r) nothing) ∙ made in
-    let all_said : lines ≡ map line_of (ranges cut rows) = sym (append-nil lines) ∙ sym (ap (λ r. lines ++ map line_of r) nothing) ∙ said in
-    ap (λ l. g y ∷ l) all_made ∙ ap (λ h. h ∷ map range_spelling (ranges cut rows)) (head ∙ ap metarange_spelling all_said)
+    → metarange ≡ metarange_spelling lines
+    → metarange ∷ done ≡ metarange_spelling (map line_of (ranges cut rows)) ∷ map range_spelling (ranges cut rows)
+tree_is cut rows rest done metarange lines none made said head =
+    let all_made = all_done range_spelling cut rows rest done none made in
+    let all_said = all_done line_of cut rows rest lines none said in
+    ap (λ l. metarange ∷ l) all_made ∙ ap (λ h. h ∷ map range_spelling (ranges cut rows)) (head ∙ ap metarange_spelling all_said)
 
 -- ---- paths that ascend
 
@@ -105,15 +103,15 @@ pub named : (digest : Digest) (bytes : List ℕ) → digest.0 ≡ sha256 bytes �
 named digest bytes is = λ i. record { 0 = is i }
 
 -- the files of a tree aren't none
-pub some_file : {B : Type 0} (g : B → List ℕ) (cut : Cut) (objects : Objects) (all : List B) → map g all ≡ files cut objects → 0 < length all
+pub some_file : (cut : Cut) (objects : Objects) (all : List (List ℕ)) → all ≡ files cut objects → 0 < length all
 unfolding files
-some_file g cut objects [] is = absurd cc
-some_file g cut objects (file ∷ all) is = omega arith
+some_file cut objects [] is = absurd cc
+some_file cut objects (file ∷ all) is = omega arith
 
 -- the first of them is the metarange, by which the tree is known
-pub first_file : {B : Type 0} (g : B → List ℕ) (cut : Cut) (objects : Objects) (all : List B) (d : B) → map g all ≡ files cut objects → file_name (g (get_or all 0 d)) ≡ tree_id cut objects
+pub first_file : (cut : Cut) (objects : Objects) (all : List (List ℕ)) (d : List ℕ) → all ≡ files cut objects → file_name (get_or all 0 d) ≡ tree_id cut objects
 unfolding files tree_id
-first_file g cut objects [] d is = absurd cc
-first_file g cut objects (file ∷ all) d is =
-    let head : g file ≡ metarange_spelling (map line_of (ranges cut (entries objects))) = cc in
+first_file cut objects [] d is = absurd cc
+first_file cut objects (file ∷ all) d is =
+    let head : file ≡ metarange_of cut objects = cc in
     ap file_name head

@@ -8,7 +8,7 @@
 //!
 //! Numbers have their high byte first. A file is known by its SHA-256. The metarange of an empty map is
 //! `0100000000`.
-ghost use Rattle.std.specs.Prelude.{◌≡◌, ◌++◌, ◌<◌, ◌^◌, ◌∷◌, length, map, IfOk, OnOk};
+ghost use Rattle.std.specs.Prelude.{◌≡◌, ◌++◌, ◌<◌, ◌^◌, ◌∷◌, length, IfOk, OnOk};
 ghost use Rattle.std.specs.FinMap.{len};
 ghost use Rattle.std.specs.List.{flat_map, AllByRecursion};
 ghost use Rattle.std.specs.Int.{w16, w32, to_be_bytes};
@@ -25,6 +25,7 @@ use crate::fields::{put_metadata, put_text};
 use crate::key_map::KeyMap;
 use crate::names::Path;
 use crate::outside::NoMemory;
+use crate::sequence::Sequence;
 use crate::spelling::put_entry;
 use std::alloc::Global;
 
@@ -172,9 +173,9 @@ pub fn commit_bytes(alloc: Global, commit: &CommitRecord) -> Result<Vec<u8>, NoM
 
 /// The files of the tree of a map: the metarange, and then the ranges in order. A map of 2^32 paths or more,
 /// whose counts a file may not hold, is answered as want of memory.
-pub fn files(alloc: Global, objects: &KeyMap, cut: &Cut) -> Result<Vec<Vec<u8>>, NoMemory>
+pub fn files(alloc: Global, objects: &KeyMap, cut: &Cut) -> Result<Vec<Sequence<u8>>, NoMemory>
     requires { 0 < cut.now.modulus }
-    ensures spelled { IfOk result (λ all. map (λ file. file.items) all.items ≡ files cut.now objects.now) }
+    ensures spelled { IfOk result (λ all. all.items ≡ files cut.now objects.now) }
     ensures few { OnOk result (len objects.now < 2 ^ 32) }
 {
     let mut rest = objects.as_slice();
@@ -187,11 +188,11 @@ pub fn files(alloc: Global, objects: &KeyMap, cut: &Cut) -> Result<Vec<Vec<u8>>,
         let (range, left) = first_range(rest, cut);
         let bytes = range_bytes(alloc, range)?;
         lines.push(line_of(alloc, range, Digest::of(bytes.as_slice()))?)?;
-        ranges.push(bytes)?;
+        ranges.push(Sequence::of(bytes))?;
         rest = left;
     }
     let metarange = metarange_bytes(alloc, lines.as_slice())?;
-    ranges.insert(0, metarange)?;
+    ranges.insert(0, Sequence::of(metarange))?;
     Ok(ranges)
 }
 

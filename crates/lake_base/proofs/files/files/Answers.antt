@@ -7,7 +7,7 @@ use Rattle.lake_base.specs.Spelling.{range_spelling, line_of, metarange_spelling
 use Rattle.lake_base.proofs.Ascending.{ascends_drop}
 use Rattle.lake_base.proofs.Cuts.{IsFirst, first_of, ranges_few, some_left, none_left}
 use Rattle.lake_base.proofs.Lines.{lines_in_order}
-use Rattle.lake_base.proofs.TreeFiles.{made_more, said_more, tree_is, ascends_take}
+use Rattle.lake_base.proofs.TreeFiles.{one_more, tree_is, ascends_take}
 use Rattle.lake_base.proofs.files.files.Goals as goal
 
 pub range_bytes-requires-clause-some : goal.range_bytes-requires-clause-some
@@ -38,7 +38,7 @@ loop-rest-init c =
       few = omega arith;
       ascend = subst HasAscendingKeys (sym c.as_slice-rest.ensures) (entries_sorted c.args.objects.now);
       counted = omega arith;
-      made = ap (λ done. map (λ file. file.items) done ++ map range_spelling (ranges cut rows)) c.new-ranges.ensures.items;
+      made = ap (λ done. done ++ map range_spelling (ranges cut rows)) c.new-ranges.ensures.items;
       said = ap (λ lines. lines ++ map line_of (ranges cut rows)) c.new-lines.ensures.items;
     }
 
@@ -56,11 +56,11 @@ loop-rest-preserved c =
       few = omega arith;
       ascend = subst HasAscendingKeys (sym c.first_range.ensures.rest) (ascends_drop (first_len cut rest) rest c.loop-rest.invariant.ascend);
       counted = omega arith;
-      made = ap (λ done. map (λ file. file.items) done ++ map range_spelling (ranges cut left)) c.in_ok-push-2.ensures.items
-          ∙ made_more range_spelling (λ file. file.items) c.loop-rest.ranges.items c.in_ok-bytes.bytes front (ranges cut rest) (ranges cut left) (map range_spelling (ranges cut c.as_slice-rest.result.now))
-          c.loop-rest.invariant.made first.cons c.in_ok-bytes.ensures.spelled;
+      made = ap (λ done. done ++ map range_spelling (ranges cut left)) c.in_ok-push-2.ensures.items
+          ∙ one_more range_spelling c.loop-rest.ranges.items c.of-in-loop-rest.result front (ranges cut rest) (ranges cut left) (map range_spelling (ranges cut c.as_slice-rest.result.now))
+          c.loop-rest.invariant.made first.cons (c.of-in-loop-rest.ensures ∙ c.in_ok-bytes.ensures.spelled);
       said = ap (λ lines. lines ++ map line_of (ranges cut left)) c.in_ok-push.ensures.items
-          ∙ said_more line_of c.loop-rest.lines.items c.in_ok-line_of.field-0 front (ranges cut rest) (ranges cut left) (map line_of (ranges cut c.as_slice-rest.result.now))
+          ∙ one_more line_of c.loop-rest.lines.items c.in_ok-line_of.field-0 front (ranges cut rest) (ranges cut left) (map line_of (ranges cut c.as_slice-rest.result.now))
           c.loop-rest.invariant.said first.cons c.in_ok-line_of.ensures;
     }
 
@@ -88,9 +88,9 @@ unfolding files
 returns-clause-spelled c =
     let cut = c.args.cut.now in
     let rows = c.as_slice-rest.result.now in
-    ap (map (λ file. file.items)) c.in_ok-insert.ensures.items
-    ∙ tree_is (λ file. file.items) cut rows c.loop-rest.rest.now c.loop-rest.ranges.items c.in_ok-metarange.metarange c.loop-rest.lines.items
+    c.in_ok-insert.ensures.items
+    ∙ tree_is cut rows c.loop-rest.rest.now c.loop-rest.ranges.items c.of-2.result c.loop-rest.lines.items
     (none_left c.loop-rest.rest.now c.is_empty.result c.is_empty.ensures c.loop-rest-test.false)
     c.loop-rest.invariant.made c.loop-rest.invariant.said
-    (c.in_ok-metarange.ensures.spelled ∙ ap metarange_spelling c.as_slice-2.ensures.value)
+    (c.of-2.ensures ∙ c.in_ok-metarange.ensures.spelled ∙ ap metarange_spelling c.as_slice-2.ensures.value)
     ∙ ap (λ r. metarange_spelling (map line_of (ranges cut r)) ∷ map range_spelling (ranges cut r)) c.as_slice-rest.ensures

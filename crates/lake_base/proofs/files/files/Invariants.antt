@@ -10,7 +10,7 @@ invariant-loop-rest l = record {
   few : length l.rest ≤ length l.initial.rest;
   ascend : HasAscendingKeys l.rest;
   counted : length l.lines.items + length (ranges l.cut l.rest) ≡ length (ranges l.cut l.initial.rest);
-  made : map (λ file. file.items) l.ranges.items ++ map range_spelling (ranges l.cut l.rest) ≡ map range_spelling (ranges l.cut l.initial.rest);
+  made : l.ranges.items ++ map range_spelling (ranges l.cut l.rest) ≡ map range_spelling (ranges l.cut l.initial.rest);
   said : l.lines.items ++ map line_of (ranges l.cut l.rest) ≡ map line_of (ranges l.cut l.initial.rest);
 }
 
