@@ -15,6 +15,19 @@ const RANGE: [u8; 39] = [
     0, 0, 0, 0, 0, 0, 0, 0, 0, 0,
 ];
 
+// The range of that object under `a` and `z`.
+const RANGE_OF_TWO: [u8; 73] = [
+    1, 0, 0, 0, 2, 0, 1, 97, 1, 0, 6, 115, 51, 58, 47, 47, 120, 0, 0, 0, 0, 0, 0, 0, 0, 0, 5, 0, 0,
+    0, 0, 0, 0, 0, 0, 0, 0, 0, 0, 0, 1, 122, 1, 0, 6, 115, 51, 58, 47, 47, 120, 0, 0, 0, 0, 0, 0,
+    0, 0, 0, 5, 0, 0, 0, 0, 0, 0, 0, 0, 0, 0, 0, 0,
+];
+
+// The metarange of that range: its SHA-256 (by Python's hashlib), two rows, `a` and `z`.
+const METARANGE_OF_TWO: [u8; 47] = [
+    1, 0, 0, 0, 1, 20, 54, 219, 115, 178, 4, 251, 223, 70, 192, 245, 5, 24, 107, 97, 141, 22, 58,
+    223, 252, 255, 35, 30, 1, 162, 33, 89, 78, 220, 251, 140, 98, 0, 0, 0, 2, 0, 1, 97, 0, 1, 122,
+];
+
 // A commit of generation 1 and date 0 without parents, by `me`, that says `hi`.
 const COMMIT: [u8; 63] = [
     1, 17, 17, 17, 17, 17, 17, 17, 17, 17, 17, 17, 17, 17, 17, 17, 17, 17, 17, 17, 17, 17, 17, 17,
@@ -136,6 +149,18 @@ fn files_are_spelled_to_the_byte(rt: HostRuntime) -> Result<(), Fail> {
     assert!(rt; range.as_slice() == RANGE.as_slice());
     assert_eq!(rt; metarange.as_slice().len(), 47);
     assert!(rt; metarange.as_slice()[5..].starts_with(&Digest::of(&RANGE).0));
+    Ok(())
+}
+
+#[test]
+fn a_metarange_is_spelled_to_the_byte(rt: HostRuntime) -> Result<(), Fail> {
+    let alloc = rt.alloc();
+    let two = files(alloc, &map_of(alloc, &[b"a", b"z"])?, &USUAL_CUT)?;
+    let [metarange, range] = two.as_slice() else {
+        return Ok(assert!(rt; false));
+    };
+    assert!(rt; metarange.as_slice() == METARANGE_OF_TWO.as_slice());
+    assert!(rt; range.as_slice() == RANGE_OF_TWO.as_slice());
     Ok(())
 }
 
