@@ -2,6 +2,7 @@ mod addresses;
 mod copies;
 mod cuts;
 mod decisions;
+mod entries;
 mod graphs;
 mod merges;
 
