@@ -5,6 +5,7 @@ mod decisions;
 mod entries;
 mod graphs;
 mod merges;
+mod strangers;
 
 use super::*;
 use crate::merging::same_entry;

@@ -5,15 +5,15 @@ use super::*;
 use crate::ancestry::{back, base, commit_of, is_ancestor, is_graph, is_on_walk};
 use crate::keeping::{cutoff, days_of, is_kept};
 
-const ROOT: CommitId = Digest([1; 32]);
+pub(super) const ROOT: CommitId = Digest([1; 32]);
 
-const X: CommitId = Digest([2; 32]);
+pub(super) const X: CommitId = Digest([2; 32]);
 
-const Y: CommitId = Digest([3; 32]);
+pub(super) const Y: CommitId = Digest([3; 32]);
 
 const M: CommitId = Digest([4; 32]);
 
-const N: CommitId = Digest([5; 32]);
+pub(super) const N: CommitId = Digest([5; 32]);
 
 pub(super) fn commit(
     alloc: Global,
@@ -35,7 +35,7 @@ pub(super) fn commit(
     })
 }
 
-fn add(
+pub(super) fn add(
     alloc: Global,
     commits: &mut Vec<(CommitId, CommitRecord)>,
     id: CommitId,
@@ -108,7 +108,7 @@ fn a_generation_that_is_not_due_makes_no_graph(rt: HostRuntime) -> Result<(), Fa
 }
 
 // A first commit of date 0, X upon it of date 1,000,000, and Y upon that of date 1,100,000.
-fn chain(alloc: Global) -> Result<Vec<(CommitId, CommitRecord)>, Fail> {
+pub(super) fn chain(alloc: Global) -> Result<Vec<(CommitId, CommitRecord)>, Fail> {
     let mut commits = Vec::new(alloc);
     add(alloc, &mut commits, ROOT, &[], (1, 0))?;
     add(alloc, &mut commits, X, &[ROOT], (2, 1000000))?;
@@ -116,7 +116,7 @@ fn chain(alloc: Global) -> Result<Vec<(CommitId, CommitRecord)>, Fail> {
     Ok(commits)
 }
 
-fn one_day(alloc: Global) -> Result<Rules, Fail> {
+pub(super) fn one_day(alloc: Global) -> Result<Rules, Fail> {
     let mut branches = Vec::new(alloc);
     let branch = RefName::read(alloc, b"dev")?;
     branches.push(BranchDays { branch, days: 3 })?;
