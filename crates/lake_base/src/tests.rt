@@ -5,6 +5,7 @@ mod decisions;
 mod entries;
 mod graphs;
 mod merges;
+mod pages;
 mod strangers;
 
 use super::*;
