@@ -6,6 +6,7 @@ mod entries;
 mod graphs;
 mod merges;
 mod pages;
+mod retention;
 mod strangers;
 
 use super::*;
