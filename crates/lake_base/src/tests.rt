@@ -4,6 +4,7 @@ mod cuts;
 mod decisions;
 mod entries;
 mod graphs;
+mod lookups;
 mod merges;
 mod pages;
 mod retention;
