@@ -6,6 +6,7 @@ mod entries;
 mod graphs;
 mod lookups;
 mod merges;
+mod naming;
 mod pages;
 mod retention;
 mod strangers;
