@@ -1,4 +1,5 @@
 mod addresses;
+mod commits;
 mod copies;
 mod cuts;
 mod decisions;
