@@ -139,7 +139,11 @@ fn hooks_are_copied(rt: HostRuntime) -> Result<(), Fail> {
     let Note::Hooks(copy) = note.copy(alloc)? else {
         return Ok(assert!(rt; false));
     };
-    assert!(rt; matches!(copy.rules.as_slice(), [rule] if matches!(&rule.deny, Deny::MaxSize(9))));
+    let [rule] = copy.rules.as_slice() else {
+        return Ok(assert!(rt; false));
+    };
+    assert!(rt; matches!(&rule.deny, Deny::MaxSize(9)));
+    assert!(rt; rule.branch.as_slice() == b"*".as_slice());
     Ok(())
 }
 
@@ -167,6 +171,7 @@ fn remarks_are_copied(rt: HostRuntime) -> Result<(), Fail> {
     };
     let about = about.copy(alloc)?;
     assert_eq!(rt; about.date, 5);
+    assert!(rt; about.committer.as_slice() == b"me".as_slice());
     assert!(rt; about.message.as_slice() == b"hi".as_slice());
     Ok(())
 }
