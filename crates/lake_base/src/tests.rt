@@ -11,6 +11,7 @@ mod naming;
 mod pages;
 mod retention;
 mod strangers;
+mod whole_merges;
 
 use super::*;
 use crate::merging::same_entry;
