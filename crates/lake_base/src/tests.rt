@@ -10,7 +10,7 @@ mod merges;
 mod naming;
 mod pages;
 mod retention;
-mod strangers;
+mod unrelated;
 mod whole_merges;
 
 use super::*;
