@@ -1,16 +1,18 @@
 -- From the empty name on, all items are listed where no key is empty.
-use Rattle.std.proofs.Common.{◌≡◌, ℕ, Bool, true, false, cond, Option, Some, None, option_map, List, [], ◌∷◌, ◌++◌, length, map, drop, refl, sym, ap, ◌∙◌, nat_eq}
+use Rattle.std.proofs.Common.{◌≡◌, ℕ, Bool, true, false, cond, Option, Some, None, option_map, List, [], ◌∷◌, ◌++◌, length, map, drop, refl, sym, ap, ◌∙◌, nat_eq, subst}
 use Rattle.std.specs.List.{starts_with, Contains}
-use Rattle.std.specs.Ordering.{is_lt}
+use Rattle.std.specs.Ordering.{is_lt, eq_by_cmp}
 use Rattle.std.specs.declared.cmp.Ordering.TheVariants.{Less}
-use Rattle.std.specs.FinMap.{get, entries}
+use Rattle.std.specs.FinMap.{find, entries, get-entries}
 use Rattle.lake_base.specs.Entry.{Object}
-use Rattle.lake_base.specs.KeyMap.{Objects}
+use Rattle.lake_base.specs.KeyMap.{Objects, HasPathKeys}
 use Rattle.lake_base.specs.Maps.{byte_order}
 use Rattle.lake_base.specs.Listing.{through, item_from, item_of, item_name, above, items_of, items_above, IsItem}
 use Rattle.lake_base.specs.declared.listing.Item.{Item}
 use Rattle.lake_base.specs.declared.listing.PageQuery.{PageQuery}
-use Rattle.lake_base.proofs.Items.{listed_is, has_first, has_later}
+use Rattle.lake_base.specs.Names.{path_fault}
+use Rattle.lake_base.proofs.Ascending.{same_key}
+use Rattle.lake_base.proofs.Items.{tied, listed_is, has_first, has_later}
 use Rattle.lake_base.proofs.Paging.{Items, Named, named}
 
 -- each text but the empty one is above the empty one
@@ -50,12 +52,27 @@ above_empty (x ∷ s) n some =
     let first : byte_order [] x.0 ≡ Less = ap (byte_order []) n.0 ∙ empty_least (item_name x.1) (some x.1 (has_first x s x.1 refl)) in
     ap (λ o. cond (is_lt o) (x ∷ above [] s) (above [] s)) first ∙ ap (λ l. x ∷ l) (above_empty s n.1 (λ i has. some i (has_later x s i has)))
 
-pub all_above_empty : (query : PageQuery) (objects : Objects) → query.after ≡ [] → get objects [] ≡ None → items_above query objects ≡ map (λ i. i.1) (items_of query (entries objects))
-all_above_empty query objects empty none =
+-- a key that stands there is a path
+find_path : (es : List (List ℕ × Object)) (key : List ℕ) (entry : Object) → HasPathKeys es → find byte_order key es ≡ Some entry → path_fault key ≡ None
+find_path [] key entry all f = cc
+find_path (e ∷ es) key entry all f = by (eq_by_cmp byte_order key e.0) refl f (find_path es key entry all.1)
+  where
+    by : (b : Bool) → eq_by_cmp byte_order key e.0 ≡ b → cond b (Some e.1) (find byte_order key es) ≡ Some entry
+        → (find byte_order key es ≡ Some entry → path_fault key ≡ None) → path_fault key ≡ None
+    by true t f rest = subst (λ k. path_fault k ≡ None) (sym (same_key key e.0 (tied _ t))) all.0
+    by false t f rest = rest f
+
+-- which isn't empty
+path_some : (key : List ℕ) → path_fault key ≡ None → key ≡ [] → ⊥
+path_some [] path empty = cc
+path_some (x ∷ xs) path empty = cc
+
+pub all_above_empty : (query : PageQuery) (objects : Objects) → query.after ≡ [] → HasPathKeys (entries objects) → items_above query objects ≡ map (λ i. i.1) (items_of query (entries objects))
+all_above_empty query objects empty paths =
     ap (λ after. map (λ i. i.1) (above after (items_of query (entries objects)))) empty
     ∙ ap (map (λ i. i.1)) (above_empty (items_of query (entries objects)) (named query.prefix query.delimiter (entries objects)) (λ i has. by i ((listed_is query objects i).0 has)))
   where
     by : (i : Item) → IsItem query objects i → item_name i ≡ [] → ⊥
     by i is e = name_some query.prefix query.delimiter is.key is.entry
-        (λ no_key. let there = is.stands in let gone = none ∙ refl in let same = ap (get objects) no_key in cc)
+        (path_some is.key (find_path (entries objects) is.key is.entry paths (sym (get-entries objects is.key) ∙ is.stands)))
         (sym (ap item_name is.is) ∙ e)

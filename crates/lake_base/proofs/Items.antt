@@ -23,7 +23,7 @@ use Rattle.lake_base.proofs.Paging.{Items, Named, named}
 
 -- ---- what is found in lists whose keys ascend
 
-tied : (o : Ordering) → is_eq o ≡ true → o ≡ Equal
+pub tied : (o : Ordering) → is_eq o ≡ true → o ≡ Equal
 tied Less e = cc
 tied Equal e = refl
 tied Greater e = cc

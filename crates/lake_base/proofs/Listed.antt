@@ -13,7 +13,7 @@ use Rattle.std.specs.FinMap.Entries.{below_all, by_order}
 use Rattle.lake_base.specs.Entry.{Object}
 use Rattle.lake_base.specs.Maps.{byte_order, HasAscendingKeys}
 use Rattle.lake_base.specs.Listing.{common_prefix, item_from, item_of, item_name, listed, above, items_left}
-use Rattle.lake_base.specs.PageSteps.{is_before, IsRest, Visits, IsFull, IsPast, IsFirst}
+use Rattle.lake_base.specs.PageSteps.{is_before, IsRest, Visits, IsFull, IsPast, BeginsWith}
 use Rattle.lake_base.specs.declared.listing.Item.{Item}
 use Rattle.lake_base.specs.declared.listing.Item.TheVariants as item
 use Rattle.lake_base.specs.declared.listing.PageQuery.{PageQuery}
@@ -183,7 +183,7 @@ none_left query (e ∷ es) rest x got never =
     let none = items_not query.prefix query.delimiter e es never_e ∙ none_under query.prefix query.delimiter e.0 es rest.from.0 never_e (head_below e es rest.ascend) in
     ap (λ l. map (λ i. i.1) (above query.after l)) none
 
-pub first_is : (query : PageQuery) (es : List (List ℕ × Object)) (x : List ℕ × Object) → slice_get es 0 ≡ Some x → starts_with nat_eq x.0 query.prefix ≡ true → IsFirst es query.prefix
+pub first_is : (query : PageQuery) (es : List (List ℕ × Object)) (x : List ℕ × Object) → slice_get es 0 ≡ Some x → starts_with nat_eq x.0 query.prefix ≡ true → BeginsWith es query.prefix
 first_is query [] x got begins = absurd cc
 first_is query (e ∷ es) x got begins = let same : e ≡ x = cc in ap (λ y. starts_with nat_eq y.0 query.prefix) same ∙ begins
 
@@ -385,7 +385,7 @@ begins_down text a b le lt begins =
     let r = between text (drop (length text) b) a le (subst (λ l. is_gt (byte_order a l) ≡ false) parts (below_not_above a b lt)) in
     ap (λ l. starts_with nat_eq l text) r.1 ∙ begins_from text r.0
 
-pub all_from : (es : List (List ℕ × Object)) (text : List ℕ) → HasAscendingKeys es → IsFirst es text → AllByRecursion (λ e. is_gt (byte_order text e.0) ≡ false) es
+pub all_from : (es : List (List ℕ × Object)) (text : List ℕ) → HasAscendingKeys es → BeginsWith es text → AllByRecursion (λ e. is_gt (byte_order text e.0) ≡ false) es
 all_from [] text h begins = absurd begins
 all_from (e ∷ es) text h begins =
     let parts : e.0 ≡ text ++ drop (length text) e.0 = begins_parts e.0 text begins in
@@ -396,7 +396,7 @@ all_from (e ∷ es) text h begins =
     weaker [] all = tt
     weaker (f ∷ fs) all = (below_not_above text f.0 all.0, weaker fs all.1)
 
-pub past_from : (es : List (List ℕ × Object)) (text : List ℕ) (at : ℕ) → IsFirst es text → at ≤ length es → AllWithin (λ e. starts_with nat_eq e.0 text ≡ true) es 0 at → AllWithin (λ e. starts_with nat_eq e.0 text ≡ false) es at (length es) → IsPast es text (drop at es)
+pub past_from : (es : List (List ℕ × Object)) (text : List ℕ) (at : ℕ) → BeginsWith es text → at ≤ length es → AllWithin (λ e. starts_with nat_eq e.0 text ≡ true) es 0 at → AllWithin (λ e. starts_with nat_eq e.0 text ≡ false) es at (length es) → IsPast es text (drop at es)
 past_from [] text at begins le front back = absurd begins
 past_from (e ∷ es) text zero begins le front back = absurd (cc (sym begins ∙ back 0 e (omega arith) (omega arith)))
 past_from (e ∷ es) text (suc at) begins le front back = record {
@@ -422,53 +422,53 @@ page_full items all left amount whole full some = (
 
 -- ---- what the code sees: a slice and its first entry
 
-pub first_some : (es : List (List ℕ × Object)) (text : List ℕ) → IsFirst es text → 0 < length es
+pub first_some : (es : List (List ℕ × Object)) (text : List ℕ) → BeginsWith es text → 0 < length es
 first_some [] text h = absurd h
 first_some (e ∷ es) text h = omega arith
 
-cons_of : (es : List (List ℕ × Object)) (e : List ℕ × Object) (text : List ℕ) → IsFirst es text → e ≡ get_or es 0 e → es ≡ e ∷ drop 1 es
+cons_of : (es : List (List ℕ × Object)) (e : List ℕ × Object) (text : List ℕ) → BeginsWith es text → e ≡ get_or es 0 e → es ≡ e ∷ drop 1 es
 cons_of [] e text h is = absurd h
 cons_of (f ∷ es) e text h is = ap (λ g. g ∷ es) (sym is)
 
-first_under : (es : List (List ℕ × Object)) (e : List ℕ × Object) (text : List ℕ) → IsFirst es text → e ≡ get_or es 0 e → starts_with nat_eq e.0 text ≡ true
+first_under : (es : List (List ℕ × Object)) (e : List ℕ × Object) (text : List ℕ) → BeginsWith es text → e ≡ get_or es 0 e → starts_with nat_eq e.0 text ≡ true
 first_under [] e text h is = absurd h
 first_under (f ∷ es) e text h is = ap (λ g. starts_with nat_eq g.0 text) is ∙ h
 
-pub begins_first : (es : List (List ℕ × Object)) (e : List ℕ × Object) (prefix text : List ℕ) → IsFirst es prefix → e ≡ get_or es 0 e → starts_with nat_eq e.0 text ≡ true → IsFirst es text
+pub begins_first : (es : List (List ℕ × Object)) (e : List ℕ × Object) (prefix text : List ℕ) → BeginsWith es prefix → e ≡ get_or es 0 e → starts_with nat_eq e.0 text ≡ true → BeginsWith es text
 begins_first [] e prefix text h is begins = absurd h
 begins_first (f ∷ es) e prefix text h is begins = ap (λ g. starts_with nat_eq g.0 text) (sym is) ∙ begins
 
-pub under_first : (es : List (List ℕ × Object)) (e : List ℕ × Object) (text : List ℕ) → IsFirst es text → e ≡ get_or es 0 e → starts_with nat_eq e.0 text ≡ true
+pub under_first : (es : List (List ℕ × Object)) (e : List ℕ × Object) (text : List ℕ) → BeginsWith es text → e ≡ get_or es 0 e → starts_with nat_eq e.0 text ≡ true
 under_first = first_under
 
-pub visit_object : (query : PageQuery) (old : List Item) (es : List (List ℕ × Object)) (e : List ℕ × Object) → IsRest query es → IsFirst es query.prefix → e ≡ get_or es 0 e → common_prefix query.prefix query.delimiter e.0 ≡ None → length old < query.amount
+pub visit_object : (query : PageQuery) (old : List Item) (es : List (List ℕ × Object)) (e : List ℕ × Object) → IsRest query es → BeginsWith es query.prefix → e ≡ get_or es 0 e → common_prefix query.prefix query.delimiter e.0 ≡ None → length old < query.amount
     → Visits query old (old ++ item.Object e.0 e.1 ∷ []) es (drop 1 es)
 visit_object query old es e rest h is none room =
     let cons = cons_of es e query.prefix h is in
     subst (λ l. Visits query old (old ++ item.Object e.0 e.1 ∷ []) l (drop 1 es)) (sym cons) (object_visit query old e (drop 1 es) (subst (IsRest query) cons rest) (first_under es e query.prefix h is) none room)
 
-pub full_object : (query : PageQuery) (old : List Item) (es : List (List ℕ × Object)) (e : List ℕ × Object) → IsRest query es → IsFirst es query.prefix → e ≡ get_or es 0 e → common_prefix query.prefix query.delimiter e.0 ≡ None → length old ≤ query.amount → query.amount ≤ length old
+pub full_object : (query : PageQuery) (old : List Item) (es : List (List ℕ × Object)) (e : List ℕ × Object) → IsRest query es → BeginsWith es query.prefix → e ≡ get_or es 0 e → common_prefix query.prefix query.delimiter e.0 ≡ None → length old ≤ query.amount → query.amount ≤ length old
     → IsFull query old es
 full_object query old es e rest h is none le ge =
     let cons = cons_of es e query.prefix h is in
     subst (IsFull query old) (sym cons) (object_full query old e (drop 1 es) (subst (IsRest query) cons rest) (first_under es e query.prefix h is) none le ge)
 
-parts_of : (query : PageQuery) (es left : List (List ℕ × Object)) (e : List ℕ × Object) (text : List ℕ) → IsRest query es → IsFirst es query.prefix → e ≡ get_or es 0 e → common_prefix query.prefix query.delimiter e.0 ≡ Some text → IsPast es text left → RunParts query e (drop 1 es) left text
+parts_of : (query : PageQuery) (es left : List (List ℕ × Object)) (e : List ℕ × Object) (text : List ℕ) → IsRest query es → BeginsWith es query.prefix → e ≡ get_or es 0 e → common_prefix query.prefix query.delimiter e.0 ≡ Some text → IsPast es text left → RunParts query e (drop 1 es) left text
 parts_of query es left e text rest h is common past =
     let cons = cons_of es e query.prefix h is in
     past_parts query e (drop 1 es) left text (subst (IsRest query) cons rest) (first_under es e query.prefix h is) common (subst (λ l. IsPast l text left) cons past)
 
-pub visit_prefix : (query : PageQuery) (old : List Item) (es left : List (List ℕ × Object)) (e : List ℕ × Object) (text : List ℕ) → IsRest query es → IsFirst es query.prefix → e ≡ get_or es 0 e → common_prefix query.prefix query.delimiter e.0 ≡ Some text → IsPast es text left
+pub visit_prefix : (query : PageQuery) (old : List Item) (es left : List (List ℕ × Object)) (e : List ℕ × Object) (text : List ℕ) → IsRest query es → BeginsWith es query.prefix → e ≡ get_or es 0 e → common_prefix query.prefix query.delimiter e.0 ≡ Some text → IsPast es text left
     → is_lt (byte_order query.after text) ≡ true → length old < query.amount → Visits query old (old ++ item.Prefix text ∷ []) es left
 visit_prefix query old es left e text rest h is common past lt room =
     subst (λ l. Visits query old (old ++ item.Prefix text ∷ []) l left) (sym (cons_of es e query.prefix h is)) (prefix_visit query old e (drop 1 es) left text (parts_of query es left e text rest h is common past) lt room)
 
-pub full_prefix : (query : PageQuery) (old : List Item) (es left : List (List ℕ × Object)) (e : List ℕ × Object) (text : List ℕ) → IsRest query es → IsFirst es query.prefix → e ≡ get_or es 0 e → common_prefix query.prefix query.delimiter e.0 ≡ Some text → IsPast es text left
+pub full_prefix : (query : PageQuery) (old : List Item) (es left : List (List ℕ × Object)) (e : List ℕ × Object) (text : List ℕ) → IsRest query es → BeginsWith es query.prefix → e ≡ get_or es 0 e → common_prefix query.prefix query.delimiter e.0 ≡ Some text → IsPast es text left
     → is_lt (byte_order query.after text) ≡ true → length old ≤ query.amount → query.amount ≤ length old → IsFull query old es
 full_prefix query old es left e text rest h is common past lt le ge =
     subst (IsFull query old) (sym (cons_of es e query.prefix h is)) (prefix_full query old e (drop 1 es) left text (parts_of query es left e text rest h is common past) lt le ge)
 
-pub skip_prefix : (query : PageQuery) (old : List Item) (es left : List (List ℕ × Object)) (e : List ℕ × Object) (text : List ℕ) → IsRest query es → IsFirst es query.prefix → e ≡ get_or es 0 e → common_prefix query.prefix query.delimiter e.0 ≡ Some text → IsPast es text left
+pub skip_prefix : (query : PageQuery) (old : List Item) (es left : List (List ℕ × Object)) (e : List ℕ × Object) (text : List ℕ) → IsRest query es → BeginsWith es query.prefix → e ≡ get_or es 0 e → common_prefix query.prefix query.delimiter e.0 ≡ Some text → IsPast es text left
     → is_lt (byte_order query.after text) ≡ false → length old ≤ query.amount → Visits query old old es left
 skip_prefix query old es left e text rest h is common past never room =
     subst (λ l. Visits query old old l left) (sym (cons_of es e query.prefix h is)) (prefix_skip query old e (drop 1 es) left text (parts_of query es left e text rest h is common past) never room)

@@ -16,7 +16,7 @@ pub record Script : Type 0 where
 abbrev pub moment_after : List ℕ → ℕ → ℕ
 moment_after moments given = slice_index moments (min given (length moments - 1))
 
--- its first readings, so many
+-- the first readings of a clock that gives moments in turn, so many
 abbrev pub first_moments : List ℕ → ℕ → List ℕ
 first_moments moments zero = []
 first_moments moments (suc given) = first_moments moments given ++ moment_after moments given ∷ []

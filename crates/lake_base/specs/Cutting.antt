@@ -11,12 +11,12 @@ use Rattle.lake_base.specs.Spelling.{row_spelling, range_spelling, metarange_spe
 use Rattle.lake_base.specs.declared.cutting.Cut.{Cut}
 use Rattle.lake_base.specs.declared.digest.Digest.{Digest}
 
--- FNV-1a of 64 bits: each byte is taken in by XOR, and then the sum multiplied by the prime, modulo 2^64.
+-- FNV-1a from a sum on: each byte is taken in by XOR, and then the sum multiplied by the prime, modulo 2^64.
 abbrev pub fnv_from : ℕ → List ℕ → ℕ
 fnv_from sum [] = sum
 fnv_from sum (byte ∷ bytes) = fnv_from ((bit_xor sum byte * 1099511628211) % 2 ^ 64) bytes
 
--- from the offset of 64 bits
+-- FNV-1a of 64 bits, from its offset
 unfoldable pub fnv1a : List ℕ → ℕ
 fnv1a bytes = fnv_from 14695981039346656037 bytes
 
@@ -28,7 +28,7 @@ is_break cut path = (fnv1a path % cut.modulus) == 0
 abbrev pub row_bytes : List (List ℕ × Object) → ℕ
 row_bytes rows = sum_by (λ row. length (row_spelling row)) rows
 
--- rows that can be one range: no break key before the last, and one row alone, or not above `max_bytes`
+-- rows that can be one range: no break key before the last, and at most one row, or not above `max_bytes`
 abbrev pub is_range : Cut → List (List ℕ × Object) → Bool
 is_range cut rows =
     list_all (λ row. not (is_break cut row.0)) (take (length rows - 1) rows)
@@ -39,7 +39,7 @@ abbrev pub longest : Cut → List (List ℕ × Object) → ℕ → ℕ
 longest cut rows zero = 0
 longest cut rows (suc n) = if is_range cut (take (suc n) rows) then suc n else longest cut rows n
 
--- of any length
+-- the length of the longest front that can be one range
 unfoldable pub first_len : Cut → List (List ℕ × Object) → ℕ
 first_len cut rows = longest cut rows (length rows)
 

@@ -1,8 +1,10 @@
 -- Key maps, and what changes make of them.
-use Rattle.std.specs.Prelude.{ℕ, Option, Some, None, List, [], ◌∷◌}
+use Rattle.std.specs.Prelude.{◌≡◌, ℕ, Option, Some, None, List, [], ◌∷◌}
+use Rattle.std.specs.List.{AllByRecursion}
 use Rattle.std.specs.FinMap.{entries, insert, remove}
 use Rattle.lake_base.specs.Entry.{Object}
 use Rattle.lake_base.specs.Maps.{ByteMap}
+use Rattle.lake_base.specs.Names.{path_fault}
 use Rattle.lake_base.specs.declared.entry.Change.{Change}
 use Rattle.lake_base.specs.declared.entry.Change.TheVariants.{Put, Delete}
 
@@ -13,6 +15,10 @@ Objects = ByteMap Object
 -- a finite map from path to change
 abbrev pub Edits : Type 0
 Edits = ByteMap Change
+
+-- each key is a path
+abbrev pub HasPathKeys : List (List ℕ × Object) → Type 0
+HasPathKeys rows = AllByRecursion (λ row. path_fault row.0 ≡ None) rows
 
 -- the map after one change at a path
 abbrev pub changed : List ℕ → Change → Objects → Objects

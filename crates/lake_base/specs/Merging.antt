@@ -28,7 +28,8 @@ side_of base source dest =
     else if same_value source dest then Source
     else Neither
 
--- the value of a side; where a path conflicts, the source's or the destination's as the strategy says
+-- the value of a side; where a path conflicts, the source's or the destination's as the strategy says, and the
+-- destination's where it refuses
 abbrev pub taken : Strategy → Option Object → Option Object → Side → Option Object
 taken strategy source dest Source = source
 taken strategy source dest Destination = dest

@@ -45,7 +45,7 @@ bad_byte first others bytes =
 abbrev pub begins_repo : ℕ → Bool
 begins_repo byte = is_lower byte || is_digit byte
 
--- or a hyphen
+-- a lower-case letter, a digit or a hyphen
 abbrev pub continues_repo : ℕ → Bool
 continues_repo byte = begins_repo byte || (byte == 45)
 
@@ -61,7 +61,7 @@ repo_fault bytes =
 abbrev pub begins_ref : ℕ → Bool
 begins_ref byte = is_lower byte || is_upper byte || is_digit byte || (byte == 95)
 
--- or a hyphen
+-- a letter, a digit, an underscore or a hyphen
 abbrev pub continues_ref : ℕ → Bool
 continues_ref byte = begins_ref byte || (byte == 45)
 

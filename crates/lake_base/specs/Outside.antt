@@ -19,7 +19,8 @@ pub record HasCause {T E : Type 0} (before now : ℕ) (result : Result T E) : Ty
   pub later : before ≤ now
   pub failed : OnErr result (Rose before now)
 
--- The first n bytes of those left were read into the front of the room. No byte means the end, where there is room.
+-- The first n of the bytes left were read into the front of the room, which had other bytes before and has these
+-- after; those behind them are left now. No byte means the end, where there is room.
 pub record Reads (bytes : List ℕ) (left : Option (List ℕ)) (before after : List ℕ) (n : ℕ) : Type 0 where
   pub rest : left ≡ Some (drop n bytes)
   pub enough : n ≤ length bytes

@@ -15,7 +15,7 @@ pub record IsRest (query : PageQuery) (es : List (List ℕ × Object)) : Type 0 
   pub later : AllByRecursion (λ e. byte_order query.after e.0 ≡ Less) es
   pub from : AllByRecursion (λ e. is_gt (byte_order query.prefix e.0) ≡ false) es
 
--- one more entry was visited: its item, if it is above `after`, is appended
+-- at least one entry was passed, and no item was lost or doubled: what is listed and what is left stay the same
 pub record Visits (query : PageQuery) (old new : List Item) (es left : List (List ℕ × Object)) : Type 0 where
   pub same : new ++ items_left query left ≡ old ++ items_left query es
   pub room : length new ≤ query.amount
@@ -32,9 +32,9 @@ abbrev pub is_before : PageQuery → List ℕ → Bool
 is_before query path = not (is_lt (byte_order query.after path)) || is_lt (byte_order path query.prefix)
 
 -- the first entry begins with a name
-abbrev pub IsFirst : List (List ℕ × Object) → List ℕ → Type 0
-IsFirst [] name = ⊥
-IsFirst (e ∷ es) name = starts_with nat_eq e.0 name ≡ true
+abbrev pub BeginsWith : List (List ℕ × Object) → List ℕ → Type 0
+BeginsWith [] name = ⊥
+BeginsWith (e ∷ es) name = starts_with nat_eq e.0 name ≡ true
 
 -- what is left after a run of entries that begin with a name
 pub record IsPast (es : List (List ℕ × Object)) (name : List ℕ) (left : List (List ℕ × Object)) : Type 0 where

@@ -109,7 +109,7 @@ pub record IsOwn (number : ℕ) (digest : List ℕ) : Type 0 where
   pub sum : IsDigest digest
 
 -- an address outside and its checksum, within their limits, both UTF-8
-pub record IsExternal (at checksum : List ℕ) : Type 0 where
+pub record IsSpelledOutside (at checksum : List ℕ) : Type 0 where
   pub limits : IsOutside at checksum
   pub address : is_utf8 at ≡ true
   pub sum : is_utf8 checksum ≡ true
@@ -117,7 +117,7 @@ pub record IsExternal (at checksum : List ℕ) : Type 0 where
 -- a place within its limits, all of it UTF-8
 abbrev pub IsSpelledPlace : Place → Type 0
 IsSpelledPlace (Own number digest) = IsOwn number digest.0
-IsSpelledPlace (External at checksum) = IsExternal at checksum
+IsSpelledPlace (External at checksum) = IsSpelledOutside at checksum
 
 -- metadata within its limits, all of it UTF-8
 pub record IsMetadata (pairs : List (List ℕ × List ℕ)) : Type 0 where
@@ -163,7 +163,8 @@ pub record AreInOrder (lines : List RangeLine) : Type 0 where
   pub spans : AllByRecursion IsSpan lines
   pub follow : FollowOn lines
 
--- what is said of a range that has rows, within its limits: a name of 32 bytes, fewer than 2^32 rows, and paths
+-- what is said of a range, within its limits: at least one row and fewer than 2^32, a first path that is at most
+-- its last, both of them paths, and a name of 32 bytes
 pub record IsLine (line : RangeLine) : Type 0 where
   pub span : IsSpan line
   pub name : IsDigest line.name.0

@@ -68,7 +68,7 @@ pub fn base(commits: &[(CommitId, CommitRecord)], a: &CommitId, b: &CommitId) ->
 }
 
 /// So many first parents back from a commit, as `~n`. None where the walk ends before, and where the id is of
-/// no commit. It takes no memory.
+/// no commit. In a graph, as `is_graph` tests it, what is answered is a commit. It takes no memory.
 pub fn back(commits: &[(CommitId, CommitRecord)], steps: u64, id: &CommitId) -> Option<CommitId>
     ensures { result ≡ back (graph_of commits.now) steps id.now }
 {

@@ -69,7 +69,7 @@ pub enum Strategy {
     DestWins,
 }
 
-/// Which staged changes a reset drops.
+/// Which changes of a branch a reset drops, staged and sealed.
 #[derive(Debug, Drop)]
 pub enum ResetWhat {
     All,

@@ -3,7 +3,7 @@
 //! A reader takes a field from the front of the bytes, and answers its value and the bytes after it. Each
 //! fault comes exactly where it is the first from the left.
 ghost use Rattle.std.specs.Prelude.{◌≡◌, ◌++◌, ◌<◌, ◌^◌, length, None, OnOk, option_copied};
-ghost use Rattle.std.specs.Int.{w16, w32, w64};
+ghost use Rattle.std.specs.Int.{w16, w64};
 ghost use Rattle.lake_base.specs.Spelling.{short_text, pairs_spelling, IsMetadata};
 ghost use Rattle.lake_base.specs.Reading.{Gives, number_at, bytes_at, utf8_at, text_at, is_next, last_key, pair_at, pairs_at, metadata_at};
 ghost use Rattle.lake_base.specs.declared.fields.EntryFault.TheVariants.{NoMemory as fault_no_memory};
@@ -47,8 +47,8 @@ impl<T: Drop> From<AllocFailed<T>> for EntryFault {
     }
 }
 
-/// A number of two bytes.
-pub fn u16_at(bytes: &[u8]) -> Result<(u16, &[u8]), EntryFault>
+// A number of two bytes.
+pub(crate) fn u16_at(bytes: &[u8]) -> Result<(u16, &[u8]), EntryFault>
     ensures { Gives (λ x. (x.0, x.1.now)) result (number_at w16 bytes.now) }
 {
     if bytes.len() < 2 {
@@ -58,20 +58,8 @@ pub fn u16_at(bytes: &[u8]) -> Result<(u16, &[u8]), EntryFault>
     Ok((u16::from_be_bytes([front[0], front[1]]), rest))
 }
 
-/// A number of four bytes.
-pub fn u32_at(bytes: &[u8]) -> Result<(u32, &[u8]), EntryFault>
-    ensures { Gives (λ x. (x.0, x.1.now)) result (number_at w32 bytes.now) }
-{
-    if bytes.len() < 4 {
-        return Err(EntryFault::Short);
-    }
-    let (front, rest) = bytes.split_at(4);
-    let number = u32::from_be_bytes([front[0], front[1], front[2], front[3]]);
-    Ok((number, rest))
-}
-
-/// A number of eight bytes.
-pub fn u64_at(bytes: &[u8]) -> Result<(u64, &[u8]), EntryFault>
+// A number of eight bytes.
+pub(crate) fn u64_at(bytes: &[u8]) -> Result<(u64, &[u8]), EntryFault>
     ensures { Gives (λ x. (x.0, x.1.now)) result (number_at w64 bytes.now) }
 {
     if bytes.len() < 8 {
@@ -84,8 +72,8 @@ pub fn u64_at(bytes: &[u8]) -> Result<(u64, &[u8]), EntryFault>
     Ok((number, rest))
 }
 
-/// A digest of 32 bytes.
-pub fn digest_at(bytes: &[u8]) -> Result<(Digest, &[u8]), EntryFault>
+// A digest of 32 bytes.
+pub(crate) fn digest_at(bytes: &[u8]) -> Result<(Digest, &[u8]), EntryFault>
     ensures { Gives (λ x. (x.0.0, x.1.now)) result (bytes_at 32 bytes.now) }
 {
     if bytes.len() < 32 {
@@ -112,9 +100,9 @@ fn utf8_at(alloc: Global, bytes: &[u8], len: usize) -> Result<(Text, &[u8]), Ent
     }
 }
 
-/// A text behind two bytes of length, of `least` to `most` bytes.
+// A text behind two bytes of length, of `least` to `most` bytes.
 #[tactic(auto, unfolding(crate::specs::Reading::text_at))]
-pub fn text_at(
+pub(crate) fn text_at(
     alloc: Global,
     bytes: &[u8],
     least: u16,
@@ -184,9 +172,9 @@ fn pairs_at(
     Ok((pairs, rest))
 }
 
-/// Metadata behind two bytes of count.
+// Metadata behind two bytes of count.
 #[tactic(auto, unfolding(crate::specs::Reading::metadata_at))]
-pub fn metadata_at(alloc: Global, bytes: &[u8]) -> Result<(Pairs, &[u8]), EntryFault>
+pub(crate) fn metadata_at(alloc: Global, bytes: &[u8]) -> Result<(Pairs, &[u8]), EntryFault>
     ensures { Gives (λ x. (x.0, x.1.now)) result (metadata_at bytes.now) }
 {
     let (count, rest) = u16_at(bytes)?;

@@ -8,11 +8,11 @@
 //!
 //! Numbers have their high byte first. A file is known by its SHA-256. The metarange of an empty map is
 //! `0100000000`.
-ghost use Rattle.std.specs.Prelude.{◌≡◌, ◌++◌, ◌<◌, ◌^◌, ◌∷◌, length, IfOk, OnOk};
-ghost use Rattle.std.specs.FinMap.{len};
+ghost use Rattle.std.specs.Prelude.{◌≡◌, ◌++◌, ◌<◌, ◌^◌, ◌∷◌, length, map, IfOk, OnOk};
+ghost use Rattle.std.specs.FinMap.{len, entries};
 ghost use Rattle.std.specs.List.{flat_map, AllByRecursion};
 ghost use Rattle.std.specs.Int.{w16, w32, to_be_bytes};
-ghost use Rattle.lake_base.specs.Cutting.{files, tree_id};
+ghost use Rattle.lake_base.specs.Cutting.{ranges, files, tree_id};
 ghost use Rattle.lake_base.specs.Digest.{sha256};
 ghost use Rattle.lake_base.specs.Maps.{HasAscendingKeys};
 ghost use Rattle.lake_base.specs.Spelling.{row_spelling, range_spelling, line_of, line_spelling, metarange_spelling, commit_spelling, commit_id, IsDigest, IsRow, IsRange, IsSpan, AreInOrder, IsLine, IsMetarange, IsSpelledCommit};
@@ -171,11 +171,14 @@ pub fn commit_bytes(alloc: Global, commit: &CommitRecord) -> Result<Vec<u8>, NoM
     Ok(out)
 }
 
-/// The files of the tree of a map: the metarange, and then the ranges in order. A map of 2^32 paths or more,
+/// The files of the tree of a map: the metarange, and then the ranges in order, all within the limits of their
+/// formats. A map of 2^32 paths or more,
 /// whose counts a file may not hold, is answered as want of memory.
 pub fn files(alloc: Global, objects: &KeyMap, cut: &Cut) -> Result<Vec<Sequence<u8>>, NoMemory>
     requires { 0 < cut.now.modulus }
     ensures spelled { IfOk result (λ all. all.items ≡ files cut.now objects.now) }
+    ensures limits { OnOk result (IsMetarange (map line_of (ranges cut.now (entries objects.now)))) }
+    ensures each { OnOk result (AllByRecursion IsRange (ranges cut.now (entries objects.now))) }
     ensures few { OnOk result (len objects.now < 2 ^ 32) }
 {
     let mut rest = objects.as_slice();

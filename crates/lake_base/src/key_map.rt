@@ -3,7 +3,7 @@ ghost use Rattle.std.specs.Prelude.{◌≡◌, ◌++◌, ℕ, List, OnOk, IfOk, 
 ghost use Rattle.std.specs.Option.{option_or};
 ghost use Rattle.std.specs.FinMap as map;
 ghost use Rattle.lake_base.specs.Maps.{HasAscendingKeys, IsParted};
-ghost use Rattle.lake_base.specs.KeyMap.{Objects, Edits, apply, over, said, left_by};
+ghost use Rattle.lake_base.specs.KeyMap.{Objects, Edits, HasPathKeys, apply, over, said, left_by};
 ghost use Rattle.lake_base.specs.declared.entry.Change.{Change as AnyChange};
 
 use crate::changes::Changes;
@@ -26,6 +26,7 @@ impl Model for KeyMap {
     ghost use Rattle.std.specs.Coded.{coded_list, coded_ℕ};
     ghost use Rattle.lake_base.specs.Maps.{ByteMap, HasAscendingKeys};
     ghost use Rattle.lake_base.specs.Entry.{Object};
+    ghost use Rattle.lake_base.specs.KeyMap.{HasPathKeys};
     ghost use Rattle.lake_base.specs.contracts.entry.Entry.{the_row};
 
     ghost Value = { ByteMap Object };
@@ -34,7 +35,7 @@ impl Model for KeyMap {
 
     ghost view = { λ a. map.from_sorted a.entries.items };
 
-    ghost invariant = { λ a. HasAscendingKeys a.entries.items };
+    ghost invariant = { λ a. HasAscendingKeys a.entries.items × HasPathKeys a.entries.items };
 }
 
 impl KeyMap {
@@ -63,7 +64,8 @@ impl KeyMap {
 
     /// The entries in order of path. It takes no memory.
     pub fn as_slice(&self) -> &[(Path, Entry)]
-        ensures { result.now ≡ map.entries self.now }
+        ensures entries { result.now ≡ map.entries self.now }
+        ensures paths { HasPathKeys result.now }
     {
         self.entries.as_slice()
     }
@@ -88,7 +90,7 @@ impl KeyMap {
 
 /// What changes say at their paths and a map elsewhere, and what new changes say at theirs and old ones
 /// elsewhere. Changes over changes are applied as one after the other. One change over others is that change
-/// set in them. (A law: it does nothing.)
+/// set in them. Of three, it is one which two are put together first. (A law: it does nothing.)
 pub fn laws_of_changes()
     ensures applied { (changes : Edits) (old : Objects) (path : List ℕ)
         → map.get (apply changes old) path ≡ said (map.get changes path) (map.get old path) }
@@ -110,6 +112,7 @@ fn merged(
     requires entries { HasAscendingKeys entries.now }
     requires changes { HasAscendingKeys changes.now }
     ensures ascend { IfOk result (λ merged. HasAscendingKeys merged.items) }
+    ensures paths { IfOk result (λ merged. HasPathKeys merged.items) }
     ensures applied { IfOk result (λ merged. map.from_sorted merged.items ≡ apply (map.from_sorted changes.now) (map.from_sorted entries.now)) }
 {
     let mut merged = Vec::new(alloc);
@@ -144,7 +147,8 @@ fn append(
     merged: &mut Vec<(Path, Entry)>,
     entries: &[(Path, Entry)],
 ) -> Result<(), NoMemory>
-    ensures { OnOk result (merged.new.items ≡ merged.old.items ++ entries.now) }
+    ensures appended { OnOk result (merged.new.items ≡ merged.old.items ++ entries.now) }
+    ensures paths { OnOk result (HasPathKeys entries.now) }
 {
     for (path, entry) in entries {
         merged.push((path.copy(alloc)?, entry.copy(alloc)?))?;
@@ -159,7 +163,8 @@ fn add(
     path: &Path,
     change: &Change,
 ) -> Result<(), NoMemory>
-    ensures { OnOk result (merged.new.items ≡ merged.old.items ++ left_by path.now change.now) }
+    ensures appended { OnOk result (merged.new.items ≡ merged.old.items ++ left_by path.now change.now) }
+    ensures paths { OnOk result (HasPathKeys (left_by path.now change.now)) }
 {
     if let Change::Put(entry) = change {
         merged.push((path.copy(alloc)?, entry.copy(alloc)?))?;

@@ -6,16 +6,16 @@
 ghost use Rattle.std.specs.Prelude.{◌≡◌, ◌<◌, ◌≤◌, ◌↔◌, ℕ, true, [], length, map, take, Some, None, IfOk, IfSome, MatchOption, option_copied, nat_eq, nat_lt};
 ghost use Rattle.std.specs.Bool.{MatchBool};
 ghost use Rattle.std.specs.List.{starts_with, Contains};
-ghost use Rattle.std.specs.FinMap.{entries, get};
+ghost use Rattle.std.specs.FinMap.{entries};
 ghost use Rattle.std.specs.Ordering.{is_lt};
 ghost use Rattle.std.specs.declared.cmp.Ordering.TheVariants.{Less};
 ghost use Rattle.std.specs.Str.{is_utf8};
 ghost use Rattle.lake_base.specs.Maps.{HasAscendingKeys, IsAscending, byte_order};
-ghost use Rattle.lake_base.specs.KeyMap.{Objects};
+ghost use Rattle.lake_base.specs.KeyMap.{Objects, HasPathKeys};
 ghost use Rattle.lake_base.specs.declared.listing.PageQuery.{PageQuery as Query};
 ghost use Rattle.lake_base.specs.declared.listing.Item.{Item as Line};
 ghost use Rattle.lake_base.specs.Listing.{through, common_prefix, IsItem, item_name, items_of, items_left, items_above, page_items, has_more, pages};
-ghost use Rattle.lake_base.specs.PageSteps.{is_before, IsRest, IsFull, IsPast, IsFirst, Visits};
+ghost use Rattle.lake_base.specs.PageSteps.{is_before, IsRest, IsFull, IsPast, BeginsWith, Visits};
 
 use crate::entry::Entry;
 use crate::key_map::KeyMap;
@@ -130,8 +130,8 @@ pub fn law_of_items()
     // Pages give those of them whose name is above `after`.
     ensures above { (query : Query) (objects : Objects) (item : Line)
         → Contains (items_above query objects) item ↔ (IsItem query objects item × (byte_order query.after (item_name item) ≡ Less)) }
-    // Those are all items where `after` is empty, since no path is.
-    ensures all { (query : Query) (objects : Objects) → query.after ≡ [] → get objects [] ≡ None
+    // Those are all items where `after` is empty and each key is a path, as in each `KeyMap`.
+    ensures all { (query : Query) (objects : Objects) → query.after ≡ [] → HasPathKeys (entries objects)
         → items_above query objects ≡ map (λ i. i.1) (items_of query (entries objects)) }
 {}
 
@@ -188,7 +188,7 @@ fn is_before(path: &Path, query: &PageQuery) -> bool
 // Whether the first entry begins with the prefix. If it doesn't, no later one does.
 fn is_listed(rest: &[(Path, Entry)], query: &PageQuery) -> bool
     requires { IsRest query.now rest.now }
-    ensures { MatchBool result (IsFirst rest.now query.now.prefix) (items_left query.now rest.now ≡ []) }
+    ensures { MatchBool result (BeginsWith rest.now query.now.prefix) (items_left query.now rest.now ≡ []) }
 {
     match rest.first() {
         Some(entry) => entry.0.as_slice().starts_with(query.prefix.as_slice()),
@@ -205,7 +205,7 @@ fn visit<'a>(
 ) -> Result<Option<&'a [(Path, Entry)]>, NoMemory>
     requires room { length items.old.items ≤ query.now.amount }
     requires rest { IsRest query.now rest.now }
-    requires under { IsFirst rest.now query.now.prefix }
+    requires under { BeginsWith rest.now query.now.prefix }
     ensures { IfOk result (λ left. MatchOption left
         ((items.new.items ≡ items.old.items) × IsFull query.now items.old.items rest.now)
         (λ left. Visits query.now items.old.items items.new.items rest.now left.now)) }
@@ -265,7 +265,7 @@ fn through(bytes: &[u8], delimiter: &[u8]) -> Option<usize>
 // The entries after those that begin with a name that the first begins with.
 fn past<'a>(rest: &'a [(Path, Entry)], name: &[u8]) -> &'a [(Path, Entry)]
     requires ascend { HasAscendingKeys rest.now }
-    requires first { IsFirst rest.now name.now }
+    requires first { BeginsWith rest.now name.now }
     ensures { IsPast rest.now name.now result.now }
 {
     let at = rest.partition_point(|entry| entry.0.as_slice().starts_with(name));

@@ -64,6 +64,8 @@ pub fn base_map(alloc: Global, found: Option<&KeyMap>) -> Result<KeyMap, NoMemor
 /// | 1 | nothing | 1 | Source |
 /// | 1 | 2 | 2 | Source |
 /// | 1 | 2 | 3 | Neither |
+///
+/// It takes no memory.
 pub fn side_of(base: Option<&Entry>, source: Option<&Entry>, dest: Option<&Entry>) -> Side
     ensures { result ≡ side_of (option_copied base.entry) (option_copied source.entry) (option_copied dest.entry) }
 {

@@ -165,7 +165,8 @@ impl Path {
 
     /// An equal one.
     pub fn copy(&self, alloc: Global) -> Result<Path, NoMemory>
-        ensures { IfOk result (λ copy. copy ≡ self.now) }
+        ensures equal { IfOk result (λ copy. copy ≡ self.now) }
+        ensures valid { path_fault self.now ≡ None }
     {
         let bytes = Vec::from_slice(alloc, self.bytes.as_slice())?;
         Ok(Path { bytes })
@@ -222,7 +223,8 @@ impl RepoName {
 
     /// An equal one.
     pub fn copy(&self, alloc: Global) -> Result<RepoName, NoMemory>
-        ensures { IfOk result (λ copy. copy ≡ self.now) }
+        ensures equal { IfOk result (λ copy. copy ≡ self.now) }
+        ensures valid { repo_fault self.now ≡ None }
     {
         let bytes = Vec::from_slice(alloc, self.bytes.as_slice())?;
         Ok(RepoName { bytes })
@@ -283,7 +285,8 @@ impl RefName {
 
     /// An equal one.
     pub fn copy(&self, alloc: Global) -> Result<RefName, NoMemory>
-        ensures { IfOk result (λ copy. copy ≡ self.now) }
+        ensures equal { IfOk result (λ copy. copy ≡ self.now) }
+        ensures valid { ref_fault self.now ≡ None }
     {
         let bytes = Vec::from_slice(alloc, self.bytes.as_slice())?;
         Ok(RefName { bytes })

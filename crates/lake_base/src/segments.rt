@@ -23,7 +23,7 @@ use crate::merging::same_entry;
 use crate::names::Path;
 
 /// The first segment of these rows, and the rows after it: up to and with the first break key, or all of them
-/// where there is none. It takes no memory.
+/// where there is none. There is at least one row. It takes no memory.
 pub fn first_segment<'a>(
     rows: &'a [(Path, Entry)],
     cut: &Cut,

@@ -119,9 +119,9 @@ fn place_at(alloc: Global, bytes: &[u8]) -> Result<(Place, &[u8]), EntryFault>
     }
 }
 
-/// The entry at the front of the bytes, and the bytes after it.
+// The entry at the front of the bytes, and the bytes after it.
 #[tactic(auto, unfolding(crate::specs::Reading::entry_at))]
-pub fn entry_at(alloc: Global, bytes: &[u8]) -> Result<(Entry, &[u8]), EntryFault>
+pub(crate) fn entry_at(alloc: Global, bytes: &[u8]) -> Result<(Entry, &[u8]), EntryFault>
     ensures { Gives (λ x. (x.0, x.1.now)) result (entry_at bytes.now) }
 {
     let (place, rest) = place_at(alloc, bytes)?;

@@ -89,7 +89,7 @@ upload_staged number path text moment (Ok at) lake =
     success (with_entry (Stage FIRST_REPO.now FIRST_BRANCH.now path (Put (entry_of number text moment))) lake) (uploaded path text)
 upload_staged number path text moment (Err fault) lake = refusal (without_ticket number (drop_reply (now lake)) lake) (refused fault)
 
--- an upload that read the branch's version, by which its entry is staged
+-- an upload that read the branch's version, by which its entry is staged, or was refused it
 abbrev pub upload_versioned : ℕ → List ℕ → List ℕ → ℕ → Result Versions StepFault → Lake → Shown
 upload_versioned number path text moment (Ok versions) lake =
     upload_staged number path text moment (stage_reply (now lake) FIRST_REPO.now FIRST_BRANCH.now versions.version) lake
@@ -99,7 +99,7 @@ upload_versioned number path text moment (Err fault) lake = refusal (without_tic
 abbrev pub upload_held : ℕ → List ℕ → List ℕ → ℕ → Lake → Shown
 upload_held number path text moment lake = upload_versioned number path text moment (versions_reply (now lake) FIRST_REPO.now FIRST_BRANCH.now) lake
 
--- an upload that was given a number, which then holds the text
+-- an upload that was given a number, which then holds the text, or was refused one
 abbrev pub upload_ticketed : List ℕ → List ℕ → ℕ → Result (ℕ × ℕ) StepFault → Lake → Shown
 upload_ticketed path text moment (Ok taken) lake =
     upload_held taken.1 path text moment (with_object taken.1 text (with_entry (TicketTake FIRST_REPO.now FIRST_BRANCH.now taken.1) lake))
@@ -140,11 +140,12 @@ pub record Served : Type 0 where
 abbrev pub leaving : List ℕ → Shown → Served
 leaving moments shown = record { text = shown.text; done = shown.done; lake = shown.lake; left = moments }
 
--- what a line comes to; a request takes the next moment
+-- what a line comes to that isn't passed over; a request takes the next moment
 abbrev pub asked : Option Request → List ℕ → Lake → Served
 asked (Some request) moments lake = leaving (drop 1 moments) (serve request (slice_index moments 0) (with_call lake))
 asked None moments lake = leaving moments (refusal lake not_built)
 
+-- what a line comes to
 abbrev pub turn : List ℕ → List ℕ → Lake → Served
 turn line moments lake = if is_skipped line then leaving moments (success lake []) else asked (request_of line) moments lake
 

@@ -1,13 +1,14 @@
 use Rattle.std.proofs.Common.{◌∷◌, ◌++◌, length, map, ap, sym, subst, ◌∙◌, arith}
 use Rattle.std.proofs.lemmas.List.{length_push}
 use Rattle.std.specs.FinMap.{len-entries, entries_sorted}
+use Rattle.std.specs.List.{AllByRecursion}
 use Rattle.lake_base.specs.Cutting.{files, ranges, first_len}
 use Rattle.lake_base.specs.Maps.{HasAscendingKeys}
-use Rattle.lake_base.specs.Spelling.{range_spelling, line_of, metarange_spelling, AreInOrder}
+use Rattle.lake_base.specs.Spelling.{range_spelling, line_of, metarange_spelling, AreInOrder, IsRange, IsMetarange}
 use Rattle.lake_base.proofs.Ascending.{ascends_drop}
-use Rattle.lake_base.proofs.Cuts.{IsFirst, first_of, ranges_few, some_left, none_left}
+use Rattle.lake_base.proofs.Cuts.{IsFirst, first_of, ranges_none, ranges_few, some_left, none_left}
 use Rattle.lake_base.proofs.Lines.{lines_in_order}
-use Rattle.lake_base.proofs.TreeFiles.{one_more, tree_is, ascends_take}
+use Rattle.lake_base.proofs.TreeFiles.{one_more, all_done, tree_is, ascends_take}
 use Rattle.lake_base.proofs.files.files.Goals as goal
 
 pub range_bytes-requires-clause-some : goal.range_bytes-requires-clause-some
@@ -36,8 +37,9 @@ loop-rest-init c =
     let none = ap length c.new-lines.ensures.items in
     record {
       few = omega arith;
-      ascend = subst HasAscendingKeys (sym c.as_slice-rest.ensures) (entries_sorted c.args.objects.now);
+      ascend = subst HasAscendingKeys (sym c.as_slice-rest.ensures.entries) (entries_sorted c.args.objects.now);
       counted = omega arith;
+      each = λ all. all;
       made = ap (λ done. done ++ map range_spelling (ranges cut rows)) c.new-ranges.ensures.items;
       said = ap (λ lines. lines ++ map line_of (ranges cut rows)) c.new-lines.ensures.items;
     }
@@ -56,6 +58,7 @@ loop-rest-preserved c =
       few = omega arith;
       ascend = subst HasAscendingKeys (sym c.first_range.ensures.rest) (ascends_drop (first_len cut rest) rest c.loop-rest.invariant.ascend);
       counted = omega arith;
+      each = λ after. c.loop-rest.invariant.each (subst (AllByRecursion IsRange) (sym first.cons) (c.in_ok-bytes.ensures.limits, after));
       made = ap (λ done. done ++ map range_spelling (ranges cut left)) c.in_ok-push-2.ensures.items
           ∙ one_more range_spelling c.loop-rest.ranges.items c.of-in-loop-rest.result front (ranges cut rest) (ranges cut left) (map range_spelling (ranges cut c.as_slice-rest.result.now))
           c.loop-rest.invariant.made first.cons (c.of-in-loop-rest.ensures ∙ c.in_ok-bytes.ensures.spelled);
@@ -68,7 +71,7 @@ pub metarange_bytes-requires-clause-order : goal.metarange_bytes-requires-clause
 metarange_bytes-requires-clause-order c =
     subst AreInOrder (sym c.as_slice-2.ensures.value)
     (lines_in_order c.args.cut.now c.as_slice-rest.result.now c.loop-rest.rest.now c.loop-rest.lines.items
-    (subst HasAscendingKeys (sym c.as_slice-rest.ensures) (entries_sorted c.args.objects.now))
+    (subst HasAscendingKeys (sym c.as_slice-rest.ensures.entries) (entries_sorted c.args.objects.now))
     (none_left c.loop-rest.rest.now c.is_empty.result c.is_empty.ensures c.loop-rest-test.false)
     c.loop-rest.invariant.said)
 
@@ -80,8 +83,23 @@ metarange_bytes-requires-clause-few c =
 
 pub returns-clause-few : goal.returns-clause-few
 returns-clause-few c =
-    let all = ap length c.as_slice-rest.ensures in
+    let all = ap length c.as_slice-rest.ensures.entries in
     omega (arith, len-entries c.args.objects.now)
+
+pub returns-clause-each : goal.returns-clause-each
+returns-clause-each c =
+    let cut = c.args.cut.now in
+    let none = none_left c.loop-rest.rest.now c.is_empty.result c.is_empty.ensures c.loop-rest-test.false in
+    subst (λ rows. AllByRecursion IsRange (ranges cut rows)) c.as_slice-rest.ensures.entries
+    (c.loop-rest.invariant.each (subst (AllByRecursion IsRange) (sym (ap (ranges cut) none ∙ ranges_none cut)) tt))
+
+pub returns-clause-limits : goal.returns-clause-limits
+returns-clause-limits c =
+    let cut = c.args.cut.now in
+    let rows = c.as_slice-rest.result.now in
+    let none = none_left c.loop-rest.rest.now c.is_empty.result c.is_empty.ensures c.loop-rest-test.false in
+    subst (λ rows. IsMetarange (map line_of (ranges cut rows))) c.as_slice-rest.ensures.entries
+    (subst IsMetarange (c.as_slice-2.ensures.value ∙ all_done line_of cut rows c.loop-rest.rest.now c.loop-rest.lines.items none c.loop-rest.invariant.said) c.in_ok-metarange.ensures.limits)
 
 pub returns-clause-spelled : goal.returns-clause-spelled
 unfolding files
@@ -93,4 +111,4 @@ returns-clause-spelled c =
     (none_left c.loop-rest.rest.now c.is_empty.result c.is_empty.ensures c.loop-rest-test.false)
     c.loop-rest.invariant.made c.loop-rest.invariant.said
     (c.of-2.ensures ∙ c.in_ok-metarange.ensures.spelled ∙ ap metarange_spelling c.as_slice-2.ensures.value)
-    ∙ ap (λ r. metarange_spelling (map line_of (ranges cut r)) ∷ map range_spelling (ranges cut r)) c.as_slice-rest.ensures
+    ∙ ap (λ r. metarange_spelling (map line_of (ranges cut r)) ∷ map range_spelling (ranges cut r)) c.as_slice-rest.ensures.entries

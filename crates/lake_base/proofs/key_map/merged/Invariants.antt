@@ -1,5 +1,6 @@
 use Rattle.std.proofs.Common.{◌≡◌, ◌++◌, drop}
 use Rattle.lake_base.specs.Maps.{HasAscendingKeys}
+use Rattle.lake_base.specs.KeyMap.{HasPathKeys}
 use Rattle.lake_base.proofs.Applied.{applied}
 use Rattle.lake_base.proofs.key_map.merged.Given as goal
 
@@ -7,5 +8,6 @@ use Rattle.lake_base.proofs.key_map.merged.Given as goal
 abbrev pub invariant-loop-path : goal.invariant-loop-path
 invariant-loop-path l = record {
   ascends : HasAscendingKeys l.rest;
+  paths : HasPathKeys l.merged.items;
   whole : l.merged.items ++ applied (drop l.path-index l.changes) l.rest ≡ applied l.changes l.entries;
 }

@@ -17,7 +17,7 @@ loop-path-preserved c =
     (λ conflict. elim c.if-eq.branch [
       | then-eq+in_ok-copy+in_ok-push w ↦
           ap (λ v. v.items) w.paths-is ∙ w.in_ok-push.ensures.items ∙ ap (λ found. found ++ w.in_ok-copy.field-0 ∷ []) c.loop-path.invariant
-          ∙ ap (λ p. so_far ++ p ∷ []) w.in_ok-copy.ensures
+          ∙ ap (λ p. so_far ++ p ∷ []) w.in_ok-copy.ensures.equal
       | else-eq w ↦ absurd (false≢true (sym w.if-eq.false ∙ answer ∙ conflict))
     ])
     (λ calm. elim c.if-eq.branch [

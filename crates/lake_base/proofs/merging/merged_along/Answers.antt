@@ -12,7 +12,7 @@ pub loop-path-preserved : goal.loop-path-preserved
 loop-path-preserved c =
     merges_next c.args.strategy c.args.base.now c.args.source.now c.args.dest.now c.loop-path.changes c.set.new.self c.in_ok-copy.field-0 c.in_ok-change.change
     c.as_slice-path-items.result.now c.loop-path.path-index c.loop-path-item.result c.loop-path-test.true c.loop-path-item.is
-    c.in_ok-copy.ensures c.in_ok-set.ensures.set c.in_ok-change.ensures c.loop-path.invariant
+    c.in_ok-copy.ensures.equal c.in_ok-set.ensures.set c.in_ok-change.ensures c.loop-path.invariant
 
 pub returns : goal.returns
 returns c =

@@ -3,4 +3,4 @@ use Rattle.std.specs.FinMap.{len-entries}
 use Rattle.lake_base.proofs.key_map.KeyMap.len.Goals as goal
 
 pub returns : goal.returns
-returns c = ap length c.as_slice.ensures ∙ sym (len-entries c.args.self.now)
+returns c = ap length c.as_slice.ensures.entries ∙ sym (len-entries c.args.self.now)

@@ -25,7 +25,7 @@ pub invariant_of-self-2 : goal.invariant_of-self-2
 invariant_of-self-2 c =
     let entry : HistoryEntry = record { by = c.args.by; kind = TicketTake c.args.repo.now c.args.branch.now c.self.inside.next_number } in
     let leads = subst (λ items. Leads items c.self.inside.staged c.self.inside.next_number (from_entries c.self.inside.tickets.entries)) c.self.view_is c.self.invariant in
-    let is : c.append.new.history.items ≡ c.args.self.now ++ entry ∷ [] = rw (c.append.ensures, c.reserve.ensures.items, c.in_ok-copy.ensures, c.in_ok-copy-2.ensures, c.self.view_is) refl in
+    let is : c.append.new.history.items ≡ c.args.self.now ++ entry ∷ [] = rw (c.append.ensures, c.reserve.ensures.items, c.in_ok-copy.ensures.equal, c.in_ok-copy-2.ensures.equal, c.self.view_is) refl in
     taken c.args.self.now c.append.new.history.items c.self.inside.staged c.self.inside.next_number _ _ c.args.by c.args.repo.now c.args.branch.now
     leads c.in_ok-test_room.ensures c.in_ok-test_names.ensures.refusal c.in_ok-put_ticket.ensures.ok is
 
@@ -33,7 +33,7 @@ pub returns-clause-reply : goal.returns-clause-reply
 returns-clause-reply c =
     let entry : HistoryEntry = record { by = c.args.by; kind = TicketTake c.args.repo.now c.args.branch.now c.self.inside.next_number } in
     let leads = subst (λ items. Leads items c.self.inside.staged c.self.inside.next_number (from_entries c.self.inside.tickets.entries)) c.self.view_is c.self.invariant in
-    let is : c.append.new.history.items ≡ c.args.self.now ++ entry ∷ [] = rw (c.append.ensures, c.reserve.ensures.items, c.in_ok-copy.ensures, c.in_ok-copy-2.ensures, c.self.view_is) refl in
+    let is : c.append.new.history.items ≡ c.args.self.now ++ entry ∷ [] = rw (c.append.ensures, c.reserve.ensures.items, c.in_ok-copy.ensures.equal, c.in_ok-copy-2.ensures.equal, c.self.view_is) refl in
     ticket_given (replay fresh c.args.self.now) c.args.repo.now c.args.branch.now c.count.result c.self.inside.next_number c.in_ok-test_room.ensures c.in_ok-test_names.ensures.refusal
     (counted c.args.self.now c.append.new.history.items entry c.count.result is c.count.ensures.count)
     (sym (ap (λ (state : State). state.next_number) leads.1))
@@ -48,6 +48,6 @@ returns-clause-new c was =
 pub returns-clause-ticket : goal.returns-clause-ticket
 returns-clause-ticket c =
     let entry : HistoryEntry = record { by = c.args.by; kind = TicketTake c.args.repo.now c.args.branch.now c.self.inside.next_number } in
-    let is : c.append.new.history.items ≡ c.args.self.now ++ entry ∷ [] = rw (c.append.ensures, c.reserve.ensures.items, c.in_ok-copy.ensures, c.in_ok-copy-2.ensures, c.self.view_is) refl in
+    let is : c.append.new.history.items ≡ c.args.self.now ++ entry ∷ [] = rw (c.append.ensures, c.reserve.ensures.items, c.in_ok-copy.ensures.equal, c.in_ok-copy-2.ensures.equal, c.self.view_is) refl in
     subst (λ entries. HasTicket (replay fresh entries) c.args.by.seat c.self.inside.next_number) (sym is)
     (HasTicket-taken fresh c.args.self.now c.args.by c.args.repo.now c.args.branch.now c.self.inside.next_number)
