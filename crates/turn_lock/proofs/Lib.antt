@@ -1,5 +1,5 @@
-pub mod Prefixes
-pub mod Keeps
-pub mod Turning
-pub mod Seating
-pub mod Shown
+pub mod SeatsLemmas
+pub mod RuleLemmas
+pub mod TurnStepsLemmas
+pub mod SeatStepsLemmas
+pub mod TurnLemmas

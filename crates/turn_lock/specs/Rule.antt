@@ -9,38 +9,38 @@ use lib.ListN.{get_elem?}
 use Rattle.atomic_table.specs.Table.{State, Me, Step, rest}
 use Rattle.atomic_table.specs.Seated.{TableId}
 use Rattle.atomic_table.specs.declared.shared.Seat.{Seat}
-use Rattle.turn_lock.specs.declared.rule.Doing.{Doing}
+use Rattle.turn_lock.specs.declared.rule.View.{View}
 use Rattle.turn_lock.specs.declared.rule.Stage.{Stage}
 use Rattle.turn_lock.specs.declared.rule.Stage.TheVariants.{Away, Holds, Out}
-use Rattle.turn_lock.specs.Seats.{by_seat, Sight, Meets, longer}
+use Rattle.turn_lock.specs.Seats.{by_seat, SeatValue, Meets, longer_of}
 
 -- the value lies in its place and stands for the stored list, or it is out with the holder
-abbrev pub AtHome : {S O E : Type 0} → (S → O) → (S → List E) → O → List E → Bool → List (maybe.Option (Option S)) → Type 0
-AtHome {S} origin list o log true homes = homes ≡ none ∷ []
-AtHome {S} origin list o log false homes = (y : S) × (homes ≡ some (Some y) ∷ []) × (origin y ≡ o) × (list y ≡ log)
+abbrev pub HoldsOfPlace : {S O E : Type 0} → (S → O) → (S → List E) → O → List E → Bool → List (maybe.Option (Option S)) → Type 0
+HoldsOfPlace {S} origin list o log true homes = homes ≡ none ∷ []
+HoldsOfPlace {S} origin list o log false homes = (y : S) × (homes ≡ some (Some y) ∷ []) × (origin y ≡ o) × (list y ≡ log)
 
 -- only the holder is at work, while the turn's word is 1. While the value is out, the holder has seen the whole stored list
-abbrev pub FitsStage : {E : Type 0} → ℕ → ℕ → Bool → List E → ℕ → List E → Stage → Type 0
-FitsStage turn holder lent log j seen Away = Unit {0}
-FitsStage turn holder lent log j seen Holds = (j ≡ holder) × (turn ≡ 1) × (lent ≡ false)
-FitsStage turn holder lent log j seen Out = (j ≡ holder) × (turn ≡ 1) × (lent ≡ true) × (seen ≡ log)
+abbrev pub HoldsOfStage : {E : Type 0} → ℕ → ℕ → Bool → List E → ℕ → List E → Stage → Type 0
+HoldsOfStage turn holder lent log j seen Away = Unit {0}
+HoldsOfStage turn holder lent log j seen Holds = (j ≡ holder) × (turn ≡ 1) × (lent ≡ false)
+HoldsOfStage turn holder lent log j seen Out = (j ≡ holder) × (turn ≡ 1) × (lent ≡ true) × (seen ≡ log)
 
 -- the number n is kept back for a seat that is to be split off
-abbrev pub Reserves : {O E : Type 0} → Doing O E → ℕ → Type 0
+abbrev pub Reserves : {O E : Type 0} → View O E → ℕ → Type 0
 Reserves d n = (d.from ≤ n) × (n < d.to)
 
 -- the seat of this number, with these entries, was joined to that of the view d
-abbrev pub IsKin : {O E : Type 0} → Doing O E → ℕ × List E → Type 0
+abbrev pub IsKin : {O E : Type 0} → View O E → ℕ × List E → Type 0
 IsKin d k = (i : ℕ) × (get_elem? d.kin i ≡ some k)
 
 -- what is true of one living view
-pub record Fits {O E : Type 0} (seat_of : E → ℕ) (o : O) (log : List E) (seats turn holder : ℕ) (lent : Bool) (j : ℕ) (d : Doing O E) : Type 0 where
+pub record HoldsOfView {O E : Type 0} (seat_of : E → ℕ) (o : O) (log : List E) (seats turn holder : ℕ) (lent : Bool) (j : ℕ) (d : View O E) : Type 0 where
   pub same_origin : d.origin ≡ Some o
   pub begins : IsPrefix d.seen log
   pub own : by_seat seat_of d.number log ≡ d.mine
   pub drawn : d.number < seats
-  pub counts : d.counted ≤ seats
-  pub stage : FitsStage turn holder lent log j d.seen d.stage
+  pub counts : d.numbers ≤ seats
+  pub stage : HoldsOfStage turn holder lent log j d.seen d.stage
   pub kept_back : (n : ℕ) → Reserves d n → (n < seats) × (n ≢ d.number) × (by_seat seat_of n log ≡ by_seat seat_of n d.seen)
   pub current : d.alone ≡ true → d.seen ≡ log
   pub told : IsPrefix d.told log
@@ -49,7 +49,7 @@ pub record Fits {O E : Type 0} (seat_of : E → ℕ) (o : O) (log : List E) (sea
   pub no_clash : d.clash ≡ false
 
 -- what is true of two living views: their numbers differ, also from those kept back, and a seat that is alone has no other beside it
-pub record Differ {O E : Type 0} (d e : Doing O E) : Type 0 where
+pub record Differ {O E : Type 0} (d e : View O E) : Type 0 where
   pub numbers : d.number ≢ e.number
   pub kept_back : (n : ℕ) → Reserves d n → n ≢ e.number
   pub both : (n : ℕ) → Reserves d n → Reserves e n → ⊥
@@ -57,7 +57,7 @@ pub record Differ {O E : Type 0} (d e : Doing O E) : Type 0 where
   pub not_alone : d.alone ≡ true → ⊥
 
 -- The rule of a turn, of its words, the value's place and all views, for one origin and one stored list
-pub record Kept {S O E : Type 0} (origin : S → O) (list : S → List E) (seat_of : E → ℕ) (s : State (Option S) (Doing O E)) : Type 0 where
+pub record HoldsOfTurn {S O E : Type 0} (origin : S → O) (list : S → List E) (seat_of : E → ℕ) (s : State (Option S) (View O E)) : Type 0 where
   pub o : O
   pub log : List E
   pub turn : ℕ
@@ -67,16 +67,16 @@ pub record Kept {S O E : Type 0} (origin : S → O) (list : S → List E) (seat_
   pub words : s.words ≡ turn ∷ length log ∷ seats ∷ []
   pub one : turn ≤ 1
   pub few : seats ≤ 4294967295
-  pub home : AtHome origin list o log lent s.homes
+  pub home : HoldsOfPlace origin list o log lent s.homes
   pub free : turn ≡ 0 → lent ≡ false
-  pub held : turn ≡ 1 → (d : Doing O E) × (get_elem? s.views holder ≡ some d) × (d.living ≡ true) × (d.stage ≢ Away)
+  pub held : turn ≡ 1 → (d : View O E) × (get_elem? s.views holder ≡ some d) × (d.living ≡ true) × (d.stage ≢ Away)
   pub undrawn : (n : ℕ) → seats ≤ n → by_seat seat_of n log ≡ []
-  pub fits : (j : ℕ) (d : Doing O E) → get_elem? s.views j ≡ some d → d.living ≡ true → Fits seat_of o log seats turn holder lent j d
-  pub differ : (i j : ℕ) (d e : Doing O E) → i ≢ j → get_elem? s.views i ≡ some d → get_elem? s.views j ≡ some e → d.living ≡ true → e.living ≡ true → Differ d e
+  pub each_view : (j : ℕ) (d : View O E) → get_elem? s.views j ≡ some d → d.living ≡ true → HoldsOfView seat_of o log seats turn holder lent j d
+  pub differ : (i j : ℕ) (d e : View O E) → i ≢ j → get_elem? s.views i ≡ some d → get_elem? s.views j ≡ some e → d.living ≡ true → e.living ≡ true → Differ d e
 
 -- the shorter of two lists
-abbrev pub shorter : {E : Type 0} → List E → List E → List E
-shorter xs ys = if ltb (length xs) (length ys) then xs else ys
+abbrev pub shorter_of : {E : Type 0} → List E → List E → List E
+shorter_of xs ys = if ltb (length xs) (length ys) then xs else ys
 
 -- the name of no turn
 abbrev pub no_turn : TableId
@@ -84,7 +84,7 @@ no_turn = record { words = 0; slots = 0; views_name = 0; atom = 0; block = 0; of
 
 module _ {O E : Type 0} where
   -- the view of the first seat, which keeps back the numbers of the others
-  abbrev pub first_view : {S : Type 0} → (S → O) → (S → List E) → (E → ℕ) → S → ℕ → Doing O E
+  abbrev pub first_view : {S : Type 0} → (S → O) → (S → List E) → (E → ℕ) → S → ℕ → View O E
   first_view origin list seat_of x seats = record {
     living = true;
     number = 0;
@@ -92,7 +92,7 @@ module _ {O E : Type 0} where
     seen = list x;
     mine = by_seat seat_of 0 (list x);
     alone = seats == 1;
-    counted = seats;
+    numbers = seats;
     stage = Away;
     from = 1;
     to = seats;
@@ -103,101 +103,101 @@ module _ {O E : Type 0} where
   }
 
   -- a view that was joined to another
-  abbrev pub spent_view : Doing O E
-  spent_view = record { living = false; number = 0; origin = None; seen = []; mine = []; alone = false; counted = 0; stage = Away; from = 0; to = 0; told = []; told_origin = None; kin = []; clash = false }
+  abbrev pub spent_view : View O E
+  spent_view = record { living = false; number = 0; origin = None; seen = []; mine = []; alone = false; numbers = 0; stage = Away; from = 0; to = 0; told = []; told_origin = None; kin = []; clash = false }
 
   -- the same view, with its seat this far with the turn
-  abbrev pub staged : Stage → Doing O E → Doing O E
-  staged stage d = record d { stage = stage }
+  abbrev pub view_at : Stage → View O E → View O E
+  view_at stage d = record d { stage = stage }
 
   -- what is left where a seat is split off
-  abbrev pub left_view : Doing O E → Doing O E
+  abbrev pub left_view : View O E → View O E
   left_view d = record d { alone = false; from = d.to }
 
   -- the seat that is split off, which takes the first number kept back, and keeps the others
-  abbrev pub right_view : (E → ℕ) → Doing O E → Doing O E
+  abbrev pub right_view : (E → ℕ) → View O E → View O E
   right_view seat_of d = record d { number = d.from; mine = by_seat seat_of d.from d.seen; alone = false; from = d.from + 1; kin = [] }
 
   -- two seats made one
-  abbrev pub joined_view : Doing O E → Doing O E → Doing O E
-  joined_view d e = record d { seen = longer d.seen e.seen; told = shorter d.seen e.seen; told_origin = e.origin; kin = (e.number, e.mine) ∷ (e.kin ++ d.kin); alone = false; clash = d.alone || e.alone; from = d.to }
+  abbrev pub joined_view : View O E → View O E → View O E
+  joined_view d e = record d { seen = longer_of d.seen e.seen; told = shorter_of d.seen e.seen; told_origin = e.origin; kin = (e.number, e.mine) ∷ (e.kin ++ d.kin); alone = false; clash = d.alone || e.alone; from = d.to }
 
   -- the view that goes on to the k-th seat of a new turn, which keeps back the numbers of the later ones
-  abbrev pub dealer_view : {S : Type 0} → (S → O) → (S → List E) → (E → ℕ) → S → ℕ → ℕ → Doing O E
+  abbrev pub dealer_view : {S : Type 0} → (S → O) → (S → List E) → (E → ℕ) → S → ℕ → ℕ → View O E
   dealer_view origin list seat_of x seats k = record (first_view origin list seat_of x seats) { number = k; mine = by_seat seat_of k (list x); from = k + 1 }
 
   -- what a seat shows of its view
-  abbrev pub sight_of : TableId → Doing O E → Sight O E
-  sight_of turn d = record { turn = turn; number = d.number; origin = d.origin; seen = d.seen; mine = d.mine; alone = d.alone; counted = d.counted }
+  abbrev pub seat_value : TableId → View O E → SeatValue O E
+  seat_value turn d = record { turn = turn; number = d.number; origin = d.origin; seen = d.seen; mine = d.mine; alone = d.alone; numbers = d.numbers }
 
   -- what a seat shows of its views, of which it has one
-  abbrev pub sight : TableId → List (Doing O E) → Sight O E
-  sight turn [] = sight_of turn spent_view
-  sight turn (d ∷ _) = sight_of turn d
+  abbrev pub value_of_views : TableId → List (View O E) → SeatValue O E
+  value_of_views turn [] = seat_value turn spent_view
+  value_of_views turn (d ∷ _) = seat_value turn d
 
   -- a seat that lies with its holder
-  abbrev pub IsAtRest : Doing O E → Type 0
+  abbrev pub IsAtRest : View O E → Type 0
   IsAtRest d = (d.living ≡ true) × (d.stage ≡ Away)
 
   -- the one view of a seat of this number that lies with its holder
-  abbrev pub Rests : ℕ → List (Doing O E) → Type 0
-  Rests number views = (d : Doing O E) × (views ≡ d ∷ []) × IsAtRest d × (d.number ≡ number)
+  abbrev pub Rests : ℕ → List (View O E) → Type 0
+  Rests number views = (d : View O E) × (views ≡ d ∷ []) × IsAtRest d × (d.number ≡ number)
 
 -- what a seat of the base has: its view, and the slots that it has taken
-abbrev Sat : Type 0 → Type 0 → Type 0 → Type 0
-Sat S O E = Me (Option S) (Doing O E)
+abbrev BaseSeat : Type 0 → Type 0 → Type 0 → Type 0
+BaseSeat S O E = Me (Option S) (View O E)
 
 module _ {S O E : Type 0} where
   -- the turn was free, and is taken; or another has it
-  abbrev pub took : Step (Option S) → Sat S O E → ℕ → Sat S O E → Type 0
-  took s m n m' = m' ≡ ((if n == 0 then staged Holds m.0 else m.0), m.1)
+  abbrev pub TakesTurn : Step (Option S) → BaseSeat S O E → ℕ → BaseSeat S O E → Type 0
+  TakesTurn s m n m' = m' ≡ ((if n == 0 then view_at Holds m.0 else m.0), m.1)
 
   -- the value is lent, and its list was seen
-  abbrev pub looked : (S → O) → (S → List E) → (E → ℕ) → Step (Option S) → Sat S O E → ℕ → Sat S O E → Type 0
-  looked origin list seat_of s m n m' =
-      (y : S) × Meets origin list seat_of (sight_of no_turn m.0) y × (m' ≡ (record m.0 { stage = Out; seen = list y }, (0, Some y) ∷ m.1))
+  abbrev pub ReadsHistory : (S → O) → (S → List E) → (E → ℕ) → Step (Option S) → BaseSeat S O E → ℕ → BaseSeat S O E → Type 0
+  ReadsHistory origin list seat_of s m n m' =
+      (y : S) × Meets origin list seat_of (seat_value no_turn m.0) y × (m' ≡ (record m.0 { stage = Out; seen = list y }, (0, Some y) ∷ m.1))
 
   -- the list is now this one, in which the seat's number has the seat's own entries
-  abbrev pub wrote : List E → (E → ℕ) → Step (Option S) → Sat S O E → ℕ → Sat S O E → Type 0
-  wrote now seat_of s m n m' = m' ≡ (record m.0 { seen = now; mine = by_seat seat_of m.0.number now }, m.1)
+  abbrev pub StoresHistory : List E → (E → ℕ) → Step (Option S) → BaseSeat S O E → ℕ → BaseSeat S O E → Type 0
+  StoresHistory now seat_of s m n m' = m' ≡ (record m.0 { seen = now; mine = by_seat seat_of m.0.number now }, m.1)
 
   -- the turn and the slot taken last were given back
-  abbrev pub gave_back : Step (Option S) → Sat S O E → ℕ → Sat S O E → Type 0
-  gave_back s m n m' = m' ≡ (staged Away m.0, rest m.1)
+  abbrev pub GivesTurnBack : Step (Option S) → BaseSeat S O E → ℕ → BaseSeat S O E → Type 0
+  GivesTurnBack s m n m' = m' ≡ (view_at Away m.0, rest m.1)
 
   -- the number n was drawn, which has no entry; or others drew, and n numbers are drawn
-  abbrev pub drew : (E → ℕ) → Step (Option S) → Sat S O E → ℕ → Sat S O E → Type 0
-  drew seat_of s m n m' =
+  abbrev pub DrawsNumber : (E → ℕ) → Step (Option S) → BaseSeat S O E → ℕ → BaseSeat S O E → Type 0
+  DrawsNumber seat_of s m n m' =
       MatchBool (n == s.first)
-      ((m' ≡ (record m.0 { alone = false; counted = n + 1; from = n; to = n + 1 }, m.1)) × (by_seat seat_of n m.0.seen ≡ []) × (m.0.counted ≤ n))
-      ((m' ≡ (record m.0 { alone = false; counted = n }, m.1)) × (m.0.counted ≤ n) × (n ≤ 4294967295))
+      ((m' ≡ (record m.0 { alone = false; numbers = n + 1; from = n; to = n + 1 }, m.1)) × (by_seat seat_of n m.0.seen ≡ []) × (m.0.numbers ≤ n))
+      ((m' ≡ (record m.0 { alone = false; numbers = n }, m.1)) × (m.0.numbers ≤ n) × (n ≤ 4294967295))
 
   -- of two lists that were seen the longer begins with the other, the two seats have one origin, and neither was alone
-  abbrev pub compared : Step (Option S) → Sat S O E → ℕ → Sat S O E → Type 0
-  compared s m n m' = (m' ≡ m) × (m.0.clash ≡ false) × (m.0.told_origin ≡ m.0.origin) × (length m.0.told ≤ length m.0.seen → IsPrefix m.0.told m.0.seen)
+  abbrev pub ComparesSeats : Step (Option S) → BaseSeat S O E → ℕ → BaseSeat S O E → Type 0
+  ComparesSeats s m n m' = (m' ≡ m) × (m.0.clash ≡ false) × (m.0.told_origin ≡ m.0.origin) × (length m.0.told ≤ length m.0.seen → IsPrefix m.0.told m.0.seen)
 
 module _ {S O E : Type 0} where
   -- a seat of this turn, which has three words and one place
-  abbrev pub IsSeatOf : TableId → Seat (Option S) (Doing O E) → Type 0
+  abbrev pub IsSeatOf : TableId → Seat (Option S) (View O E) → Type 0
   IsSeatOf z p = (p.table_id ≡ z) × (z.words ≡ 3) × (z.slots ≡ 1)
 
   -- it is the same seat after a step
-  abbrev pub IsSameSeat : Seat (Option S) (Doing O E) → Seat (Option S) (Doing O E) → Type 0
+  abbrev pub IsSameSeat : Seat (Option S) (View O E) → Seat (Option S) (View O E) → Type 0
   IsSameSeat p q = (q.table_id ≡ p.table_id) × (q.id ≡ p.id)
 
   -- as long as a seat has only tried to draw, its view is as it was, but for what it counts
-  abbrev pub after_try : Sat S O E → Sat S O E → Type 0
-  after_try m m' = (m' ≡ m) ⊎ ((n : ℕ) × (m' ≡ (record m.0 { alone = false; counted = n }, m.1)) × (m.0.counted ≤ n))
+  abbrev pub IsAfterTry : BaseSeat S O E → BaseSeat S O E → Type 0
+  IsAfterTry m m' = (m' ≡ m) ⊎ ((n : ℕ) × (m' ≡ (record m.0 { alone = false; numbers = n }, m.1)) × (m.0.numbers ≤ n))
 
   -- the seat holds the turn, and the value lies in its place
-  abbrev pub IsHolding : Sat S O E → Type 0
+  abbrev pub IsHolding : BaseSeat S O E → Type 0
   IsHolding m = (m.0.living ≡ true) × (m.0.stage ≡ Holds) × (m.1 ≡ [])
 
 module _ {O E : Type 0} where
   -- the number, the origin and the own entries are as they were
-  abbrev pub IsSameWork : Doing O E → Doing O E → Type 0
+  abbrev pub IsSameWork : View O E → View O E → Type 0
   IsSameWork d e = (e.number ≡ d.number) × (e.origin ≡ d.origin) × (e.mine ≡ d.mine)
 
   -- a seat that was joined to one of this origin, which has seen this list and knows of these seats
-  abbrev pub WasJoined : Option O → List E → List (ℕ × List E) → Sight O E → Type 0
-  WasJoined o seen kin s = (s.origin ≡ o) × IsPrefix s.seen seen × (s.alone ≡ false) × ((i : ℕ) × (get_elem? kin i ≡ some (s.number, s.mine)))
+  abbrev pub IsJoinedTo : Option O → List E → List (ℕ × List E) → SeatValue O E → Type 0
+  IsJoinedTo o seen kin s = (s.origin ≡ o) × IsPrefix s.seen seen × (s.alone ≡ false) × ((i : ℕ) × (get_elem? kin i ≡ some (s.number, s.mine)))

@@ -13,17 +13,17 @@ abbrev pub by_seat : {E : Type 0} → (E → ℕ) → ℕ → List E → List E
 by_seat seat_of n entries = filter (λ e. seat_of e == n) entries
 
 -- What a seat shows: its turn, its number, its origin, the entries that it has seen and those that it made, whether it is the only seat, and how many seat numbers it has seen drawn
-pub record Sight (O E : Type 0) : Type 0 where
+pub record SeatValue (O E : Type 0) : Type 0 where
   pub turn : TableId
   pub number : ℕ
   pub origin : Option O
   pub seen : List E
   pub mine : List E
   pub alone : Bool
-  pub counted : ℕ
+  pub numbers : ℕ
 
 -- the value has the seat's origin, its list begins with all that the seat has seen, and of the seat's number it has just the seat's own entries. Where the seat is alone, the list is what it has seen
-abbrev pub Meets : {S O E : Type 0} → (S → O) → (S → List E) → (E → ℕ) → Sight O E → S → Type 0
+abbrev pub Meets : {S O E : Type 0} → (S → O) → (S → List E) → (E → ℕ) → SeatValue O E → S → Type 0
 Meets origin list seat_of s x =
     (s.origin ≡ Some (origin x)) × IsPrefix s.seen (list x) × (by_seat seat_of s.number (list x) ≡ s.mine) × (s.alone ≡ true → list x ≡ s.seen)
 
@@ -48,22 +48,22 @@ pub record GivesChange {F S R : Type 0} (g : Once F (MutBor S × (ℕ × Unit {0
   pub leaves : left.now ≡ y
 
 -- what the k-th seat of a new turn over x shows, where the turn has this many seats
-abbrev pub first_sight : {S O E : Type 0} → (S → O) → (S → List E) → (E → ℕ) → TableId → S → ℕ → ℕ → Sight O E
-first_sight origin list seat_of turn x seats k =
-    record { turn = turn; number = k; origin = Some (origin x); seen = list x; mine = by_seat seat_of k (list x); alone = seats == 1; counted = seats }
+abbrev pub new_seat : {S O E : Type 0} → (S → O) → (S → List E) → (E → ℕ) → TableId → S → ℕ → ℕ → SeatValue O E
+new_seat origin list seat_of turn x seats k =
+    record { turn = turn; number = k; origin = Some (origin x); seen = list x; mine = by_seat seat_of k (list x); alone = seats == 1; numbers = seats }
 
 -- what a seat shows once it has seen this list, in which its own entries are these
-abbrev pub sees : {O E : Type 0} → Sight O E → List E → List E → Sight O E
-sees s list mine = record s { seen = list; mine = mine }
+abbrev pub seat_after : {O E : Type 0} → SeatValue O E → List E → List E → SeatValue O E
+seat_after s list mine = record s { seen = list; mine = mine }
 
 -- the seat of this number, split off s when it had seen this many numbers drawn: it has seen what s has, and made nothing
-abbrev pub split_off : {O E : Type 0} → Sight O E → ℕ → Sight O E
-split_off s number = record s { number = number; mine = []; alone = false; counted = number + 1 }
+abbrev pub seat_beside : {O E : Type 0} → SeatValue O E → ℕ → SeatValue O E
+seat_beside s number = record s { number = number; mine = []; alone = false; numbers = number + 1 }
 
 -- what a seat shows after it has drawn, or tried to
-abbrev pub after_draw : {O E : Type 0} → Sight O E → ℕ → Sight O E
-after_draw s counted = record s { alone = false; counted = counted }
+abbrev pub seat_after_draw : {O E : Type 0} → SeatValue O E → ℕ → SeatValue O E
+seat_after_draw s numbers = record s { alone = false; numbers = numbers }
 
 -- the longer of two lists
-abbrev pub longer : {E : Type 0} → List E → List E → List E
-longer xs ys = if ltb (length xs) (length ys) then ys else xs
+abbrev pub longer_of : {E : Type 0} → List E → List E → List E
+longer_of xs ys = if ltb (length xs) (length ys) then ys else xs

@@ -5,7 +5,7 @@
 //! - `seat`: what the holder of a `Seat` carries, and what contracts see of it.
 //! - `steps`: the eight kinds of atomic step, over the crate `atomic_table`.
 //! - `rule`: the rule that every step keeps, and what each step tells. It runs no code.
-//! - `crossing`: turns and seats may go from thread to thread.
+//! - `threads`: turns and seats may go from thread to thread.
 //!
 //! The promise to the layer above: all seats of a turn have one origin. What a seat has seen begins the list of every
 //! value that it is handed, in which the entries of its number are just those that it made. A change adds entries of the
@@ -13,16 +13,16 @@
 //! promised of progress or of fairness: a call that waits keeps its promise if it returns.
 #![tactic(auto)]
 
-mod crossing;
 mod rule;
 mod seat;
 mod standing;
 mod steps;
+mod threads;
 mod turn;
 
-pub use crossing::{seats_cross, turns_cross};
 pub use seat::Seat;
 pub use standing::Standing;
+pub use threads::{seats_cross, turns_cross};
 pub use turn::{NoMemory, SplitFault, Turn};
 
 #[cfg(test)]

@@ -15,7 +15,7 @@ pub enum Stage {
 }
 
 /// What a seat knows. No value of it is made.
-pub struct Doing<O, E> {
+pub struct View<O, E> {
     /// False once the seat was joined to another.
     pub living: bool,
     pub number: u64,
@@ -24,7 +24,7 @@ pub struct Doing<O, E> {
     pub mine: LinkedList<E>,
     pub alone: bool,
     /// How many seat numbers it has seen drawn.
-    pub counted: u64,
+    pub numbers: u64,
     pub stage: Stage,
     /// The numbers from here on, below `to`, are kept back for seats that are to be split off.
     pub from: u64,
@@ -46,97 +46,98 @@ pub struct Opening<S> {
     pub seats: u64,
 }
 
-pub struct Law<S> {
+pub struct TurnRule<S> {
     of: PhantomData<S>,
 }
 
-impl<S: Standing> TableRule<Option<S>, Doing<S::Origin, S::Entry>, Opening<S>> for Law<S> {
-    ghost use Rattle.turn_lock.specs.Rule.{Kept, first_view};
+impl<S: Standing> TableRule<Option<S>, View<S::Origin, S::Entry>, Opening<S>> for TurnRule<S> {
+    ghost use Rattle.turn_lock.specs.Rule.{HoldsOfTurn, first_view};
 
-    ghost holds = { λ _. Kept S.origin S.list S.seat_of };
+    ghost holds = { λ _. HoldsOfTurn S.origin S.list S.seat_of };
 
     ghost first = { λ k. first_view S.origin S.list S.seat_of k.value.value k.seats };
 }
 
 /// A seat takes the turn.
-pub struct Take;
+pub struct TakeTurn;
 
-impl<S, O, E> Play<Option<S>, Doing<O, E>> for Take {
-    ghost use Rattle.turn_lock.specs.Rule.{took};
+impl<S, O, E> Play<Option<S>, View<O, E>> for TakeTurn {
+    ghost use Rattle.turn_lock.specs.Rule.{TakesTurn};
 
-    ghost then = { took };
+    ghost then = { TakesTurn };
 }
 
 /// The holder reads the history's word, and the value is lent to it.
-pub struct Look<S> {
+pub struct ReadHistory<S> {
     of: PhantomData<S>,
 }
 
-impl<S: Standing> Play<Option<S>, Doing<S::Origin, S::Entry>> for Look<S> {
-    ghost use Rattle.turn_lock.specs.Rule.{looked};
+impl<S: Standing> Play<Option<S>, View<S::Origin, S::Entry>> for ReadHistory<S> {
+    ghost use Rattle.turn_lock.specs.Rule.{ReadsHistory};
 
-    ghost then = { looked S.origin S.list S.seat_of };
+    ghost then = { ReadsHistory S.origin S.list S.seat_of };
 }
 
 /// The list that the holder's value stands for. Each call picks it.
-pub trait Noted<E> {
+pub trait NextList<E> {
     ghost use Rattle.std.specs.Prelude.{List};
 
-    ghost noted: { List E };
+    ghost next_list: { List E };
 }
 
-impl<E> Noted<E> for Brand {
+impl<E> NextList<E> for Brand {
     ghost use Rattle.std.specs.Prelude.{[]};
 
-    ghost noted = { [] };
+    ghost next_list = { [] };
 }
 
 /// The holder stores the new length of the history.
-pub struct Write<S, J> {
+pub struct StoreHistory<S, J> {
     of: PhantomData<(S, J)>,
 }
 
-impl<S: Standing, J: Noted<S::Entry>> Play<Option<S>, Doing<S::Origin, S::Entry>> for Write<S, J> {
-    ghost use Rattle.turn_lock.specs.Rule.{wrote};
+impl<S: Standing, J: NextList<S::Entry>> Play<Option<S>, View<S::Origin, S::Entry>>
+    for StoreHistory<S, J> {
+    ghost use Rattle.turn_lock.specs.Rule.{StoresHistory};
 
-    ghost then = { wrote J.noted S.seat_of };
+    ghost then = { StoresHistory J.next_list S.seat_of };
 }
 
 /// The holder gives the turn back, and the value with it.
-pub struct GiveBack;
+pub struct GiveTurnBack;
 
-impl<S, O, E> Play<Option<S>, Doing<O, E>> for GiveBack {
-    ghost use Rattle.turn_lock.specs.Rule.{gave_back};
+impl<S, O, E> Play<Option<S>, View<O, E>> for GiveTurnBack {
+    ghost use Rattle.turn_lock.specs.Rule.{GivesTurnBack};
 
-    ghost then = { gave_back };
+    ghost then = { GivesTurnBack };
 }
 
 /// A seat draws a number for another.
-pub struct Draw<S> {
+pub struct DrawNumber<S> {
     of: PhantomData<S>,
 }
 
-impl<S: Standing> Play<Option<S>, Doing<S::Origin, S::Entry>> for Draw<S> {
-    ghost use Rattle.turn_lock.specs.Rule.{drew};
+impl<S: Standing> Play<Option<S>, View<S::Origin, S::Entry>> for DrawNumber<S> {
+    ghost use Rattle.turn_lock.specs.Rule.{DrawsNumber};
 
-    ghost then = { drew S.seat_of };
+    ghost then = { DrawsNumber S.seat_of };
 }
 
 /// A seat compares what it had seen with what a joined seat had.
-pub struct Compare;
+pub struct CompareSeats;
 
-impl<S, O, E> Play<Option<S>, Doing<O, E>> for Compare {
-    ghost use Rattle.turn_lock.specs.Rule.{compared};
+impl<S, O, E> Play<Option<S>, View<O, E>> for CompareSeats {
+    ghost use Rattle.turn_lock.specs.Rule.{ComparesSeats};
 
-    ghost then = { compared };
+    ghost then = { ComparesSeats };
 }
 
 /// A seat is split off.
-pub struct Cut<S> {
+pub struct SplitOff<S> {
     of: PhantomData<S>,
 }
 
-impl<S: Standing> Split<Doing<S::Origin, S::Entry>> for Cut<S> {
+impl<S: Standing> Split<View<S::Origin, S::Entry>> for SplitOff<S> {
     ghost use Rattle.turn_lock.specs.Rule.{left_view, right_view};
 
     ghost left = { left_view };
@@ -145,9 +146,9 @@ impl<S: Standing> Split<Doing<S::Origin, S::Entry>> for Cut<S> {
 }
 
 /// A seat is joined to another.
-pub struct Glue;
+pub struct JoinSeats;
 
-impl<O, E> Join<Doing<O, E>> for Glue {
+impl<O, E> Join<View<O, E>> for JoinSeats {
     ghost use Rattle.turn_lock.specs.Rule.{joined_view, spent_view};
 
     ghost both = { joined_view };

@@ -1,27 +1,27 @@
 ghost use Rattle.std.specs.Prelude.{◌≡◌};
 
-use crate::rule::Doing;
+use crate::rule::View;
 use atomic_table::Badge;
 use std::marker::Model;
 
 /// A place at a turn. Its holder knows which entries it has seen, and which it made.
 ///
-/// Contracts see it as a `Sight`: its turn, its number, its origin, `seen` and `mine`, whether it is alone, and how
+/// Contracts see it as a `SeatValue`: its turn, its number, its origin, `seen` and `mine`, whether it is alone, and how
 /// many numbers it has seen drawn. When it runs, it is its number alone.
 #[derive(Drop)]
 pub struct Seat<O, E> {
     pub(crate) number: u32,
-    pub(crate) badge: Badge<Doing<O, E>>,
+    pub(crate) badge: Badge<View<O, E>>,
 }
 
 impl<O, E> Model for Seat<O, E> {
-    ghost use Rattle.turn_lock.specs.Seats.{Sight};
+    ghost use Rattle.turn_lock.specs.Seats.{SeatValue};
 
-    ghost Value = { Sight O E };
+    ghost Value = { SeatValue O E };
 
-    ghost use Rattle.turn_lock.specs.Rule.{sight, Rests};
+    ghost use Rattle.turn_lock.specs.Rule.{value_of_views, Rests};
 
-    ghost view = { λ s. sight s.badge.table_id s.badge.views };
+    ghost view = { λ s. value_of_views s.badge.table_id s.badge.views };
 
     ghost invariant = { λ s. Rests s.number s.badge.views };
 }

@@ -2,11 +2,12 @@
 ghost use Rattle.std.specs.Prelude.{◌≡◌, ◌≢◌, ℕ, ◌+◌, ◌<◌, ◌≤◌, true, false, List, [], ◌∷◌, ◌++◌, length, Some, None, MatchOption, All, slice_get, vec_capacity};
 ghost use mathlib.Core.List.{IsPrefix};
 ghost use Rattle.turn_lock.specs.declared.rule.Stage.TheVariants.{Away, Holds, Out};
-ghost use Rattle.turn_lock.specs.Seats.{by_seat, Meets, first_sight};
-ghost use Rattle.turn_lock.specs.Rule.{IsSeatOf, IsSameSeat, IsAtRest, no_turn, sight_of, staged, left_view, right_view, joined_view, first_view, IsHolding, IsSameWork, WasJoined};
+ghost use Rattle.turn_lock.specs.Seats.{by_seat, Meets, new_seat};
+ghost use Rattle.turn_lock.specs.Rule.{IsSeatOf, IsSameSeat, IsAtRest, no_turn, seat_value, view_at, left_view, right_view, joined_view, first_view, IsHolding, IsSameWork, IsJoinedTo};
 
 use crate::rule::{
-    Compare, Cut, Doing, Draw, GiveBack, Glue, Law, Look, Noted, Opening, Take, Write,
+    CompareSeats, DrawNumber, GiveTurnBack, JoinSeats, NextList, Opening, ReadHistory, SplitOff,
+    StoreHistory, TakeTurn, TurnRule, View,
 };
 use crate::standing::Standing;
 use atomic_table::{Seat, Shared};
@@ -25,23 +26,23 @@ const SEATS: usize = 2;
 /// How many seat numbers there are.
 const MOST: u64 = u32::MAX as u64;
 
-pub(crate) type View<S> = Doing<<S as Standing>::Origin, <S as Standing>::Entry>;
+pub(crate) type ViewOf<S> = View<<S as Standing>::Origin, <S as Standing>::Entry>;
 
-pub(crate) type Top<S> = Shared<Option<S>, View<S>, Opening<S>, Law<S>>;
+pub(crate) type Top<S> = Shared<Option<S>, ViewOf<S>, Opening<S>, TurnRule<S>>;
 
 /// A seat as its holder has it.
 pub(crate) type RestingSeat<S> = crate::seat::Seat<<S as Standing>::Origin, <S as Standing>::Entry>;
 
 /// A seat of the base, which a step moves.
-pub(crate) type Place<S> = Seat<Option<S>, View<S>>;
+pub(crate) type Place<S> = Seat<Option<S>, ViewOf<S>>;
 
 /// Takes the turn. While another seat has it, it tries again, and lets other threads run between two tries.
 pub(crate) fn take_turn<S: Standing, W: Wait>(rt: &W, top: &Top<S>, place: &mut Place<S>)
     requires { IsSeatOf top.now.table_id place.old × IsAtRest place.old.me.0 × (place.old.me.1 ≡ []) }
-    ensures { IsSameSeat place.old place.new × (place.new.me ≡ (staged Holds place.old.me.0, [])) }
+    ensures { IsSameSeat place.old place.new × (place.new.me ≡ (view_at Holds place.old.me.0, [])) }
 {
     for _ in rt.forever() {
-        if top.compare_exchange::<Take>(place, TURN, 0, 1) == 0 {
+        if top.compare_exchange::<TakeTurn>(place, TURN, 0, 1) == 0 {
             return;
         }
         yield_now();
@@ -52,45 +53,45 @@ pub(crate) fn take_turn<S: Standing, W: Wait>(rt: &W, top: &Top<S>, place: &mut 
 /// Reads the history's word, and takes the value out.
 pub(crate) fn take_out<S: Standing>(top: &Top<S>, place: &mut Place<S>) -> S
     requires { IsSeatOf top.now.table_id place.old × (place.old.me.0.living ≡ true) × (place.old.me.0.stage ≡ Holds) × (place.old.me.1 ≡ []) }
-    ensures { IsSameSeat place.old place.new × Meets S.origin S.list S.seat_of (sight_of no_turn place.old.me.0) result × (place.new.me ≡ (record place.old.me.0 { stage = Out; seen = S.list result }, (0, None) ∷ [])) }
+    ensures { IsSameSeat place.old place.new × Meets S.origin S.list S.seat_of (seat_value no_turn place.old.me.0) result × (place.new.me ≡ (record place.old.me.0 { stage = Out; seen = S.list result }, (0, None) ∷ [])) }
 {
-    top.load::<Look<S>>(place, HISTORY);
+    top.load::<ReadHistory<S>>(place, HISTORY);
     top.exchange(place, 0, None).unwrap()
 }
 
 /// Stores the length of the list that the value now stands for.
-pub(crate) fn store_length<S: Standing, J: Noted<S::Entry>>(
+pub(crate) fn store_length<S: Standing, J: NextList<S::Entry>>(
     top: &Top<S>,
     place: &mut Place<S>,
     value: &S,
 )
     requires own { IsSeatOf top.now.table_id place.old × (place.old.me.0.living ≡ true) × (place.old.me.0.stage ≡ Out) }
-    requires noted { J.noted ≡ S.list value.now }
+    requires next_list { J.next_list ≡ S.list value.now }
     requires grown { (added : List S.Entry) × (S.list value.now ≡ place.old.me.0.seen ++ added) × All (λ e. S.seat_of e ≡ place.old.me.0.number) added }
     ensures { IsSameSeat place.old place.new × (place.new.me ≡ (record place.old.me.0 { seen = S.list value.now; mine = by_seat S.seat_of place.old.me.0.number (S.list value.now) }, place.old.me.1)) }
 {
-    top.store::<Write<S, J>>(place, HISTORY, value.entries());
+    top.store::<StoreHistory<S, J>>(place, HISTORY, value.entries());
 }
 
 /// Puts the value back, and gives the turn back.
 pub(crate) fn give_back<S: Standing>(top: &Top<S>, place: &mut Place<S>, value: S)
     requires own { IsSeatOf top.now.table_id place.old × (place.old.me.0.living ≡ true) × (place.old.me.0.stage ≡ Out) × (place.old.me.1 ≡ (0, None) ∷ []) }
     requires value { (place.old.me.0.origin ≡ Some (S.origin value)) × (S.list value ≡ place.old.me.0.seen) }
-    ensures { IsSameSeat place.old place.new × (place.new.me ≡ (staged Away place.old.me.0, [])) }
+    ensures { IsSameSeat place.old place.new × (place.new.me ≡ (view_at Away place.old.me.0, [])) }
 {
     let _nothing = top.exchange(place, 0, Some(value));
-    top.store::<GiveBack>(place, TURN, 0);
+    top.store::<GiveTurnBack>(place, TURN, 0);
 }
 
 /// Draws a number for a new seat, or finds that all were drawn.
 pub(crate) fn draw<S: Standing, W: Wait>(rt: &W, top: &Top<S>, place: &mut Place<S>) -> Option<u32>
     requires { IsSeatOf top.now.table_id place.old × IsAtRest place.old.me.0 × (place.old.me.1 ≡ []) }
     ensures same { IsSameSeat place.old place.new }
-    ensures drawn { MatchOption result ((place.new.me ≡ (record place.old.me.0 { alone = false; counted = 4294967295 }, [])) × (place.old.me.0.counted ≤ 4294967295)) (λ n. (place.new.me ≡ (record place.old.me.0 { alone = false; counted = n + 1; from = n; to = n + 1 }, [])) × (by_seat S.seat_of n place.old.me.0.seen ≡ []) × (place.old.me.0.counted ≤ n) × (n < 4294967295)) }
+    ensures drawn { MatchOption result ((place.new.me ≡ (record place.old.me.0 { alone = false; numbers = 4294967295 }, [])) × (place.old.me.0.numbers ≤ 4294967295)) (λ n. (place.new.me ≡ (record place.old.me.0 { alone = false; numbers = n + 1; from = n; to = n + 1 }, [])) × (by_seat S.seat_of n place.old.me.0.seen ≡ []) × (place.old.me.0.numbers ≤ n) × (n < 4294967295)) }
 {
     let mut expected = 1;
     for _ in rt.forever() {
-        let found = top.compare_exchange::<Draw<S>>(place, SEATS, expected, expected + 1);
+        let found = top.compare_exchange::<DrawNumber<S>>(place, SEATS, expected, expected + 1);
         if found == expected {
             return Some(found as u32);
         }
@@ -110,8 +111,8 @@ pub(crate) fn join<S: Standing>(top: &Top<S>, place: &mut Place<S>, other: Place
     ensures begins { IsPrefix place.old.me.0.seen place.new.me.0.seen × IsPrefix other.me.0.seen place.new.me.0.seen }
     ensures beside { (other.me.0.origin ≡ place.old.me.0.origin) × (place.old.me.0.alone ≡ false) × (other.me.0.alone ≡ false) }
 {
-    top.join_seat::<Glue>(place, other);
-    top.load::<Compare>(place, HISTORY);
+    top.join_seat::<JoinSeats>(place, other);
+    top.load::<CompareSeats>(place, HISTORY);
 }
 
 /// Joins every one of these seats to the one that holds the turn.
@@ -123,7 +124,7 @@ pub(crate) fn join_all<S: Standing>(
     requires own { IsSeatOf top.now.table_id place.old × IsHolding place.old.me }
     requires seats { All (λ s. s.turn ≡ top.now.table_id) seats.items }
     ensures same { IsSameSeat place.old place.new × IsHolding place.new.me × IsSameWork place.old.me.0 place.new.me.0 }
-    ensures begins { IsPrefix place.old.me.0.seen place.new.me.0.seen × All (WasJoined place.old.me.0.origin place.new.me.0.seen place.new.me.0.kin) seats.items }
+    ensures begins { IsPrefix place.old.me.0.seen place.new.me.0.seen × All (IsJoinedTo place.old.me.0.origin place.new.me.0.seen place.new.me.0.kin) seats.items }
     ensures alone { place.old.me.0.alone ≡ true → place.new.me.0 ≡ place.old.me.0 }
 {
     while let Some(other) = seats.pop() {
@@ -144,11 +145,11 @@ pub(crate) fn deal<S: Standing>(
     requires room { (all.items ≡ []) × (seats ≤ vec_capacity all) }
     requires first { IsSeatOf top.now.table_id first × (first.me ≡ (first_view S.origin S.list S.seat_of about.now.value.value seats, [])) }
     ensures count { length result.items ≡ seats }
-    ensures each { (k : ℕ) → k < seats → slice_get result.items k ≡ Some (first_sight S.origin S.list S.seat_of top.now.table_id about.now.value.value seats k) }
+    ensures each { (k : ℕ) → k < seats → slice_get result.items k ≡ Some (new_seat S.origin S.list S.seat_of top.now.table_id about.now.value.value seats k) }
 {
     let mut place = first;
     for number in 0..seats - 1 {
-        let next = top.split_seat::<Cut<S>>(&mut place);
+        let next = top.split_seat::<SplitOff<S>>(&mut place);
         all.push_reserved(RestingSeat::<S> {
             number,
             badge: place.into_badge(),

@@ -1,5 +1,5 @@
 ghost use Rattle.std.specs.Prelude.{◌≡◌, ◌+◌, ◌<◌, [], ◌∷◌, ◌++◌, length, IfOk, IfSome, MatchResult, All};
-ghost use Rattle.turn_lock.specs.Seats.{sees, longer};
+ghost use Rattle.turn_lock.specs.Seats.{seat_after, longer_of};
 
 use super::*;
 use std::alloc::{AllocError, Global};
@@ -58,7 +58,7 @@ fn read<W: Wait>(
     seat: &mut LogSeat,
 ) -> Result<Vec<(u32, u64)>, AllocError>
     requires { seat.old.turn ≡ turn.now }
-    ensures seat { seat.new ≡ sees seat.old seat.new.seen seat.old.mine }
+    ensures seat { seat.new ≡ seat_after seat.old seat.new.seen seat.old.mine }
     ensures seen { IfOk result (λ v. v.items ≡ seat.new.seen) }
 {
     turn.with_read(rt, seat, |log| log.entries.clone())
@@ -80,7 +80,7 @@ fn split_and_join<W: Wait>(
 ) -> Option<Found>
     requires { (zero.old.turn ≡ turn.now) × (one.turn ≡ turn.now) }
     ensures turn { zero.new.turn ≡ turn.now }
-    ensures split { IfSome result (λ r. (r.split.turn ≡ turn.now) × (r.split.mine ≡ []) × (r.split.seen ≡ longer r.at_split.items r.by_one.items)) }
+    ensures split { IfSome result (λ r. (r.split.turn ≡ turn.now) × (r.split.mine ≡ []) × (r.split.seen ≡ longer_of r.at_split.items r.by_one.items)) }
     ensures zero { IfSome result (λ r. (zero.new.mine ≡ zero.old.mine ++ (zero.old.number, 5) ∷ []) × (zero.new.seen ≡ r.by_zero.items)) }
 {
     add(rt, turn, zero, 5).ok()?;

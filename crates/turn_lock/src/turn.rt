@@ -1,13 +1,13 @@
 ghost use Rattle.std.specs.Prelude.{◌≡◌, ℕ, ◌+◌, ◌<◌, ◌≤◌, true, false, List, [], ◌∷◌, ◌++◌, length, Some, All, IfOk, IfErr, MatchResult, slice_get};
 ghost use Rattle.std.specs.Fn.{FnOnceTakesAt, FnOnceReturnsAt};
 ghost use mathlib.Core.List.{IsPrefix};
-ghost use Rattle.turn_lock.specs.Seats.{Meets, Adds, OnlyAdds, TakesChange, GivesChange, first_sight, sees, split_off, after_draw, longer};
+ghost use Rattle.turn_lock.specs.Seats.{Meets, Adds, OnlyAdds, TakesChange, GivesChange, new_seat, seat_after, seat_beside, seat_after_draw, longer_of};
 
-use crate::rule::{Cut, Law, Opening};
+use crate::rule::{Opening, SplitOff, TurnRule};
 use crate::seat::Seat;
 use crate::standing::Standing;
 use crate::steps::{
-    Place, View, deal, draw, give_back, join, join_all, store_length, take_out, take_turn,
+    Place, ViewOf, deal, draw, give_back, join, join_all, store_length, take_out, take_turn,
 };
 use atomic_table::{Badge, Table};
 use std::alloc::{AllocError, Global};
@@ -38,7 +38,7 @@ pub enum SplitFault {
 /// A value that threads share, one seat at a time. To a contract it is a name, which its seats have too.
 #[derive(Drop)]
 pub struct Turn<S: Standing> {
-    table: Table<Option<S>, View<S>, Opening<S>, Law<S>, Global>,
+    table: Table<Option<S>, ViewOf<S>, Opening<S>, TurnRule<S>, Global>,
 }
 
 impl<S: Standing> Model for Turn<S> {
@@ -65,7 +65,7 @@ impl<S: Standing> Turn<S> {
         requires numbers { All (λ e. S.seat_of e < seats) (S.list value) }
         ensures own { IfOk result (λ r. All (λ s. s.turn ≡ r.0) r.1.items) }
         ensures count { IfOk result (λ r. length r.1.items ≡ seats) }
-        ensures each { IfOk result (λ r. (k : ℕ) → k < seats → slice_get r.1.items k ≡ Some (first_sight S.origin S.list S.seat_of r.0 value seats k)) }
+        ensures each { IfOk result (λ r. (k : ℕ) → k < seats → slice_get r.1.items k ≡ Some (new_seat S.origin S.list S.seat_of r.0 value seats k)) }
     {
         let all = Vec::with_capacity(alloc, seats as usize)?;
         let about = Opening {
@@ -108,7 +108,7 @@ impl<S: Standing> Turn<S> {
     ) -> R
         requires own { seat.old.turn ≡ self.now }
         requires callable { (x : S) → Meets S.origin S.list S.seat_of seat.old x → FnOnceTakesAt F.FnOnce f x }
-        ensures { (x : S) × Meets S.origin S.list S.seat_of seat.old x × FnOnceReturnsAt F.FnOnce f x result × (seat.new ≡ sees seat.old (S.list x) seat.old.mine) }
+        ensures { (x : S) × Meets S.origin S.list S.seat_of seat.old x × FnOnceReturnsAt F.FnOnce f x result × (seat.new ≡ seat_after seat.old (S.list x) seat.old.mine) }
     {
         let top = &self.table.shared;
         let mut place: Place<S> = replace(&mut seat.badge, Badge::blank()).into_seat();
@@ -130,7 +130,7 @@ impl<S: Standing> Turn<S> {
         requires own { seat.old.turn ≡ self.now }
         requires callable { (x : S) → Meets S.origin S.list S.seat_of seat.old x → TakesChange F.FnOnce f x seat.old.number }
         requires only_adds { (x y : S) (r : R) → Meets S.origin S.list S.seat_of seat.old x → GivesChange F.FnOnce f x seat.old.number r y → OnlyAdds S.origin S.list S.seat_of seat.old.number x y }
-        ensures { (x : S) × (y : S) × (added : List S.Entry) × Meets S.origin S.list S.seat_of seat.old x × GivesChange F.FnOnce f x seat.old.number result y × Adds S.origin S.list S.seat_of seat.old.number x added y × (seat.new ≡ sees seat.old (S.list y) (seat.old.mine ++ added)) }
+        ensures { (x : S) × (y : S) × (added : List S.Entry) × Meets S.origin S.list S.seat_of seat.old x × GivesChange F.FnOnce f x seat.old.number result y × Adds S.origin S.list S.seat_of seat.old.number x added y × (seat.new ≡ seat_after seat.old (S.list y) (seat.old.mine ++ added)) }
     {
         let top = &self.table.shared;
         let number = seat.number;
@@ -151,8 +151,8 @@ impl<S: Standing> Turn<S> {
         seat: &mut Seat<S::Origin, S::Entry>,
     ) -> Result<Seat<S::Origin, S::Entry>, SplitFault>
         requires { seat.old.turn ≡ self.now }
-        ensures new { IfOk result (λ s. (s ≡ split_off seat.old s.number) × (seat.new ≡ after_draw seat.old (s.number + 1)) × (seat.old.counted ≤ s.number) × (s.number < 4294967295)) }
-        ensures full { IfErr result (λ e. (e ≡ SplitFault.Full) × (seat.new ≡ after_draw seat.old 4294967295)) }
+        ensures new { IfOk result (λ s. (s ≡ seat_beside seat.old s.number) × (seat.new ≡ seat_after_draw seat.old (s.number + 1)) × (seat.old.numbers ≤ s.number) × (s.number < 4294967295)) }
+        ensures full { IfErr result (λ e. (e ≡ SplitFault.Full) × (seat.new ≡ seat_after_draw seat.old 4294967295)) }
     {
         let top = &self.table.shared;
         let mut place: Place<S> = replace(&mut seat.badge, Badge::blank()).into_seat();
@@ -160,7 +160,7 @@ impl<S: Standing> Turn<S> {
         let split = match drawn {
             Some(number) => Ok(Seat {
                 number,
-                badge: top.split_seat::<Cut<S>>(&mut place).into_badge(),
+                badge: top.split_seat::<SplitOff<S>>(&mut place).into_badge(),
             }),
             None => Err(SplitFault::Full),
         };
@@ -177,7 +177,7 @@ impl<S: Standing> Turn<S> {
     )
         requires own { seat.old.turn ≡ self.now }
         requires other { other.turn ≡ self.now }
-        ensures longer { seat.new ≡ sees seat.old (longer seat.old.seen other.seen) seat.old.mine }
+        ensures longer { seat.new ≡ seat_after seat.old (longer_of seat.old.seen other.seen) seat.old.mine }
         ensures begins { IsPrefix seat.old.seen seat.new.seen × IsPrefix other.seen seat.new.seen }
         ensures beside { (other.origin ≡ seat.old.origin) × (seat.old.alone ≡ false) × (other.alone ≡ false) }
     {

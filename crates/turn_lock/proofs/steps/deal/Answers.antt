@@ -1,5 +1,5 @@
 use Rattle.std.proofs.Common.{rules, arith, ◌+◌, ◌<◌}
-use Rattle.turn_lock.proofs.Seating.{splits_dealer}
+use Rattle.turn_lock.proofs.SeatStepsLemmas.{splits_dealer}
 use Rattle.turn_lock.proofs.steps.deal.Goals as goal
 
 pub split_seat-next-requires : goal.split_seat-next-requires

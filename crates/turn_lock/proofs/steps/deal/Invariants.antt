@@ -1,5 +1,5 @@
 use Rattle.std.proofs.Common.{◌≡◌, ℕ, ◌<◌, ◌≤◌, [], length, Some, slice_get, vec_capacity}
-use Rattle.turn_lock.specs.Seats.{first_sight}
+use Rattle.turn_lock.specs.Seats.{new_seat}
 use Rattle.turn_lock.specs.Rule.{dealer_view}
 use Rattle.turn_lock.proofs.steps.deal.Given as goal
 
@@ -9,4 +9,4 @@ invariant-loop-number g l =
     × (l.place.me ≡ (dealer_view g.S.Standing.origin g.S.Standing.list g.S.Standing.seat_of l.about.value.value l.seats l.number, []))
     × (length l.all.items ≡ l.number)
     × (l.seats ≤ vec_capacity l.all)
-    × ((k : ℕ) → k < l.number → slice_get l.all.items k ≡ Some (first_sight g.S.Standing.origin g.S.Standing.list g.S.Standing.seat_of l.top.table_id l.about.value.value l.seats k))
+    × ((k : ℕ) → k < l.number → slice_get l.all.items k ≡ Some (new_seat g.S.Standing.origin g.S.Standing.list g.S.Standing.seat_of l.top.table_id l.about.value.value l.seats k))

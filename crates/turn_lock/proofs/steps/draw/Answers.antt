@@ -1,5 +1,5 @@
 use Rattle.std.proofs.Common.{rules}
-use Rattle.turn_lock.proofs.Seating.{draws_as}
+use Rattle.turn_lock.proofs.SeatStepsLemmas.{draws_as}
 use Rattle.turn_lock.proofs.steps.draw.Goals as goal
 
 pub compare_exchange-found-requires : goal.compare_exchange-found-requires

@@ -1,5 +1,5 @@
 use Rattle.std.proofs.Common.{rules, None}
-use Rattle.turn_lock.proofs.Turning.{gives_turn_as}
+use Rattle.turn_lock.proofs.TurnStepsLemmas.{gives_turn_as}
 use Rattle.turn_lock.proofs.steps.give_back.Goals as goal
 
 pub store-requires : goal.store-requires

@@ -1,6 +1,6 @@
 use Rattle.std.proofs.Common.{rules, ap, ◌∙◌}
-use Rattle.turn_lock.proofs.Turning.{compares}
-use Rattle.turn_lock.proofs.Seating.{joins}
+use Rattle.turn_lock.proofs.TurnStepsLemmas.{compares}
+use Rattle.turn_lock.proofs.SeatStepsLemmas.{joins}
 use Rattle.turn_lock.proofs.steps.join.Goals as goal
 
 pub join_seat-requires : goal.join_seat-requires

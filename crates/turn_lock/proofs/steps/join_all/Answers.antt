@@ -1,8 +1,8 @@
 use Rattle.std.proofs.Common.{rules, ap, sym, ◌∙◌, ◌++◌, ◌≡◌, true≢false, All, subst, arith}
 use Rattle.std.proofs.lemmas.List.Elements.{All-pop}
-use Rattle.turn_lock.specs.Rule.{WasJoined}
-use Rattle.turn_lock.proofs.Prefixes.{prefix_trans}
-use Rattle.turn_lock.proofs.Shown.{holding_after, work_after, was_joined, joined_more, none_left}
+use Rattle.turn_lock.specs.Rule.{IsJoinedTo}
+use Rattle.turn_lock.proofs.SeatsLemmas.{prefix_trans}
+use Rattle.turn_lock.proofs.TurnLemmas.{holding_after, work_after, was_joined, joined_more, none_left}
 use Rattle.turn_lock.proofs.steps.join_all.Goals as goal
 
 pub loop-other-preserved : goal.loop-other-preserved
@@ -25,4 +25,4 @@ returns-clause-begins g c =
     let inv = c.loop-other.invariant in
     let done = inv.6 in
     let empty = none_left c.loop-other.seats.items (λ some. (let n = c.in_default.ensures.cases.0 in let ok = c.loop-other.seats.ok in omega arith)) in
-    (inv.4, subst (All (WasJoined c.args.place.now.me.0.origin c.loop-other.place.me.0.seen c.loop-other.place.me.0.kin)) (sym (done.1 ∙ ap (λ l. l ++ done.0) empty)) done.2)
+    (inv.4, subst (All (IsJoinedTo c.args.place.now.me.0.origin c.loop-other.place.me.0.seen c.loop-other.place.me.0.kin)) (sym (done.1 ∙ ap (λ l. l ++ done.0) empty)) done.2)

@@ -1,5 +1,5 @@
 use Rattle.std.proofs.Common.{rules, Some}
-use Rattle.turn_lock.proofs.Turning.{looks, holding}
+use Rattle.turn_lock.proofs.TurnStepsLemmas.{looks, holding}
 use Rattle.turn_lock.proofs.steps.take_out.Goals as goal
 
 pub load-requires : goal.load-requires

@@ -1,5 +1,5 @@
 use Rattle.std.proofs.Common.{rules, ap, ◌∙◌}
-use Rattle.turn_lock.proofs.Turning.{takes_turn}
+use Rattle.turn_lock.proofs.TurnStepsLemmas.{takes_turn}
 use Rattle.turn_lock.proofs.steps.take_turn.Goals as goal
 
 pub compare_exchange-requires : goal.compare_exchange-requires

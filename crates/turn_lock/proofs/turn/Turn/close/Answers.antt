@@ -2,8 +2,8 @@ use Rattle.std.proofs.Common.{refl, ap, sym, ◌∙◌, ◌≡◌, subst, get_or
 use Rattle.std.specs.Prelude.{IsSome}
 use mathlib.Core.Option.{some-injective}
 use Rattle.turn_lock.specs.Seats.{Meets}
-use Rattle.turn_lock.proofs.Seating.{closes}
-use Rattle.turn_lock.proofs.Shown.{all_given, meets_first, meets_others}
+use Rattle.turn_lock.proofs.SeatStepsLemmas.{closes}
+use Rattle.turn_lock.proofs.TurnLemmas.{all_given, meets_first, meets_others}
 use Rattle.turn_lock.proofs.turn.Turn.close.Goals as goal
 
 pub unwrap-requires : goal.unwrap-requires

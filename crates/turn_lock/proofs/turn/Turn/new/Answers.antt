@@ -1,5 +1,5 @@
 use Rattle.std.proofs.Common.{rules, ap, ◌∙◌, [], ◌∷◌, ◌++◌, Some, arith, ◌≤◌}
-use Rattle.turn_lock.proofs.Seating.{opens_as}
+use Rattle.turn_lock.proofs.SeatStepsLemmas.{opens_as}
 use Rattle.turn_lock.proofs.turn.Turn.new.Goals as goal
 
 pub new-requires : goal.new-requires

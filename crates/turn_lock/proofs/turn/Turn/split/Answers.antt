@@ -1,5 +1,5 @@
 use Rattle.std.proofs.Common.{rules, ap}
-use Rattle.turn_lock.proofs.Seating.{splits_as}
+use Rattle.turn_lock.proofs.SeatStepsLemmas.{splits_as}
 use Rattle.turn_lock.proofs.turn.Turn.split.Goals as goal
 
 pub split_seat-requires : goal.split_seat-requires

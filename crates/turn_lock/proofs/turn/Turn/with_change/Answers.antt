@@ -1,6 +1,6 @@
 use Rattle.std.proofs.Common.{rules, refl, ap, sym, ◌∙◌, ◌++◌, Some}
-use Rattle.turn_lock.specs.Seats.{by_seat, sees}
-use Rattle.turn_lock.proofs.Shown.{seat_meets, seat_changed, adds_mine, takes_at, gives_at, shows_number, same_number}
+use Rattle.turn_lock.specs.Seats.{by_seat, seat_after}
+use Rattle.turn_lock.proofs.TurnLemmas.{seat_meets, seat_changed, adds_mine, takes_at, gives_at, shows_number, same_number}
 use Rattle.turn_lock.proofs.turn.Turn.with_change.Goals as goal
 
 pub f-answer-requires : goal.f-answer-requires
@@ -52,5 +52,5 @@ returns g c =
       gives,
       adds.1,
       seat_changed c.args.seat.now c.seat.inside.badge.table_id _ c.seat.inside.badge.views _ c.into_seat-place.result.me.0 _ _ _ _ _ (g.S.Standing.list c.f-answer.new.arg2) _ c.seat.view_is only took out (ap (λ m. m.0) c.store_length.ensures.1) (ap (λ m. m.0) c.give_back.ensures.1) c.into_badge.ensures.2 (search rules)
-          ∙ ap (sees c.args.seat.now (g.S.Standing.list c.f-answer.new.arg2)) (ap (λ n. by_seat g.S.Standing.seat_of n (g.S.Standing.list c.f-answer.new.arg2)) same ∙ adds_mine g.S.Standing.origin g.S.Standing.list g.S.Standing.seat_of c.args.seat.now.number c.take_out-value.result adds.0 c.args.seat.now.mine c.f-answer.new.arg2 meets.2 adds.1),
+          ∙ ap (seat_after c.args.seat.now (g.S.Standing.list c.f-answer.new.arg2)) (ap (λ n. by_seat g.S.Standing.seat_of n (g.S.Standing.list c.f-answer.new.arg2)) same ∙ adds_mine g.S.Standing.origin g.S.Standing.list g.S.Standing.seat_of c.args.seat.now.number c.take_out-value.result adds.0 c.args.seat.now.mine c.f-answer.new.arg2 meets.2 adds.1),
     )

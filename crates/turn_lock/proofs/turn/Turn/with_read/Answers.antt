@@ -1,5 +1,5 @@
 use Rattle.std.proofs.Common.{rules, ap, sym, ◌∙◌}
-use Rattle.turn_lock.proofs.Shown.{seat_meets, seat_read}
+use Rattle.turn_lock.proofs.TurnLemmas.{seat_meets, seat_read}
 use Rattle.turn_lock.proofs.turn.Turn.with_read.Goals as goal
 
 pub returns : goal.returns

@@ -10,46 +10,46 @@ use lib.ListN.{get_elem?}
 use prog.Atomic.{either}
 use Rattle.atomic_table.specs.Table.{Me, step, keeps, stepped, Allows, Splits, Joins, opening, Final, Seen}
 use Rattle.atomic_table.proofs.Lists.{at_set, at_longer, set_here, set_else}
-use Rattle.turn_lock.specs.declared.rule.Doing.{Doing}
+use Rattle.turn_lock.specs.declared.rule.View.{View}
 use Rattle.turn_lock.specs.declared.rule.Stage.{Stage}
 use Rattle.turn_lock.specs.declared.rule.Stage.TheVariants.{Away, Holds, Out}
 use Rattle.turn_lock.specs.Seats.{by_seat, Meets}
-use Rattle.turn_lock.specs.Rule.{Reserves, IsKin, AtHome, FitsStage, Fits, Differ, Kept, first_view, dealer_view, spent_view, left_view, right_view, joined_view, no_turn, sight_of, drew, after_try}
-use Rattle.turn_lock.proofs.Prefixes.{prefix_self, prefix_nil, longer_either, shorter_either, by_seat-prefix, by_seat-below}
-use Rattle.turn_lock.proofs.Keeps.{fits_set, differ_set, fits_end, differ_end, refit_same, away_stage, differ_as, at_less, at_append, differ_two}
+use Rattle.turn_lock.specs.Rule.{Reserves, IsKin, HoldsOfPlace, HoldsOfStage, HoldsOfView, Differ, HoldsOfTurn, first_view, dealer_view, spent_view, left_view, right_view, joined_view, no_turn, seat_value, DrawsNumber, IsAfterTry}
+use Rattle.turn_lock.proofs.SeatsLemmas.{prefix_self, prefix_nil, longer_either, shorter_either, by_seat-prefix, by_seat-below}
+use Rattle.turn_lock.proofs.RuleLemmas.{each_view_set, differ_set, each_view_end, differ_end, view_stays_same, away_stage, differ_as, at_less, at_append, differ_two}
 
 module _ {S O E : Type 0} where
-  kept_views : (m me : Me (Option S) (Doing O E)) → after_try m me → (me.0.living ≡ m.0.living) × (me.0.stage ≡ m.0.stage)
+  kept_views : (m me : Me (Option S) (View O E)) → IsAfterTry m me → (me.0.living ≡ m.0.living) × (me.0.stage ≡ m.0.stage)
   kept_views m me tried =
       ⊎_elim
-      (λ (same : me ≡ m). (ap (λ (x : Me (Option S) (Doing O E)). x.0.living) same, ap (λ (x : Me (Option S) (Doing O E)). x.0.stage) same))
-      (λ (t : (k : ℕ) × (me ≡ (record m.0 { alone = false; counted = k }, m.1)) × (m.0.counted ≤ k)). (ap (λ (x : Me (Option S) (Doing O E)). x.0.living) t.1, ap (λ (x : Me (Option S) (Doing O E)). x.0.stage) t.1))
+      (λ (same : me ≡ m). (ap (λ (x : Me (Option S) (View O E)). x.0.living) same, ap (λ (x : Me (Option S) (View O E)). x.0.stage) same))
+      (λ (t : (k : ℕ) × (me ≡ (record m.0 { alone = false; numbers = k }, m.1)) × (m.0.numbers ≤ k)). (ap (λ (x : Me (Option S) (View O E)). x.0.living) t.1, ap (λ (x : Me (Option S) (View O E)). x.0.stage) t.1))
       tried
 
 module _ {S O E : Type 0} (origin : S → O) (list : S → List E) (seat_of : E → ℕ) where
   -- a stage other than `Out` does not read what the seat has seen
-  reads_nothing : (turn holder : ℕ) (lent : Bool) (log : List E) (j : ℕ) (seen now : List E) (stage : Stage) → stage ≢ Out → FitsStage turn holder lent log j seen stage → FitsStage turn holder lent log j now stage
+  reads_nothing : (turn holder : ℕ) (lent : Bool) (log : List E) (j : ℕ) (seen now : List E) (stage : Stage) → stage ≢ Out → HoldsOfStage turn holder lent log j seen stage → HoldsOfStage turn holder lent log j now stage
   reads_nothing turn holder lent log j seen now Away apart f = tt
   reads_nothing turn holder lent log j seen now Holds apart f = f
   reads_nothing turn holder lent log j seen now Out apart f = absurd (apart refl)
 
   -- a seat draws the next number, or sees how many are drawn
-  pub draws : (slots id old : ℕ) (me : Me (Option S) (Doing O E)) → me.0.living ≡ true → me.0.stage ≡ Away → old < 4294967295
-      → Allows (Kept origin list seat_of) slots id me 2 (λ n. either (eqb n old) (old + 1) n) (drew seat_of (step slots 2 old (old + 1) none) me)
+  pub draws : (slots id old : ℕ) (me : Me (Option S) (View O E)) → me.0.living ≡ true → me.0.stage ≡ Away → old < 4294967295
+      → Allows (HoldsOfTurn origin list seat_of) slots id me 2 (λ n. either (eqb n old) (old + 1) n) (DrawsNumber seat_of (step slots 2 old (old + 1) none) me)
   draws slots id old me live away room s r _ at _ =
       let x : ℕ = get_or s.words 2 0 in
       let is : x ≡ r.seats = ap (λ ws. get_or ws 2 0) r.words in
-      let f = r.fits id me.0 at live in
-      let counts : me.0.counted ≤ r.seats = f.counts in
+      let f = r.each_view id me.0 at live in
+      let counts : me.0.numbers ≤ r.seats = f.counts in
       let number : me.0.number < r.seats = f.drawn in
       let few : r.seats ≤ 4294967295 = r.few in
       dite (ℕ_discrete x old)
       (λ (hit : x ≡ old).
-      let w : Doing O E = record me.0 { alone = false; counted = x + 1; from = x; to = x + 1 } in
+      let w : View O E = record me.0 { alone = false; numbers = x + 1; from = x; to = x + 1 } in
       let now : r.seats ≡ old = sym is ∙ hit in
       let none_yet : by_seat seat_of x r.log ≡ [] = r.undrawn x (omega arith) in
       let none_seen : by_seat seat_of x me.0.seen ≡ [] = by_seat-prefix seat_of x me.0.seen r.log f.begins none_yet in
-      let kept : Kept origin list seat_of (stepped s 2 (old + 1) id me.1 w keeps) = record {
+      let kept : HoldsOfTurn origin list seat_of (stepped s 2 (old + 1) id me.1 w keeps) = record {
         o = r.o;
         log = r.log;
         turn = r.turn;
@@ -62,9 +62,9 @@ module _ {S O E : Type 0} (origin : S → O) (list : S → List E) (seat_of : E 
         home = r.home;
         free = r.free;
         held = λ one. let h = r.held one in
-            (h.0, set_else s.views id r.holder w (λ (same : r.holder ≡ id). h.3 (let e : h.0 ≡ me.0 = some-injective h.0 me.0 (sym h.1 ∙ (ap (get_elem? s.views) same ∙ at)) in ap (λ (v : Doing O E). v.stage) e ∙ away)) ∙ h.1, h.2, h.3);
+            (h.0, set_else s.views id r.holder w (λ (same : r.holder ≡ id). h.3 (let e : h.0 ≡ me.0 = some-injective h.0 me.0 (sym h.1 ∙ (ap (get_elem? s.views) same ∙ at)) in ap (λ (v : View O E). v.stage) e ∙ away)) ∙ h.1, h.2, h.3);
         undrawn = λ n above. r.undrawn n (omega arith);
-        fits = fits_set (Fits seat_of r.o r.log (old + 1) r.turn r.holder r.lent) s.views id w
+        each_view = each_view_set (HoldsOfView seat_of r.o r.log (old + 1) r.turn r.holder r.lent) s.views id w
             (λ _. record {
               same_origin = f.same_origin;
               begins = f.begins;
@@ -80,11 +80,11 @@ module _ {S O E : Type 0} (origin : S → O) (list : S → List E) (seat_of : E 
               kin = λ k h. let b = f.kin k h in let below : k.0 < r.seats = b.0 in (omega arith, b.1, (λ v. (let a : x ≤ k.0 = v.0 in absurd (omega arith))), b.3);
               no_clash = f.no_clash;
             })
-            (λ j d apart there lives. let g = r.fits j d there lives in
-            refit_same seat_of r.o r.log r.seats (old + 1) r.turn r.turn r.holder r.holder r.lent r.lent j d g (omega arith) g.stage);
+            (λ j d apart there lives. let g = r.each_view j d there lives in
+            view_stays_same seat_of r.o r.log r.seats (old + 1) r.turn r.turn r.holder r.holder r.lent r.lent j d g (omega arith) g.stage);
         differ = differ_set Differ s.views id w
             (λ j e apart there lives _.
-            let g = r.fits j e there lives in
+            let g = r.each_view j e there lives in
             let below : e.number < r.seats = g.drawn in
             let one = r.differ id j me.0 e (λ h. apart (sym h)) at there live lives in
             let two = r.differ j id e me.0 apart there at lives live in (
@@ -108,12 +108,12 @@ module _ {S O E : Type 0} (origin : S → O) (list : S → List E) (seat_of : E 
         w,
         keeps,
         tt,
-        subst (λ (b : Bool). Kept origin list seat_of (stepped s 2 (either b (old + 1) x) id me.1 w keeps)) (sym (eq-eqb x old hit)) kept,
+        subst (λ (b : Bool). HoldsOfTurn origin list seat_of (stepped s 2 (either b (old + 1) x) id me.1 w keeps)) (sym (eq-eqb x old hit)) kept,
         rw (eq-eqb x old hit) (refl, none_seen, omega arith),
       ))
       (λ (miss : x ≢ old).
-      let w : Doing O E = record me.0 { alone = false; counted = x } in
-      let kept : Kept origin list seat_of (stepped s 2 x id me.1 w keeps) = record {
+      let w : View O E = record me.0 { alone = false; numbers = x } in
+      let kept : HoldsOfTurn origin list seat_of (stepped s 2 x id me.1 w keeps) = record {
         o = r.o;
         log = r.log;
         turn = r.turn;
@@ -126,33 +126,33 @@ module _ {S O E : Type 0} (origin : S → O) (list : S → List E) (seat_of : E 
         home = r.home;
         free = r.free;
         held = λ one. let h = r.held one in
-            (h.0, set_else s.views id r.holder w (λ (same : r.holder ≡ id). h.3 (let e : h.0 ≡ me.0 = some-injective h.0 me.0 (sym h.1 ∙ (ap (get_elem? s.views) same ∙ at)) in ap (λ (v : Doing O E). v.stage) e ∙ away)) ∙ h.1, h.2, h.3);
+            (h.0, set_else s.views id r.holder w (λ (same : r.holder ≡ id). h.3 (let e : h.0 ≡ me.0 = some-injective h.0 me.0 (sym h.1 ∙ (ap (get_elem? s.views) same ∙ at)) in ap (λ (v : View O E). v.stage) e ∙ away)) ∙ h.1, h.2, h.3);
         undrawn = r.undrawn;
-        fits = fits_set (Fits seat_of r.o r.log r.seats r.turn r.holder r.lent) s.views id w
+        each_view = each_view_set (HoldsOfView seat_of r.o r.log r.seats r.turn r.holder r.lent) s.views id w
             (λ _. record { same_origin = f.same_origin; begins = f.begins; own = f.own; drawn = f.drawn; counts = omega arith; stage = f.stage; kept_back = f.kept_back; current = λ h. absurd (true≢false (sym h)); told = f.told; told_same = f.told_same; kin = f.kin; no_clash = f.no_clash })
-            (λ j d apart there lives. r.fits j d there lives);
+            (λ j d apart there lives. r.each_view j d there lives);
         differ = differ_as s.views id me.0 w at live refl (λ _ h. h) (λ _ h. h) (λ h. absurd (true≢false (sym h))) r.differ;
       } in (
         w,
         keeps,
         tt,
-        subst (λ (b : Bool). Kept origin list seat_of (stepped s 2 (either b (old + 1) x) id me.1 w keeps)) (sym (ne_eqb x old miss)) kept,
+        subst (λ (b : Bool). HoldsOfTurn origin list seat_of (stepped s 2 (either b (old + 1) x) id me.1 w keeps)) (sym (ne_eqb x old miss)) kept,
         rw (ne_eqb x old miss) (refl, omega arith, omega arith),
       ))
 
   -- the list of views while a seat is split off
-  pub splits : (id : ℕ) (d : Doing O E) → d.living ≡ true → d.stage ≡ Away → d.from < d.to → Splits (Kept origin list seat_of) id d (left_view d) (right_view seat_of d)
+  pub splits : (id : ℕ) (d : View O E) → d.living ≡ true → d.stage ≡ Away → d.from < d.to → Splits (HoldsOfTurn origin list seat_of) id d (left_view d) (right_view seat_of d)
   splits id d live away some_kept s r at =
-      let f = r.fits id d at live in
-      let l : Doing O E = left_view d in
-      let n : Doing O E = right_view seat_of d in
-      let vs : List (Doing O E) = set s.views id l in
+      let f = r.each_view id d at live in
+      let l : View O E = left_view d in
+      let n : View O E = right_view seat_of d in
+      let vs : List (View O E) = set s.views id l in
       let first = f.kept_back d.from (omega arith, some_kept) in
-      let old_fits : (j : ℕ) (e : Doing O E) → get_elem? vs j ≡ some e → e.living ≡ true → Fits seat_of r.o r.log r.seats r.turn r.holder r.lent j e =
-      fits_set (Fits seat_of r.o r.log r.seats r.turn r.holder r.lent) s.views id l
+      let old_fits : (j : ℕ) (e : View O E) → get_elem? vs j ≡ some e → e.living ≡ true → HoldsOfView seat_of r.o r.log r.seats r.turn r.holder r.lent j e =
+      each_view_set (HoldsOfView seat_of r.o r.log r.seats r.turn r.holder r.lent) s.views id l
       (λ _. record { same_origin = f.same_origin; begins = f.begins; own = f.own; drawn = f.drawn; counts = f.counts; stage = f.stage; kept_back = λ n k. (let a : d.to ≤ n = k.0 in let b : n < d.to = k.1 in absurd (omega arith)); current = λ h. absurd (true≢false (sym h)); told = f.told; told_same = f.told_same; kin = λ k h. (let b = f.kin k h in (b.0, b.1, (λ v. (let x : d.to ≤ k.0 = v.0 in let y : k.0 < d.to = v.1 in omega arith)), b.3)); no_clash = f.no_clash })
-      (λ j e _ there lives. r.fits j e there lives) in
-      let old_differ : (i j : ℕ) (x y : Doing O E) → i ≢ j → get_elem? vs i ≡ some x → get_elem? vs j ≡ some y → x.living ≡ true → y.living ≡ true → Differ x y =
+      (λ j e _ there lives. r.each_view j e there lives) in
+      let old_differ : (i j : ℕ) (x y : View O E) → i ≢ j → get_elem? vs i ≡ some x → get_elem? vs j ≡ some y → x.living ≡ true → y.living ≡ true → Differ x y =
       differ_as s.views id d l at live refl (λ n k. (let a : d.to ≤ n = k.0 in let b : n < d.to = k.1 in absurd (omega arith))) (λ _ h. h) (λ h. absurd (true≢false (sym h))) r.differ in
       record {
         o = r.o;
@@ -167,10 +167,10 @@ module _ {S O E : Type 0} (origin : S → O) (list : S → List E) (seat_of : E 
         home = r.home;
         free = r.free;
         held = λ one. let h = r.held one in
-            let apart : r.holder ≢ id = λ same. h.3 (let e : h.0 ≡ d = some-injective h.0 d (sym h.1 ∙ (ap (get_elem? s.views) same ∙ at)) in ap (λ (v : Doing O E). v.stage) e ∙ away) in
+            let apart : r.holder ≢ id = λ same. h.3 (let e : h.0 ≡ d = some-injective h.0 d (sym h.1 ∙ (ap (get_elem? s.views) same ∙ at)) in ap (λ (v : View O E). v.stage) e ∙ away) in
             (h.0, at_longer vs (n ∷ []) r.holder h.0 (set_else s.views id r.holder l apart ∙ h.1), h.2, h.3);
         undrawn = r.undrawn;
-        fits = fits_end (Fits seat_of r.o r.log r.seats r.turn r.holder r.lent) vs n
+        each_view = each_view_end (HoldsOfView seat_of r.o r.log r.seats r.turn r.holder r.lent) vs n
             record {
               same_origin = f.same_origin;
               begins = f.begins;
@@ -189,7 +189,7 @@ module _ {S O E : Type 0} (origin : S → O) (list : S → List E) (seat_of : E 
         differ = differ_end Differ vs n
             (λ j e there lives.
             ⊎_elim
-            (λ (t : (j ≡ id) × (l ≡ e)). subst (λ (v : Doing O E). Differ n v × Differ v n) t.1 (
+            (λ (t : (j ≡ id) × (l ≡ e)). subst (λ (v : View O E). Differ n v × Differ v n) t.1 (
               record {
                 numbers = λ h. first.1 h;
                 kept_back = λ m k h. (let a : d.from + 1 ≤ m = k.0 in (f.kept_back m (omega arith, k.1)).1 h);
@@ -234,7 +234,7 @@ module _ {S O E : Type 0} (origin : S → O) (list : S → List E) (seat_of : E 
   neither false false p q = refl
 
   -- who was joined to two seats that are now one
-  kin_joined : (d e : Doing O E) (k : ℕ × List E) → IsKin (joined_view d e) k → (k ≡ (e.number, e.mine)) ⊎ (IsKin e k ⊎ IsKin d k)
+  kin_joined : (d e : View O E) (k : ℕ × List E) → IsKin (joined_view d e) k → (k ≡ (e.number, e.mine)) ⊎ (IsKin e k ⊎ IsKin d k)
   kin_joined d e k h = at_first h.0 h.1
     where
       at_first : (i : ℕ) → get_elem? ((e.number, e.mine) ∷ (e.kin ++ d.kin)) i ≡ some k → (k ≡ (e.number, e.mine)) ⊎ (IsKin e k ⊎ IsKin d k)
@@ -242,18 +242,18 @@ module _ {S O E : Type 0} (origin : S → O) (list : S → List E) (seat_of : E 
       at_first (suc i) at = inr (at_append e.kin d.kin i k at)
 
   -- a seat takes in another, which is spent
-  pub joins : (id : ℕ) (d : Doing O E) (other : ℕ) (e : Doing O E) → d.living ≡ true → d.stage ≢ Out → e.living ≡ true → e.stage ≡ Away → Joins (Kept origin list seat_of) id d other e (joined_view d e) spent_view
+  pub joins : (id : ℕ) (d : View O E) (other : ℕ) (e : View O E) → d.living ≡ true → d.stage ≢ Out → e.living ≡ true → e.stage ≡ Away → Joins (HoldsOfTurn origin list seat_of) id d other e (joined_view d e) spent_view
   joins id d other e live not_out live_e away s r at apart there =
-      let f = r.fits id d at live in
-      let both : Doing O E = joined_view d e in
-      let vs : List (Doing O E) = set s.views id both in
+      let f = r.each_view id d at live in
+      let both : View O E = joined_view d e in
+      let vs : List (View O E) = set s.views id both in
       let at_e : get_elem? s.views other ≡ some e = sym (set_else s.views id other both apart) ∙ there in
-      let g = r.fits other e at_e live_e in
+      let g = r.each_view other e at_e live_e in
       let one = r.differ id other d e (λ h. apart (sym h)) at at_e live live_e in
       let two = r.differ other id e d apart at_e at live_e live in
       let unreserved : (n : ℕ) → Reserves both n → ⊥ = λ n k. (let a : d.to ≤ n = k.0 in let b : n < d.to = k.1 in omega arith) in
-      let vs_fits : (j : ℕ) (v : Doing O E) → get_elem? vs j ≡ some v → v.living ≡ true → Fits seat_of r.o r.log r.seats r.turn r.holder r.lent j v =
-      fits_set (Fits seat_of r.o r.log r.seats r.turn r.holder r.lent) s.views id both
+      let vs_fits : (j : ℕ) (v : View O E) → get_elem? vs j ≡ some v → v.living ≡ true → HoldsOfView seat_of r.o r.log r.seats r.turn r.holder r.lent j v =
+      each_view_set (HoldsOfView seat_of r.o r.log r.seats r.turn r.holder r.lent) s.views id both
       (λ _. record {
         same_origin = f.same_origin;
         begins = longer_either (λ l. IsPrefix l r.log) d.seen e.seen f.begins g.begins;
@@ -276,7 +276,7 @@ module _ {S O E : Type 0} (origin : S → O) (list : S → List E) (seat_of : E 
             (kin_joined d e k h);
         no_clash = neither d.alone e.alone one.not_alone two.not_alone;
       })
-      (λ j v _ in_it lives. r.fits j v in_it lives) in
+      (λ j v _ in_it lives. r.each_view j v in_it lives) in
       record {
         o = r.o;
         log = r.log;
@@ -291,18 +291,18 @@ module _ {S O E : Type 0} (origin : S → O) (list : S → List E) (seat_of : E 
         free = r.free;
         held = λ taken.
             let h = r.held taken in
-            let not_other : r.holder ≢ other = λ same. h.3 (let e' : h.0 ≡ e = some-injective h.0 e (sym h.1 ∙ (ap (get_elem? s.views) same ∙ at_e)) in ap (λ (v : Doing O E). v.stage) e' ∙ away) in
+            let not_other : r.holder ≢ other = λ same. h.3 (let e' : h.0 ≡ e = some-injective h.0 e (sym h.1 ∙ (ap (get_elem? s.views) same ∙ at_e)) in ap (λ (v : View O E). v.stage) e' ∙ away) in
             dite (ℕ_discrete r.holder id)
             (λ (same : r.holder ≡ id).
             let e' : h.0 ≡ d = some-injective h.0 d (sym h.1 ∙ (ap (get_elem? s.views) same ∙ at)) in (
               both,
               set_else vs other r.holder spent_view not_other ∙ (ap (get_elem? vs) same ∙ set_here s.views id both (at_less s.views id d at)),
               live,
-              λ k. h.3 (ap (λ (v : Doing O E). v.stage) e' ∙ k),
+              λ k. h.3 (ap (λ (v : View O E). v.stage) e' ∙ k),
             ))
             (λ (else : r.holder ≢ id). (h.0, set_else vs other r.holder spent_view not_other ∙ (set_else s.views id r.holder both else ∙ h.1), h.2, h.3));
         undrawn = r.undrawn;
-        fits = fits_set (Fits seat_of r.o r.log r.seats r.turn r.holder r.lent) vs other spent_view (λ lives. absurd (true≢false (sym lives))) (λ j v _ in_it lives. vs_fits j v in_it lives);
+        each_view = each_view_set (HoldsOfView seat_of r.o r.log r.seats r.turn r.holder r.lent) vs other spent_view (λ lives. absurd (true≢false (sym lives))) (λ j v _ in_it lives. vs_fits j v in_it lives);
         differ = differ_two Differ s.views id other both spent_view (λ lives. true≢false (sym lives))
             (λ j v not_me not_other in_it lives _.
             let mine = r.differ id j d v (λ h. not_me (sym h)) at in_it live lives in
@@ -333,7 +333,7 @@ module _ {S O E : Type 0} (origin : S → O) (list : S → List E) (seat_of : E 
 
   -- a new turn over x, of some seats
   pub opens : (x : S) (seats : ℕ) → 0 < seats → seats ≤ 4294967295 → All (λ e. seat_of e < seats) (list x)
-      → Kept origin list seat_of (opening (0 ∷ length (list x) ∷ seats ∷ []) (Some x ∷ []) (first_view origin list seat_of x seats))
+      → HoldsOfTurn origin list seat_of (opening (0 ∷ length (list x) ∷ seats ∷ []) (Some x ∷ []) (first_view origin list seat_of x seats))
   opens x seats some_seat few below = record {
     o = origin x;
     log = list x;
@@ -348,19 +348,19 @@ module _ {S O E : Type 0} (origin : S → O) (list : S → List E) (seat_of : E 
     free = λ _. refl;
     held = λ h. absurd (omega arith);
     undrawn = λ n above. by_seat-below seat_of seats n (list x) below above;
-    fits = only;
+    each_view = only;
     differ = λ i j d e apart at_i at_j _ _. absurd (apart (first i d at_i ∙ sym (first j e at_j)));
   }
     where
-      v : Doing O E
+      v : View O E
       v = first_view origin list seat_of x seats
 
-      first : (i : ℕ) (d : Doing O E) → get_elem? (first_view origin list seat_of x seats ∷ []) i ≡ some d → i ≡ 0
+      first : (i : ℕ) (d : View O E) → get_elem? (first_view origin list seat_of x seats ∷ []) i ≡ some d → i ≡ 0
       first zero d at = refl
       first (suc i) d at = absurd (some-ne-none d (sym at))
 
-      only : (j : ℕ) (d : Doing O E) → get_elem? (first_view origin list seat_of x seats ∷ []) j ≡ some d → d.living ≡ true → Fits seat_of (origin x) (list x) seats 0 0 false j d
-      only zero d at live = subst (Fits seat_of (origin x) (list x) seats 0 0 false 0) (some-injective (first_view origin list seat_of x seats) d at) record {
+      only : (j : ℕ) (d : View O E) → get_elem? (first_view origin list seat_of x seats ∷ []) j ≡ some d → d.living ≡ true → HoldsOfView seat_of (origin x) (list x) seats 0 0 false j d
+      only zero d at live = subst (HoldsOfView seat_of (origin x) (list x) seats 0 0 false 0) (some-injective (first_view origin list seat_of x seats) d at) record {
         same_origin = refl;
         begins = prefix_self (list x);
         own = refl;
@@ -377,21 +377,21 @@ module _ {S O E : Type 0} (origin : S → O) (list : S → List E) (seat_of : E 
       only (suc j) d at live = absurd (some-ne-none d (sym at))
 
   pub opens_as : (x y : S) (seats n m len : ℕ) (slots : List (Option S)) → slots ≡ Some x ∷ [] → y ≡ x → n ≡ seats → m ≡ seats → len ≡ length (list x) → 0 < seats → seats ≤ 4294967295 → All (λ e. seat_of e < seats) (list x)
-      → Kept origin list seat_of (opening (0 ∷ len ∷ m ∷ []) slots (first_view origin list seat_of y n))
+      → HoldsOfTurn origin list seat_of (opening (0 ∷ len ∷ m ∷ []) slots (first_view origin list seat_of y n))
   opens_as x y seats n m len slots slots_are same n_is m_is len_is some_seat few below =
-      subst (λ (t : List ℕ × List (Option S) × Doing O E). Kept origin list seat_of (opening t.0 t.1 t.2))
+      subst (λ (t : List ℕ × List (Option S) × View O E). HoldsOfTurn origin list seat_of (opening t.0 t.1 t.2))
       (λ i. (0 ∷ sym len_is i ∷ sym m_is i ∷ [], sym slots_are i, first_view origin list seat_of (sym same i) (sym n_is i)))
       (opens x seats some_seat few below)
 
   -- at the end, with the turn held by a seat
-  pub closes : (id : ℕ) (d : Doing O E) (ws : List ℕ) (xs : List (Option S)) → d.living ≡ true → d.stage ≡ Holds → Final (Seen (Kept origin list seat_of) id d) ws xs
-      → (y : S) × (get_elem? xs 0 ≡ some (Some y)) × Meets origin list seat_of (sight_of no_turn d) y × ((k : ℕ × List E) → IsKin d k → by_seat seat_of k.0 (list y) ≡ k.1)
+  pub closes : (id : ℕ) (d : View O E) (ws : List ℕ) (xs : List (Option S)) → d.living ≡ true → d.stage ≡ Holds → Final (Seen (HoldsOfTurn origin list seat_of) id d) ws xs
+      → (y : S) × (get_elem? xs 0 ≡ some (Some y)) × Meets origin list seat_of (seat_value no_turn d) y × ((k : ℕ × List E) → IsKin d k → by_seat seat_of k.0 (list y) ≡ k.1)
   closes id d ws xs live holding final =
       let s = final.0 in
       let r = final.1.0 in
-      let f = r.fits id d final.1.1 live in
-      let mine : (id ≡ r.holder) × (r.turn ≡ 1) × (r.lent ≡ false) = subst (λ (t : Stage). FitsStage r.turn r.holder r.lent r.log id d.seen t) holding f.stage in
-      let home : AtHome origin list r.o r.log false s.homes = subst (λ (b : Bool). AtHome origin list r.o r.log b s.homes) mine.2 r.home in (
+      let f = r.each_view id d final.1.1 live in
+      let mine : (id ≡ r.holder) × (r.turn ≡ 1) × (r.lent ≡ false) = subst (λ (t : Stage). HoldsOfStage r.turn r.holder r.lent r.log id d.seen t) holding f.stage in
+      let home : HoldsOfPlace origin list r.o r.log false s.homes = subst (λ (b : Bool). HoldsOfPlace origin list r.o r.log b s.homes) mine.2 r.home in (
         home.0,
         final.4 0 (Some home.0) (ap (λ (hs : List (maybe.Option (Option S))). get_elem? hs 0) home.1),
         (
@@ -403,20 +403,20 @@ module _ {S O E : Type 0} (origin : S → O) (list : S → List E) (seat_of : E 
         λ k h. ap (by_seat seat_of k.0) home.3 ∙ (f.kin k h).3,
       )
 
-  pub draws_as : (slots id old : ℕ) (m me : Me (Option S) (Doing O E)) → after_try m me → m.0.living ≡ true → m.0.stage ≡ Away → old < 4294967295
-      → Allows (Kept origin list seat_of) slots id me 2 (λ n. either (eqb n old) (old + 1) n) (drew seat_of (step slots 2 old (old + 1) none) me)
+  pub draws_as : (slots id old : ℕ) (m me : Me (Option S) (View O E)) → IsAfterTry m me → m.0.living ≡ true → m.0.stage ≡ Away → old < 4294967295
+      → Allows (HoldsOfTurn origin list seat_of) slots id me 2 (λ n. either (eqb n old) (old + 1) n) (DrawsNumber seat_of (step slots 2 old (old + 1) none) me)
   draws_as slots id old m me tried live away room =
       let kept = kept_views m me tried in
       draws slots id old me (kept.0 ∙ live) (kept.1 ∙ away) room
 
   -- a seat that has just drawn n may be split
-  pub splits_as : (id n : ℕ) (d e : Doing O E) → e ≡ record d { alone = false; counted = n + 1; from = n; to = n + 1 } → d.living ≡ true → d.stage ≡ Away → Splits (Kept origin list seat_of) id e (left_view e) (right_view seat_of e)
+  pub splits_as : (id n : ℕ) (d e : View O E) → e ≡ record d { alone = false; numbers = n + 1; from = n; to = n + 1 } → d.living ≡ true → d.stage ≡ Away → Splits (HoldsOfTurn origin list seat_of) id e (left_view e) (right_view seat_of e)
   splits_as id n d e is live away =
-      subst (λ (v : Doing O E). Splits (Kept origin list seat_of) id v (left_view v) (right_view seat_of v)) (sym is)
-      (splits id record d { alone = false; counted = n + 1; from = n; to = n + 1 } live away (omega arith))
+      subst (λ (v : View O E). Splits (HoldsOfTurn origin list seat_of) id v (left_view v) (right_view seat_of v)) (sym is)
+      (splits id record d { alone = false; numbers = n + 1; from = n; to = n + 1 } live away (omega arith))
 
   -- while the seats of a new turn are dealt
-  pub splits_dealer : (id : ℕ) (x : S) (seats k : ℕ) (m : Me (Option S) (Doing O E)) → m ≡ (dealer_view origin list seat_of x seats k, []) → k + 1 < seats → Splits (Kept origin list seat_of) id m.0 (left_view m.0) (right_view seat_of m.0)
+  pub splits_dealer : (id : ℕ) (x : S) (seats k : ℕ) (m : Me (Option S) (View O E)) → m ≡ (dealer_view origin list seat_of x seats k, []) → k + 1 < seats → Splits (HoldsOfTurn origin list seat_of) id m.0 (left_view m.0) (right_view seat_of m.0)
   splits_dealer id x seats k m is more =
-      subst (λ (v : Me (Option S) (Doing O E)). Splits (Kept origin list seat_of) id v.0 (left_view v.0) (right_view seat_of v.0)) (sym is)
+      subst (λ (v : Me (Option S) (View O E)). Splits (HoldsOfTurn origin list seat_of) id v.0 (left_view v.0) (right_view seat_of v.0)) (sym is)
       (splits id (dealer_view origin list seat_of x seats k) refl refl more)

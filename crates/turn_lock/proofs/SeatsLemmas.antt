@@ -5,8 +5,8 @@ use Rattle.std.proofs.lemmas.List.Elements.{filter-append}
 use Rattle.std.proofs.Math.Dec.{ltb}
 use Rattle.std.specs.List.{All}
 use mathlib.Core.List.{IsPrefix}
-use Rattle.turn_lock.specs.Seats.{by_seat, longer}
-use Rattle.turn_lock.specs.Rule.{shorter}
+use Rattle.turn_lock.specs.Seats.{by_seat, longer_of}
+use Rattle.turn_lock.specs.Rule.{shorter_of}
 
 module _ {A : Type 0} where
   pub prefix_self : (xs : List A) → IsPrefix xs xs
@@ -38,17 +38,17 @@ module _ {A : Type 0} where
   append_empty [] ys e = refl
   append_empty (x ∷ xs) ys e = absurd (cc)
 
-  by_length : (F : List A → Type 0) (xs ys : List A) → F xs → F ys → F (longer xs ys)
+  by_length : (F : List A → Type 0) (xs ys : List A) → F xs → F ys → F (longer_of xs ys)
   by_length F xs ys p q = pick (ltb (length xs) (length ys))
     where
       pick : (b : Bool) → F (cond b ys xs)
       pick true = q
       pick false = p
 
-  pub longer_either : (F : List A → Type 0) (xs ys : List A) → F xs → F ys → F (longer xs ys)
+  pub longer_either : (F : List A → Type 0) (xs ys : List A) → F xs → F ys → F (longer_of xs ys)
   longer_either = by_length
 
-  pub shorter_either : (F : List A → Type 0) (xs ys : List A) → F xs → F ys → F (shorter xs ys)
+  pub shorter_either : (F : List A → Type 0) (xs ys : List A) → F xs → F ys → F (shorter_of xs ys)
   shorter_either F xs ys p q = by_length_other (ltb (length xs) (length ys))
     where
       by_length_other : (b : Bool) → F (cond b xs ys)

@@ -12,33 +12,33 @@ use lib.ListN.{get_elem?}
 use prog.Atomic.{either}
 use Rattle.atomic_table.specs.Table.{State, Me, step, keeps, takes, gives, stepped, put_back, rest, Allows}
 use Rattle.atomic_table.proofs.Lists.{set_again, set_here}
-use Rattle.turn_lock.specs.declared.rule.Doing.{Doing}
+use Rattle.turn_lock.specs.declared.rule.View.{View}
 use Rattle.turn_lock.specs.declared.rule.Stage.{Stage}
 use Rattle.turn_lock.specs.declared.rule.Stage.TheVariants.{Away, Holds, Out}
 use Rattle.turn_lock.specs.Seats.{by_seat}
-use Rattle.turn_lock.specs.Rule.{AtHome, FitsStage, Fits, Kept, staged, took, looked, wrote, gave_back, compared}
-use Rattle.turn_lock.proofs.Prefixes.{prefix_self, prefix_grows, prefix_shorter, by_seat-append, by_seat-other}
-use Rattle.turn_lock.proofs.Keeps.{fits_set, refit, refit_same, away_stage, other_away, free_away, differ_as, at_less, holds_away, out_away}
+use Rattle.turn_lock.specs.Rule.{HoldsOfPlace, HoldsOfStage, HoldsOfView, HoldsOfTurn, view_at, TakesTurn, ReadsHistory, StoresHistory, GivesTurnBack, ComparesSeats}
+use Rattle.turn_lock.proofs.SeatsLemmas.{prefix_self, prefix_grows, prefix_shorter, by_seat-append, by_seat-other}
+use Rattle.turn_lock.proofs.RuleLemmas.{each_view_set, view_stays, view_stays_same, away_stage, other_away, free_away, differ_as, at_less, holds_away, out_away}
 
 module _ {S O E : Type 0} (origin : S → O) (list : S → List E) (seat_of : E → ℕ) where
   -- a step that changes no word, and the view only in what the rule does not read
-  unmoved : (s : State (Option S) (Doing O E)) (r : Kept origin list seat_of s) (i id : ℕ) (c : List (ℕ × Option S)) (d : Doing O E) → get_elem? s.views id ≡ some d
-      → Kept origin list seat_of (stepped s i (get_or s.words i 0) id c d keeps)
+  unmoved : (s : State (Option S) (View O E)) (r : HoldsOfTurn origin list seat_of s) (i id : ℕ) (c : List (ℕ × Option S)) (d : View O E) → get_elem? s.views id ≡ some d
+      → HoldsOfTurn origin list seat_of (stepped s i (get_or s.words i 0) id c d keeps)
   unmoved s r i id c d at =
-      subst (λ (x : List ℕ × List (Doing O E)). Kept origin list seat_of record { words = x.0; homes = s.homes; views = x.1 })
+      subst (λ (x : List ℕ × List (View O E)). HoldsOfTurn origin list seat_of record { words = x.0; homes = s.homes; views = x.1 })
       (λ k. (sym (set-get_or s.words i 0) k, sym (set_again s.views id d at) k)) r
 
   -- the turn is taken where it is free, and else nothing changes
-  pub takes_turn : (slots id : ℕ) (me : Me (Option S) (Doing O E)) → me.0.living ≡ true → me.0.stage ≡ Away
-      → Allows (Kept origin list seat_of) slots id me 0 (λ n. either (eqb n 0) 1 n) (took (step slots 0 0 1 none) me)
+  pub takes_turn : (slots id : ℕ) (me : Me (Option S) (View O E)) → me.0.living ≡ true → me.0.stage ≡ Away
+      → Allows (HoldsOfTurn origin list seat_of) slots id me 0 (λ n. either (eqb n 0) 1 n) (TakesTurn (step slots 0 0 1 none) me)
   takes_turn slots id me live away s r _ at _ =
       let x : ℕ = get_or s.words 0 0 in
       let is : x ≡ r.turn = ap (λ ws. get_or ws 0 0) r.words in
-      let w : Doing O E = staged Holds me.0 in
+      let w : View O E = view_at Holds me.0 in
       dite (ℕ_discrete x 0)
       (λ (hit : x ≡ 0).
       let free : r.turn ≡ 0 = sym is ∙ hit in
-      let kept : Kept origin list seat_of (stepped s 0 1 id me.1 w keeps) = record {
+      let kept : HoldsOfTurn origin list seat_of (stepped s 0 1 id me.1 w keeps) = record {
         o = r.o;
         log = r.log;
         turn = 1;
@@ -48,45 +48,45 @@ module _ {S O E : Type 0} (origin : S → O) (list : S → List E) (seat_of : E 
         words = ap (λ (ws : List ℕ). set ws 0 1) r.words;
         one = omega arith;
         few = r.few;
-        home = subst (λ (b : Bool). AtHome origin list r.o r.log b s.homes) (r.free free) r.home;
+        home = subst (λ (b : Bool). HoldsOfPlace origin list r.o r.log b s.homes) (r.free free) r.home;
         free = λ _. refl;
         held = λ _. (w, set_here s.views id w (at_less s.views id me.0 at), live, holds_away);
         undrawn = r.undrawn;
-        fits = fits_set (Fits seat_of r.o r.log r.seats 1 id false) s.views id w
-            (λ _. let f = r.fits id me.0 at live in record { same_origin = f.same_origin; begins = f.begins; own = f.own; drawn = f.drawn; counts = f.counts; stage = (refl, refl, refl); kept_back = f.kept_back; current = f.current; told = f.told; told_same = f.told_same; kin = f.kin; no_clash = f.no_clash })
-            (λ j d _ there lives. let f = r.fits j d there lives in
-            refit_same seat_of r.o r.log r.seats r.seats r.turn 1 r.holder id r.lent false j d f (omega arith)
+        each_view = each_view_set (HoldsOfView seat_of r.o r.log r.seats 1 id false) s.views id w
+            (λ _. let f = r.each_view id me.0 at live in record { same_origin = f.same_origin; begins = f.begins; own = f.own; drawn = f.drawn; counts = f.counts; stage = (refl, refl, refl); kept_back = f.kept_back; current = f.current; told = f.told; told_same = f.told_same; kin = f.kin; no_clash = f.no_clash })
+            (λ j d _ there lives. let f = r.each_view j d there lives in
+            view_stays_same seat_of r.o r.log r.seats r.seats r.turn 1 r.holder id r.lent false j d f (omega arith)
             (away_stage 1 id false r.log j d.seen d.stage (free_away r.turn r.holder r.lent r.log j d.seen d.stage f.stage free)));
         differ = differ_as s.views id me.0 w at live refl (λ _ h. h) (λ _ h. h) (λ h. h) r.differ;
       } in (
         w,
         keeps,
         tt,
-        subst (λ (b : Bool). Kept origin list seat_of (stepped s 0 (either b 1 x) id me.1 w keeps)) (sym (eq-eqb x 0 hit)) kept,
+        subst (λ (b : Bool). HoldsOfTurn origin list seat_of (stepped s 0 (either b 1 x) id me.1 w keeps)) (sym (eq-eqb x 0 hit)) kept,
         rw (eq-eqb x 0 hit) refl,
       ))
       (λ (miss : x ≢ 0). (
         me.0,
         keeps,
         tt,
-        subst (λ (b : Bool). Kept origin list seat_of (stepped s 0 (either b 1 x) id me.1 me.0 keeps)) (sym (ne_eqb x 0 miss)) (unmoved s r 0 id me.1 me.0 at),
+        subst (λ (b : Bool). HoldsOfTurn origin list seat_of (stepped s 0 (either b 1 x) id me.1 me.0 keeps)) (sym (ne_eqb x 0 miss)) (unmoved s r 0 id me.1 me.0 at),
         rw (ne_eqb x 0 miss) refl,
       ))
 
   -- while the holder holds the turn, the others are away
-  others_away : (s : State (Option S) (Doing O E)) (r : Kept origin list seat_of s) (id j : ℕ) (d : Doing O E) → id ≡ r.holder → j ≢ id → get_elem? s.views j ≡ some d → d.living ≡ true → d.stage ≡ Away
-  others_away s r id j d mine apart at live = other_away r.turn r.holder r.lent r.log j d.seen d.stage (r.fits j d at live).stage (λ h. apart (h ∙ sym mine))
+  others_away : (s : State (Option S) (View O E)) (r : HoldsOfTurn origin list seat_of s) (id j : ℕ) (d : View O E) → id ≡ r.holder → j ≢ id → get_elem? s.views j ≡ some d → d.living ≡ true → d.stage ≡ Away
+  others_away s r id j d mine apart at live = other_away r.turn r.holder r.lent r.log j d.seen d.stage (r.each_view j d at live).stage (λ h. apart (h ∙ sym mine))
 
   -- the holder reads the history's word, and the value is lent to it
-  pub looks : (slots id : ℕ) (me : Me (Option S) (Doing O E)) → me.0.living ≡ true → me.0.stage ≡ Holds
-      → Allows (Kept origin list seat_of) slots id me 1 (λ n. n) (looked origin list seat_of (step slots 1 0 0 none) me)
+  pub looks : (slots id : ℕ) (me : Me (Option S) (View O E)) → me.0.living ≡ true → me.0.stage ≡ Holds
+      → Allows (HoldsOfTurn origin list seat_of) slots id me 1 (λ n. n) (ReadsHistory origin list seat_of (step slots 1 0 0 none) me)
   looks slots id me live holding s r _ at _ =
-      let f = r.fits id me.0 at live in
-      let mine : (id ≡ r.holder) × (r.turn ≡ 1) × (r.lent ≡ false) = subst (λ (t : Stage). FitsStage r.turn r.holder r.lent r.log id me.0.seen t) holding f.stage in
-      let home : AtHome origin list r.o r.log false s.homes = subst (λ (b : Bool). AtHome origin list r.o r.log b s.homes) mine.2 r.home in
+      let f = r.each_view id me.0 at live in
+      let mine : (id ≡ r.holder) × (r.turn ≡ 1) × (r.lent ≡ false) = subst (λ (t : Stage). HoldsOfStage r.turn r.holder r.lent r.log id me.0.seen t) holding f.stage in
+      let home : HoldsOfPlace origin list r.o r.log false s.homes = subst (λ (b : Bool). HoldsOfPlace origin list r.o r.log b s.homes) mine.2 r.home in
       let y : S = home.0 in
       let same : list y ≡ r.log = home.3 in
-      let w : Doing O E = record me.0 { stage = Out; seen = list y } in (
+      let w : View O E = record me.0 { stage = Out; seen = list y } in (
         w,
         takes 0 (Some y),
         ap (λ (hs : List (maybe.Option (Option S))). get_elem? hs 0) home.1,
@@ -104,7 +104,7 @@ module _ {S O E : Type 0} (origin : S → O) (list : S → List E) (seat_of : E 
           free = λ z. (let one : r.turn ≡ 1 = mine.1 in absurd (omega arith));
           held = λ _. (w, subst (λ (k : ℕ). get_elem? (set s.views id w) k ≡ some w) mine.0 (set_here s.views id w (at_less s.views id me.0 at)), live, out_away);
           undrawn = r.undrawn;
-          fits = fits_set (Fits seat_of r.o r.log r.seats r.turn r.holder true) s.views id w
+          each_view = each_view_set (HoldsOfView seat_of r.o r.log r.seats r.turn r.holder true) s.views id w
               (λ _. record {
                 same_origin = f.same_origin;
                 begins = subst (λ (l : List E). IsPrefix l r.log) (sym same) (prefix_self r.log);
@@ -119,8 +119,8 @@ module _ {S O E : Type 0} (origin : S → O) (list : S → List E) (seat_of : E 
                 kin = f.kin;
                 no_clash = f.no_clash;
               })
-              (λ j d apart there lives. let g = r.fits j d there lives in
-              refit_same seat_of r.o r.log r.seats r.seats r.turn r.turn r.holder r.holder r.lent true j d g (omega arith)
+              (λ j d apart there lives. let g = r.each_view j d there lives in
+              view_stays_same seat_of r.o r.log r.seats r.seats r.turn r.turn r.holder r.holder r.lent true j d g (omega arith)
               (away_stage r.turn r.holder true r.log j d.seen d.stage (others_away s r id j d mine.0 apart there lives)));
           differ = differ_as s.views id me.0 w at live refl (λ _ h. h) (λ _ h. h) (λ h. h) r.differ;
         },
@@ -137,13 +137,13 @@ module _ {S O E : Type 0} (origin : S → O) (list : S → List E) (seat_of : E 
       )
 
   -- the holder stores the length of the list that its value now stands for
-  pub writes : (slots id new : ℕ) (me : Me (Option S) (Doing O E)) (now added : List E) → me.0.living ≡ true → me.0.stage ≡ Out → now ≡ me.0.seen ++ added → All (λ e. seat_of e ≡ me.0.number) added → new ≡ length now
-      → Allows (Kept origin list seat_of) slots id me 1 (λ _. new) (λ _. wrote now seat_of (step slots 1 new 0 none) me new)
+  pub writes : (slots id new : ℕ) (me : Me (Option S) (View O E)) (now added : List E) → me.0.living ≡ true → me.0.stage ≡ Out → now ≡ me.0.seen ++ added → All (λ e. seat_of e ≡ me.0.number) added → new ≡ length now
+      → Allows (HoldsOfTurn origin list seat_of) slots id me 1 (λ _. new) (λ _. StoresHistory now seat_of (step slots 1 new 0 none) me new)
   writes slots id new me now added live out grown own_all is_length s r _ at _ =
-      let f = r.fits id me.0 at live in
-      let mine : (id ≡ r.holder) × (r.turn ≡ 1) × (r.lent ≡ true) × (me.0.seen ≡ r.log) = subst (λ (t : Stage). FitsStage r.turn r.holder r.lent r.log id me.0.seen t) out f.stage in
+      let f = r.each_view id me.0 at live in
+      let mine : (id ≡ r.holder) × (r.turn ≡ 1) × (r.lent ≡ true) × (me.0.seen ≡ r.log) = subst (λ (t : Stage). HoldsOfStage r.turn r.holder r.lent r.log id me.0.seen t) out f.stage in
       let grows : now ≡ r.log ++ added = grown ∙ ap (λ (l : List E). l ++ added) mine.3 in
-      let w : Doing O E = record me.0 { seen = now; mine = by_seat seat_of me.0.number now } in
+      let w : View O E = record me.0 { seen = now; mine = by_seat seat_of me.0.number now } in
       let number : me.0.number < r.seats = f.drawn in
       let of : (n : ℕ) → n ≢ me.0.number → by_seat seat_of n now ≡ by_seat seat_of n r.log =
       λ n apart. ap (by_seat seat_of n) grows ∙ (by_seat-append seat_of n r.log added ∙ (ap (λ l. by_seat seat_of n r.log ++ l) (by_seat-other seat_of me.0.number n added own_all apart) ∙ append-nil (by_seat seat_of n r.log))) in (
@@ -160,18 +160,18 @@ module _ {S O E : Type 0} (origin : S → O) (list : S → List E) (seat_of : E 
           words = ap (λ (ws : List ℕ). set ws 1 new) r.words ∙ ap (λ (n : ℕ). r.turn ∷ n ∷ r.seats ∷ []) is_length;
           one = r.one;
           few = r.few;
-          home = subst (λ (b : Bool). AtHome origin list r.o now b s.homes) (sym mine.2) (subst (λ (b : Bool). AtHome origin list r.o r.log b s.homes) mine.2 r.home);
+          home = subst (λ (b : Bool). HoldsOfPlace origin list r.o now b s.homes) (sym mine.2) (subst (λ (b : Bool). HoldsOfPlace origin list r.o r.log b s.homes) mine.2 r.home);
           free = r.free;
           held = λ _. (w, subst (λ (k : ℕ). get_elem? (set s.views id w) k ≡ some w) mine.0 (set_here s.views id w (at_less s.views id me.0 at)), live, λ h. out_away (sym out ∙ h));
           undrawn = λ n above. of n (λ h. omega arith) ∙ r.undrawn n above;
-          fits = fits_set (Fits seat_of r.o now r.seats r.turn r.holder r.lent) s.views id w
+          each_view = each_view_set (HoldsOfView seat_of r.o now r.seats r.turn r.holder r.lent) s.views id w
               (λ _. record {
                 same_origin = f.same_origin;
                 begins = prefix_self now;
                 own = refl;
                 drawn = f.drawn;
                 counts = f.counts;
-                stage = subst (λ (t : Stage). FitsStage r.turn r.holder r.lent now id now t) (sym out) (mine.0, mine.1, mine.2, refl);
+                stage = subst (λ (t : Stage). HoldsOfStage r.turn r.holder r.lent now id now t) (sym out) (mine.0, mine.1, mine.2, refl);
                 kept_back = λ n k. let b = f.kept_back n k in (b.0, b.1, refl);
                 current = λ _. refl;
                 told = prefix_grows me.0.told r.log added now f.told grows;
@@ -179,8 +179,8 @@ module _ {S O E : Type 0} (origin : S → O) (list : S → List E) (seat_of : E 
                 kin = λ k h. let b = f.kin k h in (b.0, b.1, b.2, of k.0 b.1 ∙ b.3);
                 no_clash = f.no_clash;
               })
-              (λ j d apart there lives. let g = r.fits j d there lives in let other = r.differ j id d me.0 apart there at lives live in
-              refit seat_of r.o r.log now added r.seats r.seats r.turn r.turn r.holder r.holder r.lent r.lent j d g grows (omega arith)
+              (λ j d apart there lives. let g = r.each_view j d there lives in let other = r.differ j id d me.0 apart there at lives live in
+              view_stays seat_of r.o r.log now added r.seats r.seats r.turn r.turn r.holder r.holder r.lent r.lent j d g grows (omega arith)
               (by_seat-other seat_of me.0.number d.number added own_all other.numbers)
               (λ n k. by_seat-other seat_of me.0.number n added own_all (other.kept_back n k))
               (λ k h. by_seat-other seat_of me.0.number k.0 added own_all (other.kin k h).0)
@@ -192,13 +192,13 @@ module _ {S O E : Type 0} (origin : S → O) (list : S → List E) (seat_of : E 
       )
 
   -- the holder gives the turn back, and the value with it
-  pub gives_turn : (slots id : ℕ) (me : Me (Option S) (Doing O E)) (y : S) → me.0.living ≡ true → me.0.stage ≡ Out → me.1 ≡ (0, Some y) ∷ [] → me.0.origin ≡ Some (origin y) → list y ≡ me.0.seen
-      → Allows (Kept origin list seat_of) slots id me 0 (λ _. 0) (λ _. gave_back (step slots 0 0 0 none) me 0)
+  pub gives_turn : (slots id : ℕ) (me : Me (Option S) (View O E)) (y : S) → me.0.living ≡ true → me.0.stage ≡ Out → me.1 ≡ (0, Some y) ∷ [] → me.0.origin ≡ Some (origin y) → list y ≡ me.0.seen
+      → Allows (HoldsOfTurn origin list seat_of) slots id me 0 (λ _. 0) (λ _. GivesTurnBack (step slots 0 0 0 none) me 0)
   gives_turn slots id me y live out carried from_o same s r _ at _ =
-      let f = r.fits id me.0 at live in
-      let mine : (id ≡ r.holder) × (r.turn ≡ 1) × (r.lent ≡ true) × (me.0.seen ≡ r.log) = subst (λ (t : Stage). FitsStage r.turn r.holder r.lent r.log id me.0.seen t) out f.stage in
-      let home : s.homes ≡ none ∷ [] = subst (λ (b : Bool). AtHome origin list r.o r.log b s.homes) mine.2 r.home in
-      let w : Doing O E = staged Away me.0 in
+      let f = r.each_view id me.0 at live in
+      let mine : (id ≡ r.holder) × (r.turn ≡ 1) × (r.lent ≡ true) × (me.0.seen ≡ r.log) = subst (λ (t : Stage). HoldsOfStage r.turn r.holder r.lent r.log id me.0.seen t) out f.stage in
+      let home : s.homes ≡ none ∷ [] = subst (λ (b : Bool). HoldsOfPlace origin list r.o r.log b s.homes) mine.2 r.home in
+      let w : View O E = view_at Away me.0 in
       let o_is : origin y ≡ r.o = cc (from_o, f.same_origin) in (
         w,
         gives,
@@ -222,10 +222,10 @@ module _ {S O E : Type 0} (origin : S → O) (list : S → List E) (seat_of : E 
           free = λ _. refl;
           held = λ z. absurd (omega arith);
           undrawn = r.undrawn;
-          fits = fits_set (Fits seat_of r.o r.log r.seats 0 r.holder false) s.views id w
+          each_view = each_view_set (HoldsOfView seat_of r.o r.log r.seats 0 r.holder false) s.views id w
               (λ _. record { same_origin = f.same_origin; begins = f.begins; own = f.own; drawn = f.drawn; counts = f.counts; stage = tt; kept_back = f.kept_back; current = f.current; told = f.told; told_same = f.told_same; kin = f.kin; no_clash = f.no_clash })
-              (λ j d apart there lives. let g = r.fits j d there lives in
-              refit_same seat_of r.o r.log r.seats r.seats r.turn 0 r.holder r.holder r.lent false j d g (omega arith)
+              (λ j d apart there lives. let g = r.each_view j d there lives in
+              view_stays_same seat_of r.o r.log r.seats r.seats r.turn 0 r.holder r.holder r.lent false j d g (omega arith)
               (away_stage 0 r.holder false r.log j d.seen d.stage (others_away s r id j d mine.0 apart there lives)));
           differ = differ_as s.views id me.0 w at live refl (λ _ h. h) (λ _ h. h) (λ h. h) r.differ;
         },
@@ -233,10 +233,10 @@ module _ {S O E : Type 0} (origin : S → O) (list : S → List E) (seat_of : E 
       )
 
   -- a seat compares the two lists that it was told of
-  pub compares : (slots id : ℕ) (me : Me (Option S) (Doing O E)) → me.0.living ≡ true
-      → Allows (Kept origin list seat_of) slots id me 1 (λ n. n) (compared (step slots 1 0 0 none) me)
+  pub compares : (slots id : ℕ) (me : Me (Option S) (View O E)) → me.0.living ≡ true
+      → Allows (HoldsOfTurn origin list seat_of) slots id me 1 (λ n. n) (ComparesSeats (step slots 1 0 0 none) me)
   compares slots id me live s r _ at _ =
-      let f = r.fits id me.0 at live in (
+      let f = r.each_view id me.0 at live in (
         me.0,
         keeps,
         tt,
@@ -245,13 +245,13 @@ module _ {S O E : Type 0} (origin : S → O) (list : S → List E) (seat_of : E 
       )
 
   -- the same steps, at a view that is known by an equation
-  pub gives_turn_as : (slots id : ℕ) (me : Me (Option S) (Doing O E)) (d : Doing O E) (c : List (ℕ × Option S)) (x : ℕ × Option S) (y : S) → c ≡ x ∷ [] → me ≡ (d, (0, Some y) ∷ rest c) → d.living ≡ true → d.stage ≡ Out → d.origin ≡ Some (origin y) → list y ≡ d.seen
-      → Allows (Kept origin list seat_of) slots id me 0 (λ _. 0) (λ _. gave_back (step slots 0 0 0 none) me 0)
+  pub gives_turn_as : (slots id : ℕ) (me : Me (Option S) (View O E)) (d : View O E) (c : List (ℕ × Option S)) (x : ℕ × Option S) (y : S) → c ≡ x ∷ [] → me ≡ (d, (0, Some y) ∷ rest c) → d.living ≡ true → d.stage ≡ Out → d.origin ≡ Some (origin y) → list y ≡ d.seen
+      → Allows (HoldsOfTurn origin list seat_of) slots id me 0 (λ _. 0) (λ _. GivesTurnBack (step slots 0 0 0 none) me 0)
   gives_turn_as slots id me d c x y carried is live out from_o same =
       let is' : me ≡ (d, (0, Some y) ∷ []) = is ∙ ap (λ (l : List (ℕ × Option S)). (d, (0, Some y) ∷ rest l)) carried in
-      gives_turn slots id me y (ap (λ (m : Me (Option S) (Doing O E)). m.0.living) is' ∙ live) (ap (λ (m : Me (Option S) (Doing O E)). m.0.stage) is' ∙ out) (ap (λ (m : Me (Option S) (Doing O E)). m.1) is') (ap (λ (m : Me (Option S) (Doing O E)). m.0.origin) is' ∙ from_o) (same ∙ sym (ap (λ (m : Me (Option S) (Doing O E)). m.0.seen) is'))
+      gives_turn slots id me y (ap (λ (m : Me (Option S) (View O E)). m.0.living) is' ∙ live) (ap (λ (m : Me (Option S) (View O E)). m.0.stage) is' ∙ out) (ap (λ (m : Me (Option S) (View O E)). m.1) is') (ap (λ (m : Me (Option S) (View O E)). m.0.origin) is' ∙ from_o) (same ∙ sym (ap (λ (m : Me (Option S) (View O E)). m.0.seen) is'))
 
 module _ {S O E : Type 0} where
   -- a seat that took a slot holds it
-  pub holding : (me : Me (Option S) (Doing O E)) (d : Doing O E) (k : ℕ) (x : Option S) (c : List (ℕ × Option S)) → me ≡ (d, (k, x) ∷ c) → me.1 ≡ (k, x) ∷ rest me.1
-  holding me d k x c e = subst (λ (m : Me (Option S) (Doing O E)). m.1 ≡ (k, x) ∷ rest m.1) (sym e) refl
+  pub holding : (me : Me (Option S) (View O E)) (d : View O E) (k : ℕ) (x : Option S) (c : List (ℕ × Option S)) → me ≡ (d, (k, x) ∷ c) → me.1 ≡ (k, x) ∷ rest me.1
+  holding me d k x c e = subst (λ (m : Me (Option S) (View O E)). m.1 ≡ (k, x) ∷ rest m.1) (sym e) refl
