@@ -5,11 +5,13 @@ use mathlib.Core.Option.{some, some-injective, some-ne-none}
 use lib.ListN.{get_elem?}
 use Rattle.atomic_table.proofs.Lists.{at_set}
 use Rattle.turn_lock.specs.declared.rule.View.{View}
+use Rattle.turn_lock.specs.declared.rule.Kin.{Kin}
 use Rattle.turn_lock.specs.declared.rule.Stage.{Stage}
 use Rattle.turn_lock.specs.declared.rule.Stage.TheVariants.{Away, Holds, Out}
 use Rattle.turn_lock.specs.Seats.{by_seat}
-use Rattle.turn_lock.specs.Rule.{HoldsOfStage, IsKin, Reserves, HoldsOfView, Differ}
-use Rattle.turn_lock.proofs.SeatsLemmas.{prefix_grows, by_seat-append}
+use mathlib.Core.List.{IsPrefix}
+use Rattle.turn_lock.specs.Rule.{HoldsOfStage, IsKin, Reserves, HoldsOfKin, HoldsOfView, Differ}
+use Rattle.turn_lock.proofs.SeatsLemmas.{prefix_grows, prefix_trans, by_seat-append}
 
 module _ {A : Type 0} where
   -- the two cases of a new view at the end of the list
@@ -119,7 +121,7 @@ module _ {O E : Type 0} where
   module _ (seat_of : E → ℕ) where
     -- a view still fits where the list has grown by entries of other seats
     pub view_stays : (o : O) (log log' added : List E) (seats seats' turn turn' holder holder' : ℕ) (lent lent' : Bool) (j : ℕ) (d : (View O E)) → HoldsOfView seat_of o log seats turn holder lent j d
-        → log' ≡ log ++ added → seats ≤ seats' → by_seat seat_of d.number added ≡ [] → ((n : ℕ) → Reserves d n → by_seat seat_of n added ≡ []) → ((k : ℕ × List E) → IsKin d k → by_seat seat_of k.0 added ≡ []) → (d.alone ≡ true → log' ≡ log)
+        → log' ≡ log ++ added → seats ≤ seats' → by_seat seat_of d.number added ≡ [] → ((n : ℕ) → Reserves d n → by_seat seat_of n added ≡ []) → ((k : Kin O E) → IsKin d k → by_seat seat_of k.number added ≡ []) → (d.alone ≡ true → log' ≡ log)
         → HoldsOfStage turn' holder' lent' log' j d.seen d.stage → HoldsOfView seat_of o log' seats' turn' holder' lent' j d
     view_stays o log log' added seats seats' turn turn' holder holder' lent lent' j d f grown more none_own none_kept none_kin same stage =
         let number : d.number < seats = f.drawn in
@@ -130,14 +132,18 @@ module _ {O E : Type 0} where
           same_origin = f.same_origin;
           begins = prefix_grows d.seen log added log' f.begins grown;
           own = of d.number none_own ∙ f.own;
+          own_seen = f.own_seen;
           drawn = omega arith;
           counts = omega arith;
           stage = stage;
           kept_back = λ n r. (let below : n < seats = (f.kept_back n r).0 in omega arith, (f.kept_back n r).1, of n (none_kept n r) ∙ (f.kept_back n r).2);
           current = λ alone. f.current alone ∙ sym (same alone);
-          told = prefix_grows d.told log added log' f.told grown;
-          told_same = f.told_same;
-          kin = λ k h. (let below : k.0 < seats = (f.kin k h).0 in omega arith, (f.kin k h).1, (f.kin k h).2, of k.0 (none_kin k h) ∙ (f.kin k h).3);
+          before = f.before;
+          own_before = f.own_before;
+          kin = λ k h.
+              let b = f.kin k h in
+              let below : k.number < seats = b.0 in
+              (omega arith, b.1, b.2, record { same_origin = b.3.same_origin; begins = b.3.begins; own = of k.number (none_kin k h) ∙ b.3.own; own_seen = b.3.own_seen });
           no_clash = f.no_clash;
         }
 
@@ -147,8 +153,12 @@ module _ {O E : Type 0} where
     view_stays_same o log seats seats' turn turn' holder holder' lent lent' j d f more stage =
         view_stays o log log [] seats seats' turn turn' holder holder' lent lent' j d f (sym (append-nil log)) more refl (λ n r. refl) (λ k h. refl) (λ _. refl) stage
 
+  -- a joined seat's list still begins what its seat has seen, where that has grown
+  pub kin_grows : (seat_of : E → ℕ) (o : O) (log seen now : List E) (k : Kin O E) → IsPrefix seen now → HoldsOfKin seat_of o log seen k → HoldsOfKin seat_of o log now k
+  kin_grows seat_of o log seen now k grown h = record { same_origin = h.same_origin; begins = prefix_trans k.seen seen now h.begins grown; own = h.own; own_seen = h.own_seen }
+
   -- a new view that shows no more than the old one differs from the others as that did
-  pub left_as : (d d' e : View O E) → d'.number ≡ d.number → ((n : ℕ) → Reserves d' n → Reserves d n) → ((k : ℕ × List E) → IsKin d' k → IsKin d k) → (d'.alone ≡ true → d.alone ≡ true) → Differ d e → Differ d' e
+  pub left_as : (d d' e : View O E) → d'.number ≡ d.number → ((n : ℕ) → Reserves d' n → Reserves d n) → ((k : Kin O E) → IsKin d' k → IsKin d k) → (d'.alone ≡ true → d.alone ≡ true) → Differ d e → Differ d' e
   left_as d d' e same less kinless alone f = record {
     numbers = λ h. f.numbers (sym same ∙ h);
     kept_back = λ n r. f.kept_back n (less n r);
@@ -162,11 +172,11 @@ module _ {O E : Type 0} where
     numbers = λ h. f.numbers (h ∙ same);
     kept_back = λ n r h. f.kept_back n r (h ∙ same);
     both = λ n r q. f.both n r (less n q);
-    kin = λ k h. ((λ q. (f.kin k h).0 (q ∙ same)), (λ r. (f.kin k h).1 (less k.0 r)));
+    kin = λ k h. ((λ q. (f.kin k h).0 (q ∙ same)), (λ r. (f.kin k h).1 (less k.number r)));
     not_alone = f.not_alone;
   }
 
-  pub differ_as : (vs : List (View O E)) (me : ℕ) (d w : View O E) → get_elem? vs me ≡ some d → d.living ≡ true → w.number ≡ d.number → ((n : ℕ) → Reserves w n → Reserves d n) → ((k : ℕ × List E) → IsKin w k → IsKin d k) → (w.alone ≡ true → d.alone ≡ true)
+  pub differ_as : (vs : List (View O E)) (me : ℕ) (d w : View O E) → get_elem? vs me ≡ some d → d.living ≡ true → w.number ≡ d.number → ((n : ℕ) → Reserves w n → Reserves d n) → ((k : Kin O E) → IsKin w k → IsKin d k) → (w.alone ≡ true → d.alone ≡ true)
       → ((i j : ℕ) (x y : View O E) → i ≢ j → get_elem? vs i ≡ some x → get_elem? vs j ≡ some y → x.living ≡ true → y.living ≡ true → Differ x y)
       → (i j : ℕ) (x y : View O E) → i ≢ j → get_elem? (set vs me w) i ≡ some x → get_elem? (set vs me w) j ≡ some y → x.living ≡ true → y.living ≡ true → Differ x y
   differ_as vs me d w at live same less kinless alone old =

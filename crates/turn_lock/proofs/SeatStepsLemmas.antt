@@ -11,12 +11,13 @@ use prog.Atomic.{either}
 use Rattle.atomic_table.specs.Table.{Me, step, keeps, stepped, Allows, Splits, Joins, opening, Final, Seen}
 use Rattle.atomic_table.proofs.Lists.{at_set, at_longer, set_here, set_else}
 use Rattle.turn_lock.specs.declared.rule.View.{View}
+use Rattle.turn_lock.specs.declared.rule.Kin.{Kin}
 use Rattle.turn_lock.specs.declared.rule.Stage.{Stage}
 use Rattle.turn_lock.specs.declared.rule.Stage.TheVariants.{Away, Holds, Out}
-use Rattle.turn_lock.specs.Seats.{by_seat, Meets}
-use Rattle.turn_lock.specs.Rule.{Reserves, IsKin, HoldsOfPlace, HoldsOfStage, HoldsOfView, Differ, HoldsOfTurn, first_view, dealer_view, spent_view, left_view, right_view, joined_view, no_turn, seat_value, DrawsNumber, IsAfterTry}
-use Rattle.turn_lock.proofs.SeatsLemmas.{prefix_self, prefix_nil, longer_either, shorter_either, by_seat-prefix, by_seat-below}
-use Rattle.turn_lock.proofs.RuleLemmas.{each_view_set, differ_set, each_view_end, differ_end, view_stays_same, away_stage, differ_as, at_less, at_append, differ_two}
+use Rattle.turn_lock.specs.Seats.{by_seat, KnowsOwn, Meets}
+use Rattle.turn_lock.specs.Rule.{Reserves, IsKin, HoldsOfKin, kin_of, HoldsOfPlace, HoldsOfStage, HoldsOfView, Differ, HoldsOfTurn, first_view, dealer_view, spent_view, left_view, right_view, joined_view, no_turn, seat_value, DrawsNumber, ComparesSeats, IsAfterTry}
+use Rattle.turn_lock.proofs.SeatsLemmas.{prefix_self, prefix_trans, longer_either, prefix_longer, by_seat-prefix, by_seat-between, by_seat-below}
+use Rattle.turn_lock.proofs.RuleLemmas.{kin_grows, each_view_set, differ_set, each_view_end, differ_end, view_stays_same, away_stage, differ_as, at_less, at_append, differ_two}
 
 module _ {S O E : Type 0} where
   kept_views : (m me : Me (Option S) (View O E)) → IsAfterTry m me → (me.0.living ≡ m.0.living) × (me.0.stage ≡ m.0.stage)
@@ -45,7 +46,7 @@ module _ {S O E : Type 0} (origin : S → O) (list : S → List E) (seat_of : E 
       let few : r.seats ≤ 4294967295 = r.few in
       dite (ℕ_discrete x old)
       (λ (hit : x ≡ old).
-      let w : View O E = record me.0 { alone = false; numbers = x + 1; from = x; to = x + 1 } in
+      let w : View O E = record me.0 { alone = false; numbers = x + 1; draws = me.0.draws + 1; from = x; to = x + 1 } in
       let now : r.seats ≡ old = sym is ∙ hit in
       let none_yet : by_seat seat_of x r.log ≡ [] = r.undrawn x (omega arith) in
       let none_seen : by_seat seat_of x me.0.seen ≡ [] = by_seat-prefix seat_of x me.0.seen r.log f.begins none_yet in
@@ -69,15 +70,16 @@ module _ {S O E : Type 0} (origin : S → O) (list : S → List E) (seat_of : E 
               same_origin = f.same_origin;
               begins = f.begins;
               own = f.own;
+              own_seen = f.own_seen;
               drawn = omega arith;
               counts = omega arith;
               stage = f.stage;
               kept_back = λ n k. let e : n ≡ x = (let a : x ≤ n = k.0 in let b : n < x + 1 = k.1 in omega arith) in
                   (omega arith, (λ h. omega arith), subst (λ (m : ℕ). by_seat seat_of m r.log ≡ by_seat seat_of m me.0.seen) (sym e) (none_yet ∙ sym none_seen));
               current = λ h. absurd (true≢false (sym h));
-              told = f.told;
-              told_same = f.told_same;
-              kin = λ k h. let b = f.kin k h in let below : k.0 < r.seats = b.0 in (omega arith, b.1, (λ v. (let a : x ≤ k.0 = v.0 in absurd (omega arith))), b.3);
+              before = f.before;
+              own_before = f.own_before;
+              kin = λ k h. let b = f.kin k h in let below : k.number < r.seats = b.0 in (omega arith, b.1, (λ v. (let a : x ≤ k.number = v.0 in absurd (omega arith))), b.3);
               no_clash = f.no_clash;
             })
             (λ j d apart there lives. let g = r.each_view j d there lives in
@@ -99,7 +101,7 @@ module _ {S O E : Type 0} (origin : S → O) (list : S → List E) (seat_of : E 
                 numbers = two.numbers;
                 kept_back = two.kept_back;
                 both = λ n q k. (let a : x ≤ n = k.0 in let b : n < r.seats = (g.kept_back n q).0 in absurd (omega arith));
-                kin = λ k h. ((two.kin k h).0, (λ v. (let a : x ≤ k.0 = v.0 in let b : k.0 < r.seats = (g.kin k h).0 in omega arith)));
+                kin = λ k h. ((two.kin k h).0, (λ v. (let a : x ≤ k.number = v.0 in let b : k.number < r.seats = (g.kin k h).0 in omega arith)));
                 not_alone = two.not_alone;
               },
             ))
@@ -109,7 +111,7 @@ module _ {S O E : Type 0} (origin : S → O) (list : S → List E) (seat_of : E 
         keeps,
         tt,
         subst (λ (b : Bool). HoldsOfTurn origin list seat_of (stepped s 2 (either b (old + 1) x) id me.1 w keeps)) (sym (eq-eqb x old hit)) kept,
-        rw (eq-eqb x old hit) (refl, none_seen, omega arith),
+        (rw (eq-eqb x old hit) (refl, none_seen, omega arith), f.own_seen),
       ))
       (λ (miss : x ≢ old).
       let w : View O E = record me.0 { alone = false; numbers = x } in
@@ -129,7 +131,7 @@ module _ {S O E : Type 0} (origin : S → O) (list : S → List E) (seat_of : E 
             (h.0, set_else s.views id r.holder w (λ (same : r.holder ≡ id). h.3 (let e : h.0 ≡ me.0 = some-injective h.0 me.0 (sym h.1 ∙ (ap (get_elem? s.views) same ∙ at)) in ap (λ (v : View O E). v.stage) e ∙ away)) ∙ h.1, h.2, h.3);
         undrawn = r.undrawn;
         each_view = each_view_set (HoldsOfView seat_of r.o r.log r.seats r.turn r.holder r.lent) s.views id w
-            (λ _. record { same_origin = f.same_origin; begins = f.begins; own = f.own; drawn = f.drawn; counts = omega arith; stage = f.stage; kept_back = f.kept_back; current = λ h. absurd (true≢false (sym h)); told = f.told; told_same = f.told_same; kin = f.kin; no_clash = f.no_clash })
+            (λ _. record { same_origin = f.same_origin; begins = f.begins; own = f.own; own_seen = f.own_seen; drawn = f.drawn; counts = omega arith; stage = f.stage; kept_back = f.kept_back; current = λ h. absurd (true≢false (sym h)); before = f.before; own_before = f.own_before; kin = f.kin; no_clash = f.no_clash })
             (λ j d apart there lives. r.each_view j d there lives);
         differ = differ_as s.views id me.0 w at live refl (λ _ h. h) (λ _ h. h) (λ h. absurd (true≢false (sym h))) r.differ;
       } in (
@@ -137,7 +139,7 @@ module _ {S O E : Type 0} (origin : S → O) (list : S → List E) (seat_of : E 
         keeps,
         tt,
         subst (λ (b : Bool). HoldsOfTurn origin list seat_of (stepped s 2 (either b (old + 1) x) id me.1 w keeps)) (sym (ne_eqb x old miss)) kept,
-        rw (ne_eqb x old miss) (refl, omega arith, omega arith),
+        (rw (ne_eqb x old miss) (refl, omega arith, omega arith), f.own_seen),
       ))
 
   -- the list of views while a seat is split off
@@ -150,7 +152,7 @@ module _ {S O E : Type 0} (origin : S → O) (list : S → List E) (seat_of : E 
       let first = f.kept_back d.from (omega arith, some_kept) in
       let old_fits : (j : ℕ) (e : View O E) → get_elem? vs j ≡ some e → e.living ≡ true → HoldsOfView seat_of r.o r.log r.seats r.turn r.holder r.lent j e =
       each_view_set (HoldsOfView seat_of r.o r.log r.seats r.turn r.holder r.lent) s.views id l
-      (λ _. record { same_origin = f.same_origin; begins = f.begins; own = f.own; drawn = f.drawn; counts = f.counts; stage = f.stage; kept_back = λ n k. (let a : d.to ≤ n = k.0 in let b : n < d.to = k.1 in absurd (omega arith)); current = λ h. absurd (true≢false (sym h)); told = f.told; told_same = f.told_same; kin = λ k h. (let b = f.kin k h in (b.0, b.1, (λ v. (let x : d.to ≤ k.0 = v.0 in let y : k.0 < d.to = v.1 in omega arith)), b.3)); no_clash = f.no_clash })
+      (λ _. record { same_origin = f.same_origin; begins = f.begins; own = f.own; own_seen = f.own_seen; drawn = f.drawn; counts = f.counts; stage = f.stage; kept_back = λ n k. (let a : d.to ≤ n = k.0 in let b : n < d.to = k.1 in absurd (omega arith)); current = λ h. absurd (true≢false (sym h)); before = f.before; own_before = f.own_before; kin = λ k h. (let b = f.kin k h in (b.0, b.1, (λ v. (let x : d.to ≤ k.number = v.0 in let y : k.number < d.to = v.1 in omega arith)), b.3)); no_clash = f.no_clash })
       (λ j e _ there lives. r.each_view j e there lives) in
       let old_differ : (i j : ℕ) (x y : View O E) → i ≢ j → get_elem? vs i ≡ some x → get_elem? vs j ≡ some y → x.living ≡ true → y.living ≡ true → Differ x y =
       differ_as s.views id d l at live refl (λ n k. (let a : d.to ≤ n = k.0 in let b : n < d.to = k.1 in absurd (omega arith))) (λ _ h. h) (λ h. absurd (true≢false (sym h))) r.differ in
@@ -175,13 +177,14 @@ module _ {S O E : Type 0} (origin : S → O) (list : S → List E) (seat_of : E 
               same_origin = f.same_origin;
               begins = f.begins;
               own = first.2;
+              own_seen = refl;
               drawn = first.0;
               counts = f.counts;
               stage = away_stage r.turn r.holder r.lent r.log (length vs) d.seen d.stage away;
               kept_back = λ m k. let a : d.from + 1 ≤ m = k.0 in let b = f.kept_back m (omega arith, k.1) in (b.0, (λ h. omega arith), b.2);
               current = λ h. absurd (true≢false (sym h));
-              told = f.told;
-              told_same = f.told_same;
+              before = prefix_self d.seen;
+              own_before = refl;
               kin = λ k h. absurd (some-ne-none k (sym h.1));
               no_clash = f.no_clash;
             }
@@ -201,7 +204,7 @@ module _ {S O E : Type 0} (origin : S → O) (list : S → List E) (seat_of : E 
                 numbers = λ h. first.1 (sym h);
                 kept_back = λ m k h. (let a : d.to ≤ m = k.0 in let b : m < d.to = k.1 in omega arith);
                 both = λ m k q. (let a : d.to ≤ m = k.0 in let b : m < d.to = k.1 in omega arith);
-                kin = λ k h. ((λ q. (f.kin k h).2 (let e' : k.0 ≡ d.from = q in (omega arith, omega arith))), (λ v. (f.kin k h).2 (let a : d.from + 1 ≤ k.0 = v.0 in (omega arith, v.1))));
+                kin = λ k h. ((λ q. (f.kin k h).2 (let e' : k.number ≡ d.from = q in (omega arith, omega arith))), (λ v. (f.kin k h).2 (let a : d.from + 1 ≤ k.number = v.0 in (omega arith, v.1))));
                 not_alone = λ h. absurd (true≢false (sym h));
               },
             ))
@@ -219,7 +222,7 @@ module _ {S O E : Type 0} (origin : S → O) (list : S → List E) (seat_of : E 
                 numbers = λ h. one.kept_back d.from (omega arith, some_kept) (sym h);
                 kept_back = λ m k h. two.both m k (let e' : m ≡ d.from = h in (omega arith, omega arith));
                 both = λ m k q. two.both m k (let a : d.from + 1 ≤ m = q.0 in (omega arith, q.1));
-                kin = λ k h. ((λ q. (two.kin k h).1 (let e' : k.0 ≡ d.from = q in (omega arith, omega arith))), (λ v. (two.kin k h).1 (let a : d.from + 1 ≤ k.0 = v.0 in (omega arith, v.1))));
+                kin = λ k h. ((λ q. (two.kin k h).1 (let e' : k.number ≡ d.from = q in (omega arith, omega arith))), (λ v. (two.kin k h).1 (let a : d.from + 1 ≤ k.number = v.0 in (omega arith, v.1))));
                 not_alone = two.not_alone;
               },
             ))
@@ -234,11 +237,11 @@ module _ {S O E : Type 0} (origin : S → O) (list : S → List E) (seat_of : E 
   neither false false p q = refl
 
   -- who was joined to two seats that are now one
-  kin_joined : (d e : View O E) (k : ℕ × List E) → IsKin (joined_view d e) k → (k ≡ (e.number, e.mine)) ⊎ (IsKin e k ⊎ IsKin d k)
+  kin_joined : (d e : View O E) (k : Kin O E) → IsKin (joined_view d e) k → (k ≡ kin_of e) ⊎ (IsKin e k ⊎ IsKin d k)
   kin_joined d e k h = at_first h.0 h.1
     where
-      at_first : (i : ℕ) → get_elem? ((e.number, e.mine) ∷ (e.kin ++ d.kin)) i ≡ some k → (k ≡ (e.number, e.mine)) ⊎ (IsKin e k ⊎ IsKin d k)
-      at_first zero at = inl (sym (some-injective (e.number, e.mine) k at))
+      at_first : (i : ℕ) → get_elem? (kin_of e ∷ (e.kin ++ d.kin)) i ≡ some k → (k ≡ kin_of e) ⊎ (IsKin e k ⊎ IsKin d k)
+      at_first zero at = inl (sym (some-injective (kin_of e) k at))
       at_first (suc i) at = inr (at_append e.kin d.kin i k at)
 
   -- a seat takes in another, which is spent
@@ -252,26 +255,30 @@ module _ {S O E : Type 0} (origin : S → O) (list : S → List E) (seat_of : E 
       let one = r.differ id other d e (λ h. apart (sym h)) at at_e live live_e in
       let two = r.differ other id e d apart at_e at live_e live in
       let unreserved : (n : ℕ) → Reserves both n → ⊥ = λ n k. (let a : d.to ≤ n = k.0 in let b : n < d.to = k.1 in omega arith) in
-      let vs_fits : (j : ℕ) (v : View O E) → get_elem? vs j ≡ some v → v.living ≡ true → HoldsOfView seat_of r.o r.log r.seats r.turn r.holder r.lent j v =
+      let grows = prefix_longer d.seen e.seen r.log f.begins g.begins in
+      let seen_begins : IsPrefix both.seen r.log = longer_either (λ l. IsPrefix l r.log) d.seen e.seen f.begins g.begins in
+      let vs_views : (j : ℕ) (v : View O E) → get_elem? vs j ≡ some v → v.living ≡ true → HoldsOfView seat_of r.o r.log r.seats r.turn r.holder r.lent j v =
       each_view_set (HoldsOfView seat_of r.o r.log r.seats r.turn r.holder r.lent) s.views id both
       (λ _. record {
         same_origin = f.same_origin;
-        begins = longer_either (λ l. IsPrefix l r.log) d.seen e.seen f.begins g.begins;
+        begins = seen_begins;
         own = f.own;
+        own_seen = by_seat-between seat_of d.number d.seen both.seen r.log d.mine grows.0 seen_begins f.own_seen f.own;
         drawn = f.drawn;
         counts = f.counts;
         stage = reads_nothing r.turn r.holder r.lent r.log id d.seen both.seen d.stage not_out f.stage;
         kept_back = λ n k. (let a : d.to ≤ n = k.0 in let b : n < d.to = k.1 in absurd (omega arith));
         current = λ h. absurd (true≢false (sym h));
-        told = shorter_either (λ l. IsPrefix l r.log) d.seen e.seen f.begins g.begins;
-        told_same = g.same_origin;
+        before = grows.0;
+        own_before = f.own_seen;
         kin = λ k h.
             ⊎_elim
-            (λ (t : k ≡ (e.number, e.mine)). subst (λ (c : ℕ × List E). (c.0 < r.seats) × (c.0 ≢ d.number) × (Reserves both c.0 → ⊥) × (by_seat seat_of c.0 r.log ≡ c.1)) (sym t) (g.drawn, two.numbers, unreserved e.number, g.own))
+            (λ (t : k ≡ kin_of e). subst (λ (c : Kin O E). (c.number < r.seats) × (c.number ≢ d.number) × (Reserves both c.number → ⊥) × HoldsOfKin seat_of r.o r.log both.seen c) (sym t)
+            (g.drawn, two.numbers, unreserved e.number, record { same_origin = g.same_origin; begins = grows.1; own = g.own; own_seen = g.own_seen }))
             (λ (t : IsKin e k ⊎ IsKin d k).
             ⊎_elim
-            (λ (u : IsKin e k). let b = g.kin k u in (b.0, (two.kin k u).0, unreserved k.0, b.3))
-            (λ (u : IsKin d k). let b = f.kin k u in (b.0, b.1, unreserved k.0, b.3))
+            (λ (u : IsKin e k). let b = g.kin k u in (b.0, (two.kin k u).0, unreserved k.number, kin_grows seat_of r.o r.log e.seen both.seen k grows.1 b.3))
+            (λ (u : IsKin d k). let b = f.kin k u in (b.0, b.1, unreserved k.number, kin_grows seat_of r.o r.log d.seen both.seen k grows.0 b.3))
             t)
             (kin_joined d e k h);
         no_clash = neither d.alone e.alone one.not_alone two.not_alone;
@@ -302,7 +309,7 @@ module _ {S O E : Type 0} (origin : S → O) (list : S → List E) (seat_of : E 
             ))
             (λ (else : r.holder ≢ id). (h.0, set_else vs other r.holder spent_view not_other ∙ (set_else s.views id r.holder both else ∙ h.1), h.2, h.3));
         undrawn = r.undrawn;
-        each_view = each_view_set (HoldsOfView seat_of r.o r.log r.seats r.turn r.holder r.lent) vs other spent_view (λ lives. absurd (true≢false (sym lives))) (λ j v _ in_it lives. vs_fits j v in_it lives);
+        each_view = each_view_set (HoldsOfView seat_of r.o r.log r.seats r.turn r.holder r.lent) vs other spent_view (λ lives. absurd (true≢false (sym lives))) (λ j v _ in_it lives. vs_views j v in_it lives);
         differ = differ_two Differ s.views id other both spent_view (λ lives. true≢false (sym lives))
             (λ j v not_me not_other in_it lives _.
             let mine = r.differ id j d v (λ h. not_me (sym h)) at in_it live lives in
@@ -315,7 +322,7 @@ module _ {S O E : Type 0} (origin : S → O) (list : S → List E) (seat_of : E 
                 both = λ n k. absurd (unreserved n k);
                 kin = λ k h.
                     ⊎_elim
-                    (λ (t : k ≡ (e.number, e.mine)). subst (λ (c : ℕ × List E). (c.0 ≢ v.number) × (Reserves v c.0 → ⊥)) (sym t) (its.numbers, λ q. to_it.kept_back e.number q refl))
+                    (λ (t : k ≡ kin_of e). subst (λ (c : Kin O E). (c.number ≢ v.number) × (Reserves v c.number → ⊥)) (sym t) (its.numbers, λ q. to_it.kept_back e.number q refl))
                     (λ (t : IsKin e k ⊎ IsKin d k). ⊎_elim (λ (u : IsKin e k). its.kin k u) (λ (u : IsKin d k). mine.kin k u) t)
                     (kin_joined d e k h);
                 not_alone = λ h. absurd (true≢false (sym h));
@@ -324,12 +331,35 @@ module _ {S O E : Type 0} (origin : S → O) (list : S → List E) (seat_of : E 
                 numbers = theirs.numbers;
                 kept_back = theirs.kept_back;
                 both = λ n q k. absurd (unreserved n k);
-                kin = λ k h. ((theirs.kin k h).0, unreserved k.0);
+                kin = λ k h. ((theirs.kin k h).0, unreserved k.number);
                 not_alone = theirs.not_alone;
               },
             ))
             r.differ;
       }
+
+  none_either : (a b : Bool) → (a || b) ≡ false → (a ≡ false) × (b ≡ false)
+  none_either true b e = absurd (true≢false e)
+  none_either false b e = (refl, e)
+
+  -- what a seat tells of the two views that it has of
+  TellsJoined : View O E → View O E → View O E → Type 0
+  TellsJoined d e v =
+      (IsPrefix d.seen v.seen × IsPrefix e.seen v.seen)
+      × (KnowsOwn seat_of (seat_value no_turn d) × KnowsOwn seat_of (seat_value no_turn e) × KnowsOwn seat_of (seat_value no_turn v))
+      × ((e.origin ≡ d.origin) × (d.alone ≡ false) × (e.alone ≡ false))
+
+  -- what a seat learns that was just joined to another
+  pub joined_tells : (d e : View O E) (c : List (ℕ × Option S)) (m m' : Me (Option S) (View O E)) → m ≡ (joined_view d e, c) → ComparesSeats seat_of (step 0 1 0 0 none) m 0 m'
+      → (IsPrefix d.seen m'.0.seen × IsPrefix e.seen m'.0.seen)
+      × (KnowsOwn seat_of (seat_value no_turn d) × KnowsOwn seat_of (seat_value no_turn e) × KnowsOwn seat_of (seat_value no_turn m'.0))
+      × ((e.origin ≡ d.origin) × (d.alone ≡ false) × (e.alone ≡ false))
+  unfolding TellsJoined
+  joined_tells d e c m m' is told =
+      let here : ComparesSeats seat_of (step 0 1 0 0 none) (joined_view d e, c) 0 m' = subst (λ (x : Me (Option S) (View O E)). ComparesSeats seat_of (step 0 1 0 0 none) x 0 m') is told in
+      let other = here.5 (kin_of e) (0, refl) in
+      let same : m'.0 ≡ joined_view d e = ap (λ (x : Me (Option S) (View O E)). x.0) here.0 in
+      subst (TellsJoined d e) (sym same) ((here.2, other.1), (here.3, other.2, here.4), (let apart = none_either d.alone e.alone here.1 in (other.0, apart.0, apart.1)))
 
   -- a new turn over x, of some seats
   pub opens : (x : S) (seats : ℕ) → 0 < seats → seats ≤ 4294967295 → All (λ e. seat_of e < seats) (list x)
@@ -364,13 +394,14 @@ module _ {S O E : Type 0} (origin : S → O) (list : S → List E) (seat_of : E 
         same_origin = refl;
         begins = prefix_self (list x);
         own = refl;
+        own_seen = refl;
         drawn = some_seat;
         counts = omega arith;
         stage = tt;
         kept_back = λ n k. let a : 1 ≤ n = k.0 in (k.1, (λ h. (let z : n ≡ 0 = h in omega arith)), refl);
         current = λ _. refl;
-        told = prefix_nil (list x);
-        told_same = refl;
+        before = prefix_self (list x);
+        own_before = refl;
         kin = λ k h. absurd (some-ne-none k (sym h.1));
         no_clash = refl;
       }
@@ -385,22 +416,26 @@ module _ {S O E : Type 0} (origin : S → O) (list : S → List E) (seat_of : E 
 
   -- at the end, with the turn held by a seat
   pub closes : (id : ℕ) (d : View O E) (ws : List ℕ) (xs : List (Option S)) → d.living ≡ true → d.stage ≡ Holds → Final (Seen (HoldsOfTurn origin list seat_of) id d) ws xs
-      → (y : S) × (get_elem? xs 0 ≡ some (Some y)) × Meets origin list seat_of (seat_value no_turn d) y × ((k : ℕ × List E) → IsKin d k → by_seat seat_of k.0 (list y) ≡ k.1)
+      → (y : S) × (get_elem? xs 0 ≡ some (Some y)) × Meets origin list seat_of (seat_value no_turn d) y × ((k : Kin O E) → IsKin d k → HoldsOfKin seat_of (origin y) (list y) (list y) k)
   closes id d ws xs live holding final =
       let s = final.0 in
       let r = final.1.0 in
       let f = r.each_view id d final.1.1 live in
       let mine : (id ≡ r.holder) × (r.turn ≡ 1) × (r.lent ≡ false) = subst (λ (t : Stage). HoldsOfStage r.turn r.holder r.lent r.log id d.seen t) holding f.stage in
-      let home : HoldsOfPlace origin list r.o r.log false s.homes = subst (λ (b : Bool). HoldsOfPlace origin list r.o r.log b s.homes) mine.2 r.home in (
+      let home : HoldsOfPlace origin list r.o r.log false s.homes = subst (λ (b : Bool). HoldsOfPlace origin list r.o r.log b s.homes) mine.2 r.home in
+      let begins : IsPrefix d.seen (list home.0) = subst (λ (l : List E). IsPrefix d.seen l) (sym home.3) f.begins in (
         home.0,
         final.4 0 (Some home.0) (ap (λ (hs : List (maybe.Option (Option S))). get_elem? hs 0) home.1),
-        (
-          f.same_origin ∙ ap Some (sym home.2),
-          subst (λ (l : List E). IsPrefix d.seen l) (sym home.3) f.begins,
-          ap (by_seat seat_of d.number) home.3 ∙ f.own,
-          λ alone. home.3 ∙ sym (f.current alone),
-        ),
-        λ k h. ap (by_seat seat_of k.0) home.3 ∙ (f.kin k h).3,
+        record {
+          same_origin = f.same_origin ∙ ap Some (sym home.2);
+          begins = begins;
+          own = ap (by_seat seat_of d.number) home.3 ∙ f.own;
+          own_seen = f.own_seen;
+          current = λ alone. home.3 ∙ sym (f.current alone);
+        },
+        λ k h.
+            let b = (f.kin k h).3 in
+            record { same_origin = b.same_origin ∙ ap Some (sym home.2); begins = prefix_trans k.seen d.seen (list home.0) b.begins begins; own = ap (by_seat seat_of k.number) home.3 ∙ b.own; own_seen = b.own_seen },
       )
 
   pub draws_as : (slots id old : ℕ) (m me : Me (Option S) (View O E)) → IsAfterTry m me → m.0.living ≡ true → m.0.stage ≡ Away → old < 4294967295
@@ -410,10 +445,10 @@ module _ {S O E : Type 0} (origin : S → O) (list : S → List E) (seat_of : E 
       draws slots id old me (kept.0 ∙ live) (kept.1 ∙ away) room
 
   -- a seat that has just drawn n may be split
-  pub splits_as : (id n : ℕ) (d e : View O E) → e ≡ record d { alone = false; numbers = n + 1; from = n; to = n + 1 } → d.living ≡ true → d.stage ≡ Away → Splits (HoldsOfTurn origin list seat_of) id e (left_view e) (right_view seat_of e)
+  pub splits_as : (id n : ℕ) (d e : View O E) → e ≡ record d { alone = false; numbers = n + 1; draws = d.draws + 1; from = n; to = n + 1 } → d.living ≡ true → d.stage ≡ Away → Splits (HoldsOfTurn origin list seat_of) id e (left_view e) (right_view seat_of e)
   splits_as id n d e is live away =
       subst (λ (v : View O E). Splits (HoldsOfTurn origin list seat_of) id v (left_view v) (right_view seat_of v)) (sym is)
-      (splits id record d { alone = false; numbers = n + 1; from = n; to = n + 1 } live away (omega arith))
+      (splits id record d { alone = false; numbers = n + 1; draws = d.draws + 1; from = n; to = n + 1 } live away (omega arith))
 
   -- while the seats of a new turn are dealt
   pub splits_dealer : (id : ℕ) (x : S) (seats k : ℕ) (m : Me (Option S) (View O E)) → m ≡ (dealer_view origin list seat_of x seats k, []) → k + 1 < seats → Splits (HoldsOfTurn origin list seat_of) id m.0 (left_view m.0) (right_view seat_of m.0)

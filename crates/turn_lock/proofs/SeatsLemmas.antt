@@ -1,12 +1,12 @@
 -- Beginnings of one list, and the entries of one seat in it.
 use Rattle.std.proofs.Common.{◌≡◌, ◌≢◌, ℕ, zero, suc, ◌<◌, ◌≤◌, eqb, eq-eqb, ne_eqb, List, [], ◌∷◌, ◌++◌, length, Bool, true, false, refl, ap, sym, ◌∙◌, arith, append_assoc, length-append, cond}
-use Rattle.std.proofs.lemmas.List.{append-nil}
+use Rattle.std.proofs.lemmas.List.{append-nil, append_cancel_left}
 use Rattle.std.proofs.lemmas.List.Elements.{filter-append}
 use Rattle.std.proofs.Math.Dec.{ltb}
+use Rattle.std.proofs.lemmas.Bool.{ltb-true, ltb-false}
 use Rattle.std.specs.List.{All}
 use mathlib.Core.List.{IsPrefix}
 use Rattle.turn_lock.specs.Seats.{by_seat, longer_of}
-use Rattle.turn_lock.specs.Rule.{shorter_of}
 
 module _ {A : Type 0} where
   pub prefix_self : (xs : List A) → IsPrefix xs xs
@@ -38,22 +38,21 @@ module _ {A : Type 0} where
   append_empty [] ys e = refl
   append_empty (x ∷ xs) ys e = absurd (cc)
 
-  by_length : (F : List A → Type 0) (xs ys : List A) → F xs → F ys → F (longer_of xs ys)
-  by_length F xs ys p q = pick (ltb (length xs) (length ys))
+  -- what is true of both of two lists is true of the longer
+  pub longer_either : (F : List A → Type 0) (xs ys : List A) → F xs → F ys → F (longer_of xs ys)
+  longer_either F xs ys p q = pick (ltb (length xs) (length ys))
     where
       pick : (b : Bool) → F (cond b ys xs)
       pick true = q
       pick false = p
 
-  pub longer_either : (F : List A → Type 0) (xs ys : List A) → F xs → F ys → F (longer_of xs ys)
-  longer_either = by_length
-
-  pub shorter_either : (F : List A → Type 0) (xs ys : List A) → F xs → F ys → F (shorter_of xs ys)
-  shorter_either F xs ys p q = by_length_other (ltb (length xs) (length ys))
+  -- of two beginnings of one list each begins the longer
+  pub prefix_longer : (xs ys zs : List A) → IsPrefix xs zs → IsPrefix ys zs → IsPrefix xs (longer_of xs ys) × IsPrefix ys (longer_of xs ys)
+  prefix_longer xs ys zs p q = pick (ltb (length xs) (length ys)) refl
     where
-      by_length_other : (b : Bool) → F (cond b xs ys)
-      by_length_other true = p
-      by_length_other false = q
+      pick : (b : Bool) → ltb (length xs) (length ys) ≡ b → IsPrefix xs (cond b ys xs) × IsPrefix ys (cond b ys xs)
+      pick true is = (let less : length xs < length ys = ltb-true (length xs) (length ys) is in prefix_shorter xs ys zs p q (omega arith), prefix_self ys)
+      pick false is = (prefix_self xs, let most : length ys ≤ length xs = ltb-false (length xs) (length ys) is in prefix_shorter ys xs zs q p most)
 
 module _ {E : Type 0} (seat_of : E → ℕ) where
   pub by_seat-append : (n : ℕ) (xs ys : List E) → by_seat seat_of n (xs ++ ys) ≡ by_seat seat_of n xs ++ by_seat seat_of n ys
@@ -62,6 +61,16 @@ module _ {E : Type 0} (seat_of : E → ℕ) where
   -- a beginning of a list with no entry of n has none
   pub by_seat-prefix : (n : ℕ) (xs ys : List E) → IsPrefix xs ys → by_seat seat_of n ys ≡ [] → by_seat seat_of n xs ≡ []
   by_seat-prefix n xs ys p e = append_empty _ (by_seat seat_of n p.0) (sym (by_seat-append n xs p.0) ∙ (ap (by_seat seat_of n) p.1 ∙ e))
+
+  -- what two lists have of n, all between them has
+  pub by_seat-between : (n : ℕ) (xs ys zs mine : List E) → IsPrefix xs ys → IsPrefix ys zs → by_seat seat_of n xs ≡ mine → by_seat seat_of n zs ≡ mine → by_seat seat_of n ys ≡ mine
+  by_seat-between n xs ys zs mine p q low high =
+      let a = by_seat seat_of n p.0 in
+      let b = by_seat seat_of n q.0 in
+      let at_ys : by_seat seat_of n ys ≡ mine ++ a = sym (ap (by_seat seat_of n) p.1) ∙ (by_seat-append n xs p.0 ∙ ap (λ w. w ++ a) low) in
+      let at_zs : by_seat seat_of n zs ≡ mine ++ (a ++ b) = sym (ap (by_seat seat_of n) q.1) ∙ (by_seat-append n ys q.0 ∙ (ap (λ w. w ++ b) at_ys ∙ append_assoc mine a b)) in
+      let none : a ++ b ≡ [] = append_cancel_left mine (a ++ b) [] (sym at_zs ∙ (high ∙ sym (append-nil mine))) in
+      at_ys ∙ (ap (λ w. mine ++ w) (append_empty a b none) ∙ append-nil mine)
 
   tail_all : (P : E → Type 0) (x : E) (xs : List E) → All P (x ∷ xs) → All P xs
   tail_all P x xs h k d l = h (suc k) d (omega arith)

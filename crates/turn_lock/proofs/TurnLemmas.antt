@@ -9,9 +9,10 @@ use mathlib.Core.Option.{some}
 use Rattle.atomic_table.specs.Seated.{TableId}
 use Rattle.turn_lock.proofs.RuleLemmas.{at_back}
 use Rattle.turn_lock.specs.declared.rule.View.{View}
+use Rattle.turn_lock.specs.declared.rule.Kin.{Kin}
 use Rattle.turn_lock.specs.declared.rule.Stage.TheVariants.{Away, Holds, Out}
-use Rattle.turn_lock.specs.Seats.{by_seat, SeatValue, Meets, Adds, seat_after, TakesChange, GivesChange}
-use Rattle.turn_lock.specs.Rule.{IsKin, view_at, no_turn, seat_value, value_of_views, joined_view, IsHolding, IsSameWork, IsJoinedTo}
+use Rattle.turn_lock.specs.Seats.{by_seat, SeatValue, KnowsOwn, Meets, Adds, seat_after, TakesChange, GivesChange}
+use Rattle.turn_lock.specs.Rule.{IsKin, HoldsOfKin, kin_of, view_at, no_turn, seat_value, value_of_views, joined_view, IsHolding, IsSameWork, IsJoined}
 use Rattle.std.specs.Prelude.{slice_get}
 use Rattle.std.proofs.Common.{zero, suc, append_assoc, get_or}
 use Rattle.std.specs.List.{remove}
@@ -33,25 +34,40 @@ module _ {O E : Type 0} where
 
   -- a seat that has changed the list to l
   pub seat_changed : (s : SeatValue O E) (z z' : TableId) (views views' : List (View O E)) (d a b c e : View O E) (k l mine : List E) → value_of_views z views ≡ s → views ≡ d ∷ []
-      → a ≡ view_at Holds d → b ≡ record a { stage = Out; seen = k } → c ≡ record b { seen = l; mine = mine } → e ≡ view_at Away c → views' ≡ e ∷ [] → z' ≡ z → value_of_views z' views' ≡ seat_after s l mine
+      → a ≡ view_at Holds d → b ≡ record a { stage = Out; seen = k } → c ≡ record b { seen = l; mine = mine; before = l } → e ≡ view_at Away c → views' ≡ e ∷ [] → z' ≡ z → value_of_views z' views' ≡ seat_after s l mine
   seat_changed s z z' views views' d a b c e k l mine is only took out wrote back only' same =
       let b_is : b ≡ record d { stage = Out; seen = k } = out ∙ ap (λ (v : View O E). record v { stage = Out; seen = k }) took in
-      let c_is : c ≡ record d { stage = Out; seen = l; mine = mine } = wrote ∙ ap (λ (v : View O E). record v { seen = l; mine = mine }) b_is in
-      let e_is : e ≡ record d { stage = Away; seen = l; mine = mine } = back ∙ ap (view_at Away) c_is in
+      let c_is : c ≡ record d { stage = Out; seen = l; mine = mine; before = l } = wrote ∙ ap (λ (v : View O E). record v { seen = l; mine = mine; before = l }) b_is in
+      let e_is : e ≡ record d { stage = Away; seen = l; mine = mine; before = l } = back ∙ ap (view_at Away) c_is in
       ap (value_of_views z') only' ∙ (ap (λ (t : TableId). seat_value t e) same ∙ (ap (seat_value z) e_is ∙ ap (λ (t : SeatValue O E). seat_after t l mine) (sym (shows_view s z views d is only))))
 
 module _ {S O E : Type 0} (origin : S → O) (list : S → List E) (seat_of : E → ℕ) where
+  -- whichever turn it is
+  pub meets_again : (z : TableId) (d : View O E) (y : S) → Meets origin list seat_of (seat_value no_turn d) y → Meets origin list seat_of (seat_value z d) y
+  meets_again z d y m = record { same_origin = m.same_origin; begins = m.begins; own = m.own; own_seen = m.own_seen; current = m.current }
+
   -- a value that met the view meets the seat
   pub seat_meets : (s : SeatValue O E) (z : TableId) (views : List (View O E)) (d a : View O E) (y : S) → value_of_views z views ≡ s → views ≡ d ∷ [] → a ≡ view_at Holds d
       → Meets origin list seat_of (seat_value no_turn a) y → Meets origin list seat_of s y
   seat_meets s z views d a y is only took met =
-      let here : Meets origin list seat_of (seat_value z d) y = subst (λ (v : View O E). Meets origin list seat_of (seat_value no_turn v) y) took met in
+      let at_d : Meets origin list seat_of (seat_value no_turn d) y = subst (λ (v : View O E). Meets origin list seat_of (seat_value no_turn v) y) took met in
+      let here : Meets origin list seat_of (seat_value z d) y = meets_again z d y at_d in
       subst (λ (t : SeatValue O E). Meets origin list seat_of t y) (sym (shows_view s z views d is only)) here
 
   -- the entries that were added are the seat's own
   pub adds_mine : (n : ℕ) (x : S) (added mine : List E) (y : S) → by_seat seat_of n (list x) ≡ mine → Adds origin list seat_of n x added y → by_seat seat_of n (list y) ≡ mine ++ added
   adds_mine n x added mine y own adds =
       ap (by_seat seat_of n) adds.1 ∙ (by_seat-append seat_of n (list x) added ∙ (ap (λ l. l ++ by_seat seat_of n added) own ∙ ap (λ l. mine ++ l) (by_seat-own seat_of n added adds.2)))
+
+  -- a seat that has read, and a seat that has changed, has seen just its own entries of its number, before and after
+  pub read_own : (s t : SeatValue O E) (x : S) → Meets origin list seat_of s x → t ≡ seat_after s (list x) s.mine → KnowsOwn seat_of s × KnowsOwn seat_of t
+  read_own s t x meets is = (meets.own_seen, subst (λ (u : SeatValue O E). KnowsOwn seat_of u) (sym is) meets.own)
+
+  pub change_own : (s t : SeatValue O E) (x : S) (added : List E) (y : S) → Meets origin list seat_of s x → Adds origin list seat_of s.number x added y → t ≡ seat_after s (list y) (s.mine ++ added) → KnowsOwn seat_of s × KnowsOwn seat_of t
+  change_own s t x added y meets adds is = (
+    meets.own_seen,
+    subst (λ (u : SeatValue O E). KnowsOwn seat_of u) (sym is) (adds_mine s.number x added s.mine y meets.own adds),
+  )
 
 module _ {F S R : Type 0} (g : Once F (MutBor S × (ℕ × Unit {0})) (R × (MutBor S × Unit {0}))) where
   pub takes_at : (f : F) (x : S) (n m : ℕ) → n ≡ m → TakesChange g f x n → TakesChange g f x m
@@ -71,17 +87,17 @@ module _ {O E : Type 0} where
       ap (λ (v : View O E). v.number) out ∙ (ap (λ (v : View O E). v.number) took ∙ sym (shows_number s z views d d.number is only refl))
 
   -- one more seat was joined
-  pub joined_more : (o : Option O) (p q : List E) (kin mine now : List (ℕ × List E)) (k : ℕ × List E) (items rest done all : List (SeatValue O E)) (s : SeatValue O E) → all ≡ items ++ done → items ≡ rest ++ s ∷ [] → IsPrefix p q → now ≡ k ∷ (mine ++ kin) → All (IsJoinedTo o p kin) done → IsJoinedTo o q now s
-      → (after : List (SeatValue O E)) × (all ≡ rest ++ after) × All (IsJoinedTo o q now) after
-  joined_more o p q kin mine now k items rest done all s are last grown now_is old here =
+  pub joined_more : (kin mine now : List (Kin O E)) (k : Kin O E) (items rest done all : List (SeatValue O E)) (s : SeatValue O E) → all ≡ items ++ done → items ≡ rest ++ s ∷ [] → now ≡ k ∷ (mine ++ kin) → All (IsJoined kin) done → IsJoined now s
+      → (after : List (SeatValue O E)) × (all ≡ rest ++ after) × All (IsJoined now) after
+  joined_more kin mine now k items rest done all s are last now_is old here =
       (s ∷ done, are ∙ (ap (λ l. l ++ done) last ∙ append_assoc rest (s ∷ []) done), each)
     where
-      still : (a : ℕ × List E) → (i : ℕ) × (get_elem? kin i ≡ some a) → (i : ℕ) × (get_elem? now i ≡ some a)
+      still : (a : Kin O E) → (i : ℕ) × (get_elem? kin i ≡ some a) → (i : ℕ) × (get_elem? now i ≡ some a)
       still a t = let r = at_back mine kin t.0 a t.1 in (suc r.0, ap (λ l. get_elem? l (suc r.0)) now_is ∙ r.1)
 
-      each : All (IsJoinedTo o q now) (s ∷ done)
+      each : All (IsJoined now) (s ∷ done)
       each zero d l = here
-      each (suc n) d l = let w = old n d (omega arith) in (w.0, prefix_trans _ p q w.1 grown, w.2, still _ w.3)
+      each (suc n) d l = let w = old n d (omega arith) in (w.0, still _ w.1)
 
 module _ {S O E : Type 0} where
   pub holding_after : (m m' : Me (Option S) (View O E)) (e : View O E) → m' ≡ (joined_view m.0 e, m.1) → IsHolding m → IsHolding m'
@@ -100,11 +116,10 @@ module _ {S O E : Type 0} where
 
 module _ {O E : Type 0} where
   -- a seat that was joined
-  pub was_joined : (o : Option O) (d e : View O E) (s : SeatValue O E) (z : TableId) (views : List (View O E)) (seen : List E) (now others : List (ℕ × List E)) → value_of_views z views ≡ s → views ≡ e ∷ [] → e.origin ≡ d.origin → d.origin ≡ o → IsPrefix e.seen seen → e.alone ≡ false → now ≡ (e.number, e.mine) ∷ others → IsJoinedTo o seen now s
-  was_joined o d e s z views seen now others is only same origin_is begins beside now_is =
-      let shown = shows_view s z views e is only in
-      let here : IsJoinedTo o seen now (seat_value z e) = (same ∙ origin_is, begins, beside, (0, ap (λ l. get_elem? l 0) now_is)) in
-      subst (λ (t : SeatValue O E). IsJoinedTo o seen now t) (sym shown) here
+  pub was_joined : (e : View O E) (s : SeatValue O E) (z : TableId) (views : List (View O E)) (now others : List (Kin O E)) → value_of_views z views ≡ s → views ≡ e ∷ [] → e.alone ≡ false → now ≡ kin_of e ∷ others → IsJoined now s
+  was_joined e s z views now others is only beside now_is =
+      let here : IsJoined now (seat_value z e) = (beside, (0, ap (λ l. get_elem? l 0) now_is)) in
+      subst (λ (t : SeatValue O E). IsJoined now t) (sym (shows_view s z views e is only)) here
 
 module _ {A : Type 0} where
   pub none_left : (xs : List A) → (0 < length xs → ⊥) → xs ≡ []
@@ -133,20 +148,22 @@ module _ {A : Type 0} where
 
 module _ {S O E : Type 0} (origin : S → O) (list : S → List E) (seat_of : E → ℕ) where
   -- the value that is handed out, for the seat that took the turn
-  pub meets_first : (s : SeatValue O E) (z : TableId) (views : List (View O E)) (d t f : View O E) (y : S) → value_of_views z views ≡ s → views ≡ d ∷ [] → t ≡ view_at Holds d → IsSameWork t f → IsPrefix t.seen f.seen → (t.alone ≡ true → f ≡ t)
+  pub meets_first : (s : SeatValue O E) (z : TableId) (views : List (View O E)) (d t f : View O E) (y : S) → value_of_views z views ≡ s → views ≡ d ∷ [] → t ≡ view_at Holds d → KnowsOwn seat_of (seat_value no_turn d) → IsSameWork t f → IsPrefix t.seen f.seen → (t.alone ≡ true → f ≡ t)
       → Meets origin list seat_of (seat_value no_turn f) y → Meets origin list seat_of s y
-  meets_first s z views d t f y is only took work grown alone met =
-      let at_t : Meets origin list seat_of (seat_value z t) y = (
-        sym work.1 ∙ met.0,
-        prefix_trans t.seen f.seen (list y) grown met.1,
-        ap (λ n. by_seat seat_of n (list y)) (sym work.0) ∙ (met.2 ∙ work.2),
-        λ h. (let e = alone h in met.3 (ap (λ (v : View O E). v.alone) e ∙ h) ∙ ap (λ (v : View O E). v.seen) e),
-      ) in
+  meets_first s z views d t f y is only took knows work grown alone met =
+      let at_t : Meets origin list seat_of (seat_value z t) y = record {
+        same_origin = sym work.1 ∙ met.same_origin;
+        begins = prefix_trans t.seen f.seen (list y) grown met.begins;
+        own = ap (λ n. by_seat seat_of n (list y)) (sym work.0) ∙ (met.own ∙ work.2);
+        own_seen = subst (λ (v : View O E). KnowsOwn seat_of (seat_value no_turn v)) (sym took) knows;
+        current = λ h. (let e = alone h in met.current (ap (λ (v : View O E). v.alone) e ∙ h) ∙ ap (λ (v : View O E). v.seen) e);
+      } in
       let at_d : Meets origin list seat_of (seat_value z d) y = subst (λ (v : View O E). Meets origin list seat_of (seat_value z v) y) took at_t in
       subst (λ (u : SeatValue O E). Meets origin list seat_of u y) (sym (shows_view s z views d is only)) at_d
 
   -- and for those that were joined to it
-  pub meets_others : (seats : List (SeatValue O E)) (t f : View O E) (y : S) → IsSameWork t f → All (IsJoinedTo t.origin f.seen f.kin) seats → Meets origin list seat_of (seat_value no_turn f) y → ((k : ℕ × List E) → IsKin f k → by_seat seat_of k.0 (list y) ≡ k.1) → All (λ s. Meets origin list seat_of s y) seats
-  meets_others seats t f y work joined met kin k d l =
+  pub meets_others : (seats : List (SeatValue O E)) (f : View O E) (y : S) → All (IsJoined f.kin) seats → ((k : Kin O E) → IsKin f k → HoldsOfKin seat_of (origin y) (list y) (list y) k) → All (λ s. Meets origin list seat_of s y) seats
+  meets_others seats f y joined kin k d l =
       let w = joined k d l in
-      (w.0 ∙ (sym work.1 ∙ met.0), prefix_trans _ f.seen (list y) w.1 met.1, kin _ w.3, λ h. absurd (true≢false (sym h ∙ w.2)))
+      let h = kin _ w.1 in
+      record { same_origin = h.same_origin; begins = h.begins; own = h.own; own_seen = h.own_seen; current = λ a. absurd (true≢false (sym a ∙ w.0)) }

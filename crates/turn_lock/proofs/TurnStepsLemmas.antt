@@ -17,8 +17,8 @@ use Rattle.turn_lock.specs.declared.rule.Stage.{Stage}
 use Rattle.turn_lock.specs.declared.rule.Stage.TheVariants.{Away, Holds, Out}
 use Rattle.turn_lock.specs.Seats.{by_seat}
 use Rattle.turn_lock.specs.Rule.{HoldsOfPlace, HoldsOfStage, HoldsOfView, HoldsOfTurn, view_at, TakesTurn, ReadsHistory, StoresHistory, GivesTurnBack, ComparesSeats}
-use Rattle.turn_lock.proofs.SeatsLemmas.{prefix_self, prefix_grows, prefix_shorter, by_seat-append, by_seat-other}
-use Rattle.turn_lock.proofs.RuleLemmas.{each_view_set, view_stays, view_stays_same, away_stage, other_away, free_away, differ_as, at_less, holds_away, out_away}
+use Rattle.turn_lock.proofs.SeatsLemmas.{prefix_self, prefix_trans, by_seat-append, by_seat-other}
+use Rattle.turn_lock.proofs.RuleLemmas.{kin_grows, each_view_set, view_stays, view_stays_same, away_stage, other_away, free_away, differ_as, at_less, holds_away, out_away}
 
 module _ {S O E : Type 0} (origin : S → O) (list : S → List E) (seat_of : E → ℕ) where
   -- a step that changes no word, and the view only in what the rule does not read
@@ -30,11 +30,12 @@ module _ {S O E : Type 0} (origin : S → O) (list : S → List E) (seat_of : E 
 
   -- the turn is taken where it is free, and else nothing changes
   pub takes_turn : (slots id : ℕ) (me : Me (Option S) (View O E)) → me.0.living ≡ true → me.0.stage ≡ Away
-      → Allows (HoldsOfTurn origin list seat_of) slots id me 0 (λ n. either (eqb n 0) 1 n) (TakesTurn (step slots 0 0 1 none) me)
+      → Allows (HoldsOfTurn origin list seat_of) slots id me 0 (λ n. either (eqb n 0) 1 n) (TakesTurn seat_of (step slots 0 0 1 none) me)
   takes_turn slots id me live away s r _ at _ =
       let x : ℕ = get_or s.words 0 0 in
       let is : x ≡ r.turn = ap (λ ws. get_or ws 0 0) r.words in
       let w : View O E = view_at Holds me.0 in
+      let own_seen = (r.each_view id me.0 at live).own_seen in
       dite (ℕ_discrete x 0)
       (λ (hit : x ≡ 0).
       let free : r.turn ≡ 0 = sym is ∙ hit in
@@ -53,7 +54,7 @@ module _ {S O E : Type 0} (origin : S → O) (list : S → List E) (seat_of : E 
         held = λ _. (w, set_here s.views id w (at_less s.views id me.0 at), live, holds_away);
         undrawn = r.undrawn;
         each_view = each_view_set (HoldsOfView seat_of r.o r.log r.seats 1 id false) s.views id w
-            (λ _. let f = r.each_view id me.0 at live in record { same_origin = f.same_origin; begins = f.begins; own = f.own; drawn = f.drawn; counts = f.counts; stage = (refl, refl, refl); kept_back = f.kept_back; current = f.current; told = f.told; told_same = f.told_same; kin = f.kin; no_clash = f.no_clash })
+            (λ _. let f = r.each_view id me.0 at live in record { same_origin = f.same_origin; begins = f.begins; own = f.own; own_seen = f.own_seen; drawn = f.drawn; counts = f.counts; stage = (refl, refl, refl); kept_back = f.kept_back; current = f.current; before = f.before; own_before = f.own_before; kin = f.kin; no_clash = f.no_clash })
             (λ j d _ there lives. let f = r.each_view j d there lives in
             view_stays_same seat_of r.o r.log r.seats r.seats r.turn 1 r.holder id r.lent false j d f (omega arith)
             (away_stage 1 id false r.log j d.seen d.stage (free_away r.turn r.holder r.lent r.log j d.seen d.stage f.stage free)));
@@ -63,14 +64,14 @@ module _ {S O E : Type 0} (origin : S → O) (list : S → List E) (seat_of : E 
         keeps,
         tt,
         subst (λ (b : Bool). HoldsOfTurn origin list seat_of (stepped s 0 (either b 1 x) id me.1 w keeps)) (sym (eq-eqb x 0 hit)) kept,
-        rw (eq-eqb x 0 hit) refl,
+        (rw (eq-eqb x 0 hit) refl, own_seen),
       ))
       (λ (miss : x ≢ 0). (
         me.0,
         keeps,
         tt,
         subst (λ (b : Bool). HoldsOfTurn origin list seat_of (stepped s 0 (either b 1 x) id me.1 me.0 keeps)) (sym (ne_eqb x 0 miss)) (unmoved s r 0 id me.1 me.0 at),
-        rw (ne_eqb x 0 miss) refl,
+        (rw (ne_eqb x 0 miss) refl, own_seen),
       ))
 
   -- while the holder holds the turn, the others are away
@@ -86,6 +87,7 @@ module _ {S O E : Type 0} (origin : S → O) (list : S → List E) (seat_of : E 
       let home : HoldsOfPlace origin list r.o r.log false s.homes = subst (λ (b : Bool). HoldsOfPlace origin list r.o r.log b s.homes) mine.2 r.home in
       let y : S = home.0 in
       let same : list y ≡ r.log = home.3 in
+      let grown : IsPrefix me.0.seen (list y) = subst (λ (l : List E). IsPrefix me.0.seen l) (sym same) f.begins in
       let w : View O E = record me.0 { stage = Out; seen = list y } in (
         w,
         takes 0 (Some y),
@@ -109,14 +111,15 @@ module _ {S O E : Type 0} (origin : S → O) (list : S → List E) (seat_of : E 
                 same_origin = f.same_origin;
                 begins = subst (λ (l : List E). IsPrefix l r.log) (sym same) (prefix_self r.log);
                 own = f.own;
+                own_seen = ap (by_seat seat_of me.0.number) same ∙ f.own;
                 drawn = f.drawn;
                 counts = f.counts;
                 stage = (mine.0, mine.1, refl, same);
                 kept_back = λ n k. let b = f.kept_back n k in (b.0, b.1, ap (by_seat seat_of n) (sym same));
                 current = λ _. same;
-                told = f.told;
-                told_same = f.told_same;
-                kin = f.kin;
+                before = prefix_trans me.0.before me.0.seen (list y) f.before grown;
+                own_before = f.own_before;
+                kin = λ k h. let b = f.kin k h in (b.0, b.1, b.2, kin_grows seat_of r.o r.log me.0.seen (list y) k grown b.3);
                 no_clash = f.no_clash;
               })
               (λ j d apart there lives. let g = r.each_view j d there lives in
@@ -126,12 +129,13 @@ module _ {S O E : Type 0} (origin : S → O) (list : S → List E) (seat_of : E 
         },
         (
           y,
-          (
-            f.same_origin ∙ ap Some (sym home.2),
-            subst (λ (l : List E). IsPrefix me.0.seen l) (sym same) f.begins,
-            ap (by_seat seat_of me.0.number) same ∙ f.own,
-            λ alone. same ∙ sym (f.current alone),
-          ),
+          record {
+            same_origin = f.same_origin ∙ ap Some (sym home.2);
+            begins = grown;
+            own = ap (by_seat seat_of me.0.number) same ∙ f.own;
+            own_seen = f.own_seen;
+            current = λ alone. same ∙ sym (f.current alone);
+          },
           refl,
         ),
       )
@@ -143,7 +147,8 @@ module _ {S O E : Type 0} (origin : S → O) (list : S → List E) (seat_of : E 
       let f = r.each_view id me.0 at live in
       let mine : (id ≡ r.holder) × (r.turn ≡ 1) × (r.lent ≡ true) × (me.0.seen ≡ r.log) = subst (λ (t : Stage). HoldsOfStage r.turn r.holder r.lent r.log id me.0.seen t) out f.stage in
       let grows : now ≡ r.log ++ added = grown ∙ ap (λ (l : List E). l ++ added) mine.3 in
-      let w : View O E = record me.0 { seen = now; mine = by_seat seat_of me.0.number now } in
+      let grown_seen : IsPrefix me.0.seen now = (added, sym grown) in
+      let w : View O E = record me.0 { seen = now; mine = by_seat seat_of me.0.number now; before = now } in
       let number : me.0.number < r.seats = f.drawn in
       let of : (n : ℕ) → n ≢ me.0.number → by_seat seat_of n now ≡ by_seat seat_of n r.log =
       λ n apart. ap (by_seat seat_of n) grows ∙ (by_seat-append seat_of n r.log added ∙ (ap (λ l. by_seat seat_of n r.log ++ l) (by_seat-other seat_of me.0.number n added own_all apart) ∙ append-nil (by_seat seat_of n r.log))) in (
@@ -169,21 +174,24 @@ module _ {S O E : Type 0} (origin : S → O) (list : S → List E) (seat_of : E 
                 same_origin = f.same_origin;
                 begins = prefix_self now;
                 own = refl;
+                own_seen = refl;
                 drawn = f.drawn;
                 counts = f.counts;
                 stage = subst (λ (t : Stage). HoldsOfStage r.turn r.holder r.lent now id now t) (sym out) (mine.0, mine.1, mine.2, refl);
                 kept_back = λ n k. let b = f.kept_back n k in (b.0, b.1, refl);
                 current = λ _. refl;
-                told = prefix_grows me.0.told r.log added now f.told grows;
-                told_same = f.told_same;
-                kin = λ k h. let b = f.kin k h in (b.0, b.1, b.2, of k.0 b.1 ∙ b.3);
+                before = prefix_self now;
+                own_before = refl;
+                kin = λ k h.
+                    let b = f.kin k h in
+                    (b.0, b.1, b.2, record { same_origin = b.3.same_origin; begins = prefix_trans k.seen me.0.seen now b.3.begins grown_seen; own = of k.number b.1 ∙ b.3.own; own_seen = b.3.own_seen });
                 no_clash = f.no_clash;
               })
               (λ j d apart there lives. let g = r.each_view j d there lives in let other = r.differ j id d me.0 apart there at lives live in
               view_stays seat_of r.o r.log now added r.seats r.seats r.turn r.turn r.holder r.holder r.lent r.lent j d g grows (omega arith)
               (by_seat-other seat_of me.0.number d.number added own_all other.numbers)
               (λ n k. by_seat-other seat_of me.0.number n added own_all (other.kept_back n k))
-              (λ k h. by_seat-other seat_of me.0.number k.0 added own_all (other.kin k h).0)
+              (λ k h. by_seat-other seat_of me.0.number k.number added own_all (other.kin k h).0)
               (λ alone. absurd (other.not_alone alone))
               (away_stage r.turn r.holder r.lent now j d.seen d.stage (others_away s r id j d mine.0 apart there lives)));
           differ = differ_as s.views id me.0 w at live refl (λ _ h. h) (λ _ h. h) (λ h. h) r.differ;
@@ -223,7 +231,7 @@ module _ {S O E : Type 0} (origin : S → O) (list : S → List E) (seat_of : E 
           held = λ z. absurd (omega arith);
           undrawn = r.undrawn;
           each_view = each_view_set (HoldsOfView seat_of r.o r.log r.seats 0 r.holder false) s.views id w
-              (λ _. record { same_origin = f.same_origin; begins = f.begins; own = f.own; drawn = f.drawn; counts = f.counts; stage = tt; kept_back = f.kept_back; current = f.current; told = f.told; told_same = f.told_same; kin = f.kin; no_clash = f.no_clash })
+              (λ _. record { same_origin = f.same_origin; begins = f.begins; own = f.own; own_seen = f.own_seen; drawn = f.drawn; counts = f.counts; stage = tt; kept_back = f.kept_back; current = f.current; before = f.before; own_before = f.own_before; kin = f.kin; no_clash = f.no_clash })
               (λ j d apart there lives. let g = r.each_view j d there lives in
               view_stays_same seat_of r.o r.log r.seats r.seats r.turn 0 r.holder r.holder r.lent false j d g (omega arith)
               (away_stage 0 r.holder false r.log j d.seen d.stage (others_away s r id j d mine.0 apart there lives)));
@@ -232,16 +240,16 @@ module _ {S O E : Type 0} (origin : S → O) (list : S → List E) (seat_of : E 
         refl,
       )
 
-  -- a seat compares the two lists that it was told of
+  -- a seat learns how the lists begin of the seats that were joined to it
   pub compares : (slots id : ℕ) (me : Me (Option S) (View O E)) → me.0.living ≡ true
-      → Allows (HoldsOfTurn origin list seat_of) slots id me 1 (λ n. n) (ComparesSeats (step slots 1 0 0 none) me)
+      → Allows (HoldsOfTurn origin list seat_of) slots id me 1 (λ n. n) (ComparesSeats seat_of (step slots 1 0 0 none) me)
   compares slots id me live s r _ at _ =
       let f = r.each_view id me.0 at live in (
         me.0,
         keeps,
         tt,
         unmoved s r 1 id me.1 me.0 at,
-        (refl, f.no_clash, f.told_same ∙ sym f.same_origin, λ less. prefix_shorter me.0.told me.0.seen r.log f.told f.begins less),
+        (refl, f.no_clash, f.before, f.own_before, f.own_seen, λ k h. let b = (f.kin k h).3 in (b.same_origin ∙ sym f.same_origin, b.begins, b.own_seen)),
       )
 
   -- the same steps, at a view that is known by an equation

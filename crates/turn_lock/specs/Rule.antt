@@ -4,15 +4,15 @@ use Rattle.std.specs.Prelude.{◌++◌, ◌≡◌, ◌≢◌, ◌⊎◌, ℕ, �
 use mathlib.Core.Option.{some, none}
 use mathlib.Core.Option as maybe
 use mathlib.Core.List.{IsPrefix}
-use Rattle.std.proofs.Math.Dec.{ltb}
 use lib.ListN.{get_elem?}
 use Rattle.atomic_table.specs.Table.{State, Me, Step, rest}
 use Rattle.atomic_table.specs.Seated.{TableId}
 use Rattle.atomic_table.specs.declared.shared.Seat.{Seat}
 use Rattle.turn_lock.specs.declared.rule.View.{View}
+use Rattle.turn_lock.specs.declared.rule.Kin.{Kin}
 use Rattle.turn_lock.specs.declared.rule.Stage.{Stage}
 use Rattle.turn_lock.specs.declared.rule.Stage.TheVariants.{Away, Holds, Out}
-use Rattle.turn_lock.specs.Seats.{by_seat, SeatValue, Meets, longer_of}
+use Rattle.turn_lock.specs.Seats.{by_seat, SeatValue, KnowsOwn, Meets, longer_of}
 
 -- the value lies in its place and stands for the stored list, or it is out with the holder
 abbrev pub HoldsOfPlace : {S O E : Type 0} → (S → O) → (S → List E) → O → List E → Bool → List (maybe.Option (Option S)) → Type 0
@@ -29,23 +29,31 @@ HoldsOfStage turn holder lent log j seen Out = (j ≡ holder) × (turn ≡ 1) ×
 abbrev pub Reserves : {O E : Type 0} → View O E → ℕ → Type 0
 Reserves d n = (d.from ≤ n) × (n < d.to)
 
--- the seat of this number, with these entries, was joined to that of the view d
-abbrev pub IsKin : {O E : Type 0} → View O E → ℕ × List E → Type 0
+-- this seat was joined to that of the view d
+abbrev pub IsKin : {O E : Type 0} → View O E → Kin O E → Type 0
 IsKin d k = (i : ℕ) × (get_elem? d.kin i ≡ some k)
+
+-- what is true of a seat that was joined to one which has seen this list
+pub record HoldsOfKin {O E : Type 0} (seat_of : E → ℕ) (o : O) (log seen : List E) (k : Kin O E) : Type 0 where
+  pub same_origin : k.origin ≡ Some o
+  pub begins : IsPrefix k.seen seen
+  pub own : by_seat seat_of k.number log ≡ k.mine
+  pub own_seen : by_seat seat_of k.number k.seen ≡ k.mine
 
 -- what is true of one living view
 pub record HoldsOfView {O E : Type 0} (seat_of : E → ℕ) (o : O) (log : List E) (seats turn holder : ℕ) (lent : Bool) (j : ℕ) (d : View O E) : Type 0 where
   pub same_origin : d.origin ≡ Some o
   pub begins : IsPrefix d.seen log
   pub own : by_seat seat_of d.number log ≡ d.mine
+  pub own_seen : by_seat seat_of d.number d.seen ≡ d.mine
   pub drawn : d.number < seats
   pub counts : d.numbers ≤ seats
   pub stage : HoldsOfStage turn holder lent log j d.seen d.stage
   pub kept_back : (n : ℕ) → Reserves d n → (n < seats) × (n ≢ d.number) × (by_seat seat_of n log ≡ by_seat seat_of n d.seen)
   pub current : d.alone ≡ true → d.seen ≡ log
-  pub told : IsPrefix d.told log
-  pub told_same : d.told_origin ≡ Some o
-  pub kin : (k : ℕ × List E) → IsKin d k → (k.0 < seats) × (k.0 ≢ d.number) × (Reserves d k.0 → ⊥) × (by_seat seat_of k.0 log ≡ k.1)
+  pub before : IsPrefix d.before d.seen
+  pub own_before : by_seat seat_of d.number d.before ≡ d.mine
+  pub kin : (k : Kin O E) → IsKin d k → (k.number < seats) × (k.number ≢ d.number) × (Reserves d k.number → ⊥) × HoldsOfKin seat_of o log d.seen k
   pub no_clash : d.clash ≡ false
 
 -- what is true of two living views: their numbers differ, also from those kept back, and a seat that is alone has no other beside it
@@ -53,7 +61,7 @@ pub record Differ {O E : Type 0} (d e : View O E) : Type 0 where
   pub numbers : d.number ≢ e.number
   pub kept_back : (n : ℕ) → Reserves d n → n ≢ e.number
   pub both : (n : ℕ) → Reserves d n → Reserves e n → ⊥
-  pub kin : (k : ℕ × List E) → IsKin d k → (k.0 ≢ e.number) × (Reserves e k.0 → ⊥)
+  pub kin : (k : Kin O E) → IsKin d k → (k.number ≢ e.number) × (Reserves e k.number → ⊥)
   pub not_alone : d.alone ≡ true → ⊥
 
 -- The rule of a turn, of its words, the value's place and all views, for one origin and one stored list
@@ -74,10 +82,6 @@ pub record HoldsOfTurn {S O E : Type 0} (origin : S → O) (list : S → List E)
   pub each_view : (j : ℕ) (d : View O E) → get_elem? s.views j ≡ some d → d.living ≡ true → HoldsOfView seat_of o log seats turn holder lent j d
   pub differ : (i j : ℕ) (d e : View O E) → i ≢ j → get_elem? s.views i ≡ some d → get_elem? s.views j ≡ some e → d.living ≡ true → e.living ≡ true → Differ d e
 
--- the shorter of two lists
-abbrev pub shorter_of : {E : Type 0} → List E → List E → List E
-shorter_of xs ys = if ltb (length xs) (length ys) then xs else ys
-
 -- the name of no turn
 abbrev pub no_turn : TableId
 no_turn = record { words = 0; slots = 0; views_name = 0; atom = 0; block = 0; offset = 0; slot_names = [] }
@@ -93,18 +97,33 @@ module _ {O E : Type 0} where
     mine = by_seat seat_of 0 (list x);
     alone = seats == 1;
     numbers = seats;
+    draws = 0;
     stage = Away;
     from = 1;
     to = seats;
-    told = [];
-    told_origin = Some (origin x);
+    before = list x;
     kin = [];
     clash = false;
   }
 
   -- a view that was joined to another
   abbrev pub spent_view : View O E
-  spent_view = record { living = false; number = 0; origin = None; seen = []; mine = []; alone = false; numbers = 0; stage = Away; from = 0; to = 0; told = []; told_origin = None; kin = []; clash = false }
+  spent_view = record {
+    living = false;
+    number = 0;
+    origin = None;
+    seen = [];
+    mine = [];
+    alone = false;
+    numbers = 0;
+    draws = 0;
+    stage = Away;
+    from = 0;
+    to = 0;
+    before = [];
+    kin = [];
+    clash = false;
+  }
 
   -- the same view, with its seat this far with the turn
   abbrev pub view_at : Stage → View O E → View O E
@@ -116,11 +135,17 @@ module _ {O E : Type 0} where
 
   -- the seat that is split off, which takes the first number kept back, and keeps the others
   abbrev pub right_view : (E → ℕ) → View O E → View O E
-  right_view seat_of d = record d { number = d.from; mine = by_seat seat_of d.from d.seen; alone = false; from = d.from + 1; kin = [] }
+  right_view seat_of d =
+      record d { number = d.from; mine = by_seat seat_of d.from d.seen; alone = false; draws = 0; from = d.from + 1; before = d.seen; kin = [] }
+
+  -- a seat as it is joined to another
+  abbrev pub kin_of : View O E → Kin O E
+  kin_of d = record { number = d.number; origin = d.origin; seen = d.seen; mine = d.mine }
 
   -- two seats made one
   abbrev pub joined_view : View O E → View O E → View O E
-  joined_view d e = record d { seen = longer_of d.seen e.seen; told = shorter_of d.seen e.seen; told_origin = e.origin; kin = (e.number, e.mine) ∷ (e.kin ++ d.kin); alone = false; clash = d.alone || e.alone; from = d.to }
+  joined_view d e =
+      record d { seen = longer_of d.seen e.seen; before = d.seen; kin = kin_of e ∷ (e.kin ++ d.kin); alone = false; clash = d.alone || e.alone; from = d.to }
 
   -- the view that goes on to the k-th seat of a new turn, which keeps back the numbers of the later ones
   abbrev pub dealer_view : {S : Type 0} → (S → O) → (S → List E) → (E → ℕ) → S → ℕ → ℕ → View O E
@@ -128,12 +153,16 @@ module _ {O E : Type 0} where
 
   -- what a seat shows of its view
   abbrev pub seat_value : TableId → View O E → SeatValue O E
-  seat_value turn d = record { turn = turn; number = d.number; origin = d.origin; seen = d.seen; mine = d.mine; alone = d.alone; numbers = d.numbers }
+  seat_value turn d = record { turn = turn; number = d.number; origin = d.origin; seen = d.seen; mine = d.mine; alone = d.alone; numbers = d.numbers; draws = d.draws }
 
   -- what a seat shows of its views, of which it has one
   abbrev pub value_of_views : TableId → List (View O E) → SeatValue O E
   value_of_views turn [] = seat_value turn spent_view
   value_of_views turn (d ∷ _) = seat_value turn d
+
+  -- a joined seat's origin is this seat's, and its list begins what this seat has seen, with just its own entries of its number
+  abbrev pub IsKnownKin : (E → ℕ) → View O E → Kin O E → Type 0
+  IsKnownKin seat_of d k = (k.origin ≡ d.origin) × IsPrefix k.seen d.seen × (by_seat seat_of k.number k.seen ≡ k.mine)
 
   -- a seat that lies with its holder
   abbrev pub IsAtRest : View O E → Type 0
@@ -148,9 +177,10 @@ abbrev BaseSeat : Type 0 → Type 0 → Type 0 → Type 0
 BaseSeat S O E = Me (Option S) (View O E)
 
 module _ {S O E : Type 0} where
-  -- the turn was free, and is taken; or another has it
-  abbrev pub TakesTurn : Step (Option S) → BaseSeat S O E → ℕ → BaseSeat S O E → Type 0
-  TakesTurn s m n m' = m' ≡ ((if n == 0 then view_at Holds m.0 else m.0), m.1)
+  -- the turn was free, and is taken; or another has it. The seat has seen just its own entries of its number
+  abbrev pub TakesTurn : (E → ℕ) → Step (Option S) → BaseSeat S O E → ℕ → BaseSeat S O E → Type 0
+  TakesTurn seat_of s m n m' =
+      (m' ≡ ((if n == 0 then view_at Holds m.0 else m.0), m.1)) × KnowsOwn seat_of (seat_value no_turn m.0)
 
   -- the value is lent, and its list was seen
   abbrev pub ReadsHistory : (S → O) → (S → List E) → (E → ℕ) → Step (Option S) → BaseSeat S O E → ℕ → BaseSeat S O E → Type 0
@@ -159,7 +189,8 @@ module _ {S O E : Type 0} where
 
   -- the list is now this one, in which the seat's number has the seat's own entries
   abbrev pub StoresHistory : List E → (E → ℕ) → Step (Option S) → BaseSeat S O E → ℕ → BaseSeat S O E → Type 0
-  StoresHistory now seat_of s m n m' = m' ≡ (record m.0 { seen = now; mine = by_seat seat_of m.0.number now }, m.1)
+  StoresHistory now seat_of s m n m' =
+      m' ≡ (record m.0 { seen = now; mine = by_seat seat_of m.0.number now; before = now }, m.1)
 
   -- the turn and the slot taken last were given back
   abbrev pub GivesTurnBack : Step (Option S) → BaseSeat S O E → ℕ → BaseSeat S O E → Type 0
@@ -169,12 +200,19 @@ module _ {S O E : Type 0} where
   abbrev pub DrawsNumber : (E → ℕ) → Step (Option S) → BaseSeat S O E → ℕ → BaseSeat S O E → Type 0
   DrawsNumber seat_of s m n m' =
       MatchBool (n == s.first)
-      ((m' ≡ (record m.0 { alone = false; numbers = n + 1; from = n; to = n + 1 }, m.1)) × (by_seat seat_of n m.0.seen ≡ []) × (m.0.numbers ≤ n))
+      ((m' ≡ (record m.0 { alone = false; numbers = n + 1; draws = m.0.draws + 1; from = n; to = n + 1 }, m.1)) × (by_seat seat_of n m.0.seen ≡ []) × (m.0.numbers ≤ n))
       ((m' ≡ (record m.0 { alone = false; numbers = n }, m.1)) × (m.0.numbers ≤ n) × (n ≤ 4294967295))
+      × KnowsOwn seat_of (seat_value no_turn m.0)
 
-  -- of two lists that were seen the longer begins with the other, the two seats have one origin, and neither was alone
-  abbrev pub ComparesSeats : Step (Option S) → BaseSeat S O E → ℕ → BaseSeat S O E → Type 0
-  ComparesSeats s m n m' = (m' ≡ m) × (m.0.clash ≡ false) × (m.0.told_origin ≡ m.0.origin) × (length m.0.told ≤ length m.0.seen → IsPrefix m.0.told m.0.seen)
+  -- what the seat had seen begins what it has seen, and each has just its own entries; so it is with each seat that was joined; none was alone
+  abbrev pub ComparesSeats : (E → ℕ) → Step (Option S) → BaseSeat S O E → ℕ → BaseSeat S O E → Type 0
+  ComparesSeats seat_of s m n m' =
+      (m' ≡ m)
+      × (m.0.clash ≡ false)
+      × IsPrefix m.0.before m.0.seen
+      × (by_seat seat_of m.0.number m.0.before ≡ m.0.mine)
+      × KnowsOwn seat_of (seat_value no_turn m.0)
+      × ((k : Kin O E) → IsKin m.0 k → IsKnownKin seat_of m.0 k)
 
 module _ {S O E : Type 0} where
   -- a seat of this turn, which has three words and one place
@@ -198,6 +236,10 @@ module _ {O E : Type 0} where
   abbrev pub IsSameWork : View O E → View O E → Type 0
   IsSameWork d e = (e.number ≡ d.number) × (e.origin ≡ d.origin) × (e.mine ≡ d.mine)
 
-  -- a seat that was joined to one of this origin, which has seen this list and knows of these seats
-  abbrev pub IsJoinedTo : Option O → List E → List (ℕ × List E) → SeatValue O E → Type 0
-  IsJoinedTo o seen kin s = (s.origin ≡ o) × IsPrefix s.seen seen × (s.alone ≡ false) × ((i : ℕ) × (get_elem? kin i ≡ some (s.number, s.mine)))
+  -- the seat as it is joined to another
+  abbrev pub kin_of_seat : SeatValue O E → Kin O E
+  kin_of_seat s = record { number = s.number; origin = s.origin; seen = s.seen; mine = s.mine }
+
+  -- this seat is one of these, which were joined to another, and it was not alone
+  abbrev pub IsJoined : List (Kin O E) → SeatValue O E → Type 0
+  IsJoined kin s = (s.alone ≡ false) × ((i : ℕ) × (get_elem? kin i ≡ some (kin_of_seat s)))

@@ -12,7 +12,8 @@ pub use Rattle.atomic_table.specs.Seated.{TableId, table_id_coded}
 abbrev pub by_seat : {E : Type 0} → (E → ℕ) → ℕ → List E → List E
 by_seat seat_of n entries = filter (λ e. seat_of e == n) entries
 
--- What a seat shows: its turn, its number, its origin, the entries that it has seen and those that it made, whether it is the only seat, and how many seat numbers it has seen drawn
+-- What a seat shows: its turn, its number and its origin, the entries that it has seen and those that it made, whether
+-- it is the only seat, how many seat numbers it has seen drawn, and how many it drew itself
 pub record SeatValue (O E : Type 0) : Type 0 where
   pub turn : TableId
   pub number : ℕ
@@ -21,15 +22,26 @@ pub record SeatValue (O E : Type 0) : Type 0 where
   pub mine : List E
   pub alone : Bool
   pub numbers : ℕ
+  pub draws : ℕ
 
--- the value has the seat's origin, its list begins with all that the seat has seen, and of the seat's number it has just the seat's own entries. Where the seat is alone, the list is what it has seen
-abbrev pub Meets : {S O E : Type 0} → (S → O) → (S → List E) → (E → ℕ) → SeatValue O E → S → Type 0
-Meets origin list seat_of s x =
-    (s.origin ≡ Some (origin x)) × IsPrefix s.seen (list x) × (by_seat seat_of s.number (list x) ≡ s.mine) × (s.alone ≡ true → list x ≡ s.seen)
+-- of the entries that the seat has seen, those of its number are just its own
+abbrev pub KnowsOwn : {O E : Type 0} → (E → ℕ) → SeatValue O E → Type 0
+KnowsOwn seat_of s = by_seat seat_of s.number s.seen ≡ s.mine
+
+-- The value is one that the seat may find: it has the seat's origin, and its list begins with all that the seat has
+-- seen. Of the seat's number that list has just the seat's own entries, and so has its beginning. Where the seat is
+-- alone, the list is what it has seen
+pub record Meets {S O E : Type 0} (origin : S → O) (list : S → List E) (seat_of : E → ℕ) (s : SeatValue O E) (x : S) : Type 0 where
+  pub same_origin : s.origin ≡ Some (origin x)
+  pub begins : IsPrefix s.seen (list x)
+  pub own : by_seat seat_of s.number (list x) ≡ s.mine
+  pub own_seen : KnowsOwn seat_of s
+  pub current : s.alone ≡ true → list x ≡ s.seen
 
 -- y is x with these entries added, all of the seat number n, and has the same origin
 abbrev pub Adds : {S O E : Type 0} → (S → O) → (S → List E) → (E → ℕ) → ℕ → S → List E → S → Type 0
-Adds origin list seat_of n x added y = (origin y ≡ origin x) × (list y ≡ list x ++ added) × All (λ e. seat_of e ≡ n) added
+Adds origin list seat_of n x added y =
+    (origin y ≡ origin x) × (list y ≡ list x ++ added) × All (λ e. seat_of e ≡ n) added
 
 -- a change that only appends entries of the seat number n
 abbrev pub OnlyAdds : {S O E : Type 0} → (S → O) → (S → List E) → (E → ℕ) → ℕ → S → S → Type 0
@@ -47,22 +59,34 @@ pub record GivesChange {F S R : Type 0} (g : Once F (MutBor S × (ℕ × Unit {0
   pub met : g.post f (shown, (n, tt)) (r, (left, tt))
   pub leaves : left.now ≡ y
 
--- what the k-th seat of a new turn over x shows, where the turn has this many seats
+-- the k-th seat of a new turn over x, which has this many seats
 abbrev pub new_seat : {S O E : Type 0} → (S → O) → (S → List E) → (E → ℕ) → TableId → S → ℕ → ℕ → SeatValue O E
-new_seat origin list seat_of turn x seats k =
-    record { turn = turn; number = k; origin = Some (origin x); seen = list x; mine = by_seat seat_of k (list x); alone = seats == 1; numbers = seats }
+new_seat origin list seat_of turn x seats k = record {
+  turn = turn;
+  number = k;
+  origin = Some (origin x);
+  seen = list x;
+  mine = by_seat seat_of k (list x);
+  alone = seats == 1;
+  numbers = seats;
+  draws = 0;
+}
 
--- what a seat shows once it has seen this list, in which its own entries are these
+-- the seat once it has seen this list, in which its own entries are these
 abbrev pub seat_after : {O E : Type 0} → SeatValue O E → List E → List E → SeatValue O E
 seat_after s list mine = record s { seen = list; mine = mine }
 
--- the seat of this number, split off s when it had seen this many numbers drawn: it has seen what s has, and made nothing
+-- the seat of this number, split off s: it has seen what s has, and made and drawn nothing
 abbrev pub seat_beside : {O E : Type 0} → SeatValue O E → ℕ → SeatValue O E
-seat_beside s number = record s { number = number; mine = []; alone = false; numbers = number + 1 }
+seat_beside s number = record s { number = number; mine = []; alone = false; numbers = number + 1; draws = 0 }
 
--- what a seat shows after it has drawn, or tried to
+-- the seat once it has drawn this number
 abbrev pub seat_after_draw : {O E : Type 0} → SeatValue O E → ℕ → SeatValue O E
-seat_after_draw s numbers = record s { alone = false; numbers = numbers }
+seat_after_draw s number = record s { alone = false; numbers = number + 1; draws = s.draws + 1 }
+
+-- the seat once it has found that all numbers were drawn: it has drawn nothing
+abbrev pub seat_when_full : {O E : Type 0} → SeatValue O E → SeatValue O E
+seat_when_full s = record s { alone = false; numbers = 4294967295 }
 
 -- the longer of two lists
 abbrev pub longer_of : {E : Type 0} → List E → List E → List E

@@ -25,18 +25,26 @@ pub struct View<O, E> {
     pub alone: bool,
     /// How many seat numbers it has seen drawn.
     pub numbers: u64,
+    /// How many it has drawn itself.
+    pub draws: u64,
     pub stage: Stage,
     /// The numbers from here on, below `to`, are kept back for seats that are to be split off.
     pub from: u64,
     pub to: u64,
-    /// What the shorter-sighted of two joined seats had seen.
-    pub told: LinkedList<E>,
-    /// The origin of a seat that was joined to this one.
-    pub told_origin: Option<O>,
-    /// The seats that were joined to this one, each by its number, with the entries that it made.
-    pub kin: LinkedList<(u64, LinkedList<E>)>,
+    /// What it had seen when a seat was last joined to it.
+    pub before: LinkedList<E>,
+    /// The seats that were joined to it.
+    pub kin: LinkedList<Kin<O, E>>,
     /// That one of two joined seats was alone, which never comes.
     pub clash: bool,
+}
+
+/// A seat that was joined to another, as it was then. No value of it is made.
+pub struct Kin<O, E> {
+    pub number: u64,
+    pub origin: Option<O>,
+    pub seen: LinkedList<E>,
+    pub mine: LinkedList<E>,
 }
 
 /// What a turn is told when it is made.
@@ -59,12 +67,14 @@ impl<S: Standing> TableRule<Option<S>, View<S::Origin, S::Entry>, Opening<S>> fo
 }
 
 /// A seat takes the turn.
-pub struct TakeTurn;
+pub struct TakeTurn<S> {
+    of: PhantomData<S>,
+}
 
-impl<S, O, E> Play<Option<S>, View<O, E>> for TakeTurn {
+impl<S: Standing> Play<Option<S>, View<S::Origin, S::Entry>> for TakeTurn<S> {
     ghost use Rattle.turn_lock.specs.Rule.{TakesTurn};
 
-    ghost then = { TakesTurn };
+    ghost then = { TakesTurn S.seat_of };
 }
 
 /// The holder reads the history's word, and the value is lent to it.
@@ -123,13 +133,15 @@ impl<S: Standing> Play<Option<S>, View<S::Origin, S::Entry>> for DrawNumber<S> {
     ghost then = { DrawsNumber S.seat_of };
 }
 
-/// A seat compares what it had seen with what a joined seat had.
-pub struct CompareSeats;
+/// A seat learns that what it and a joined seat had seen begins one list.
+pub struct CompareSeats<S> {
+    of: PhantomData<S>,
+}
 
-impl<S, O, E> Play<Option<S>, View<O, E>> for CompareSeats {
+impl<S: Standing> Play<Option<S>, View<S::Origin, S::Entry>> for CompareSeats<S> {
     ghost use Rattle.turn_lock.specs.Rule.{ComparesSeats};
 
-    ghost then = { ComparesSeats };
+    ghost then = { ComparesSeats S.seat_of };
 }
 
 /// A seat is split off.

@@ -1,7 +1,7 @@
 ghost use Rattle.std.specs.Prelude.{◌≡◌, ℕ, ◌+◌, ◌<◌, ◌≤◌, true, false, List, [], ◌∷◌, ◌++◌, length, Some, All, IfOk, IfErr, MatchResult, slice_get};
 ghost use Rattle.std.specs.Fn.{FnOnceTakesAt, FnOnceReturnsAt};
 ghost use mathlib.Core.List.{IsPrefix};
-ghost use Rattle.turn_lock.specs.Seats.{Meets, Adds, OnlyAdds, TakesChange, GivesChange, new_seat, seat_after, seat_beside, seat_after_draw, longer_of};
+ghost use Rattle.turn_lock.specs.Seats.{KnowsOwn, Meets, Adds, OnlyAdds, TakesChange, GivesChange, new_seat, seat_after, seat_beside, seat_after_draw, seat_when_full, longer_of};
 
 use crate::rule::{Opening, SplitOff, TurnRule};
 use crate::seat::Seat;
@@ -63,9 +63,12 @@ impl<S: Standing> Turn<S> {
     ) -> Result<(Turn<S>, Vec<Seat<S::Origin, S::Entry>>), NoMemory>
         requires some { 0 < seats }
         requires numbers { All (λ e. S.seat_of e < seats) (S.list value) }
-        ensures own { IfOk result (λ r. All (λ s. s.turn ≡ r.0) r.1.items) }
+        ensures turn { IfOk result (λ r. All (λ s. s.turn ≡ r.0) r.1.items) }
         ensures count { IfOk result (λ r. length r.1.items ≡ seats) }
-        ensures each { IfOk result (λ r. (k : ℕ) → k < seats → slice_get r.1.items k ≡ Some (new_seat S.origin S.list S.seat_of r.0 value seats k)) }
+        ensures each { IfOk result (λ r.
+            let seat = new_seat S.origin S.list S.seat_of r.0 value seats
+            in (k : ℕ) → k < seats → slice_get r.1.items k ≡ Some (seat k)) }
+        ensures own { IfOk result (λ r. All (KnowsOwn S.seat_of) r.1.items) }
     {
         let all = Vec::with_capacity(alloc, seats as usize)?;
         let about = Opening {
@@ -107,8 +110,13 @@ impl<S: Standing> Turn<S> {
         f: F,
     ) -> R
         requires own { seat.old.turn ≡ self.now }
-        requires callable { (x : S) → Meets S.origin S.list S.seat_of seat.old x → FnOnceTakesAt F.FnOnce f x }
-        ensures { (x : S) × Meets S.origin S.list S.seat_of seat.old x × FnOnceReturnsAt F.FnOnce f x result × (seat.new ≡ seat_after seat.old (S.list x) seat.old.mine) }
+        requires callable { (x : S) → Meets S.origin S.list S.seat_of seat.old x
+            → FnOnceTakesAt F.FnOnce f x }
+        ensures read { (x : S)
+            × Meets S.origin S.list S.seat_of seat.old x
+            × FnOnceReturnsAt F.FnOnce f x result
+            × (seat.new ≡ seat_after seat.old (S.list x) seat.old.mine) }
+        ensures own { KnowsOwn S.seat_of seat.old × KnowsOwn S.seat_of seat.new }
     {
         let top = &self.table.shared;
         let mut place: Place<S> = replace(&mut seat.badge, Badge::blank()).into_seat();
@@ -128,9 +136,17 @@ impl<S: Standing> Turn<S> {
         f: F,
     ) -> R
         requires own { seat.old.turn ≡ self.now }
-        requires callable { (x : S) → Meets S.origin S.list S.seat_of seat.old x → TakesChange F.FnOnce f x seat.old.number }
-        requires only_adds { (x y : S) (r : R) → Meets S.origin S.list S.seat_of seat.old x → GivesChange F.FnOnce f x seat.old.number r y → OnlyAdds S.origin S.list S.seat_of seat.old.number x y }
-        ensures { (x : S) × (y : S) × (added : List S.Entry) × Meets S.origin S.list S.seat_of seat.old x × GivesChange F.FnOnce f x seat.old.number result y × Adds S.origin S.list S.seat_of seat.old.number x added y × (seat.new ≡ seat_after seat.old (S.list y) (seat.old.mine ++ added)) }
+        requires callable { (x : S) → Meets S.origin S.list S.seat_of seat.old x
+            → TakesChange F.FnOnce f x seat.old.number }
+        requires only_adds { (x y : S) (r : R) → Meets S.origin S.list S.seat_of seat.old x
+            → GivesChange F.FnOnce f x seat.old.number r y
+            → OnlyAdds S.origin S.list S.seat_of seat.old.number x y }
+        ensures change { (x : S) × (y : S) × (added : List S.Entry)
+            × Meets S.origin S.list S.seat_of seat.old x
+            × GivesChange F.FnOnce f x seat.old.number result y
+            × Adds S.origin S.list S.seat_of seat.old.number x added y
+            × (seat.new ≡ seat_after seat.old (S.list y) (seat.old.mine ++ added)) }
+        ensures own { KnowsOwn S.seat_of seat.old × KnowsOwn S.seat_of seat.new }
     {
         let top = &self.table.shared;
         let number = seat.number;
@@ -151,8 +167,13 @@ impl<S: Standing> Turn<S> {
         seat: &mut Seat<S::Origin, S::Entry>,
     ) -> Result<Seat<S::Origin, S::Entry>, SplitFault>
         requires { seat.old.turn ≡ self.now }
-        ensures new { IfOk result (λ s. (s ≡ seat_beside seat.old s.number) × (seat.new ≡ seat_after_draw seat.old (s.number + 1)) × (seat.old.numbers ≤ s.number) × (s.number < 4294967295)) }
-        ensures full { IfErr result (λ e. (e ≡ SplitFault.Full) × (seat.new ≡ seat_after_draw seat.old 4294967295)) }
+        ensures new { IfOk result (λ s. (s ≡ seat_beside seat.old s.number)
+            × (seat.new ≡ seat_after_draw seat.old s.number)
+            × (seat.old.numbers ≤ s.number) × (s.number < 4294967295)) }
+        ensures full { IfErr result (λ e. (e ≡ SplitFault.Full)
+            × (seat.new ≡ seat_when_full seat.old) × (seat.old.numbers ≤ 4294967295)) }
+        ensures own { KnowsOwn S.seat_of seat.old × KnowsOwn S.seat_of seat.new
+            × IfOk result (KnowsOwn S.seat_of) }
     {
         let top = &self.table.shared;
         let mut place: Place<S> = replace(&mut seat.badge, Badge::blank()).into_seat();
@@ -177,9 +198,14 @@ impl<S: Standing> Turn<S> {
     )
         requires own { seat.old.turn ≡ self.now }
         requires other { other.turn ≡ self.now }
-        ensures longer { seat.new ≡ seat_after seat.old (longer_of seat.old.seen other.seen) seat.old.mine }
-        ensures begins { IsPrefix seat.old.seen seat.new.seen × IsPrefix other.seen seat.new.seen }
-        ensures beside { (other.origin ≡ seat.old.origin) × (seat.old.alone ≡ false) × (other.alone ≡ false) }
+        ensures longer { let seen = longer_of seat.old.seen other.seen
+            in seat.new ≡ seat_after seat.old seen seat.old.mine }
+        ensures begins { IsPrefix seat.old.seen seat.new.seen
+            × IsPrefix other.seen seat.new.seen }
+        ensures own { KnowsOwn S.seat_of seat.old × KnowsOwn S.seat_of other
+            × KnowsOwn S.seat_of seat.new }
+        ensures beside { (other.origin ≡ seat.old.origin)
+            × (seat.old.alone ≡ false) × (other.alone ≡ false) }
     {
         let top = &self.table.shared;
         let mut place: Place<S> = replace(&mut seat.badge, Badge::blank()).into_seat();
