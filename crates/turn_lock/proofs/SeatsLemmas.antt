@@ -1,12 +1,12 @@
 -- Beginnings of one list, and the entries of one seat in it.
-use Rattle.std.proofs.Common.{◌≡◌, ◌≢◌, ℕ, zero, suc, ◌<◌, ◌≤◌, eqb, eq-eqb, ne_eqb, List, [], ◌∷◌, ◌++◌, length, Bool, true, false, refl, ap, sym, ◌∙◌, arith, append_assoc, length-append, cond}
+use Rattle.std.proofs.Common.{◌≡◌, ◌≢◌, ℕ, zero, suc, ◌<◌, ◌≤◌, eqb, eq-eqb, ne_eqb, List, [], ◌∷◌, ◌++◌, length, Bool, true, false, refl, ap, sym, ◌∙◌, arith, append_assoc, length-append, cond, Result, Ok, Err, MatchResult}
 use Rattle.std.proofs.lemmas.List.{append-nil, append_cancel_left}
 use Rattle.std.proofs.lemmas.List.Elements.{filter-append}
 use Rattle.std.proofs.Math.Dec.{ltb}
 use Rattle.std.proofs.lemmas.Bool.{ltb-true, ltb-false}
 use Rattle.std.specs.List.{All}
 use mathlib.Core.List.{IsPrefix}
-use Rattle.turn_lock.specs.Seats.{by_seat, longer_of}
+use Rattle.turn_lock.specs.Seats.{by_seat, SeatValue, seat_after, longer_of}
 
 module _ {A : Type 0} where
   pub prefix_self : (xs : List A) → IsPrefix xs xs
@@ -53,6 +53,31 @@ module _ {A : Type 0} where
       pick : (b : Bool) → ltb (length xs) (length ys) ≡ b → IsPrefix xs (cond b ys xs) × IsPrefix ys (cond b ys xs)
       pick true is = (let less : length xs < length ys = ltb-true (length xs) (length ys) is in prefix_shorter xs ys zs p q (omega arith), prefix_self ys)
       pick false is = (prefix_self xs, let most : length ys ≤ length xs = ltb-false (length xs) (length ys) is in prefix_shorter ys xs zs q p most)
+
+  -- what was added is what the list has more
+  pub adds_only : (xs ys added more : List A) → ys ≡ xs ++ added → ys ≡ xs ++ more → added ≡ more
+  adds_only xs ys added more one two = append_cancel_left xs added more (sym one ∙ two)
+
+  -- and nothing, where the list is as it was
+  pub adds_nothing : (xs ys added : List A) → ys ≡ xs ++ added → ys ≡ xs → added ≡ []
+  adds_nothing xs ys added one same = adds_only xs ys added [] one (same ∙ sym (append-nil xs))
+
+module _ {O E T F : Type 0} where
+  -- the seat after a step that adds one entry where it answers Ok, and else nothing
+  pub seat_after_step : (r : Result T F) (e : E) (xs ys added : List E) (s t : SeatValue O E) → ys ≡ xs ++ added → t ≡ seat_after s ys (s.mine ++ added) → MatchResult r (λ _. ys ≡ xs ++ e ∷ []) (λ _. ys ≡ xs)
+      → MatchResult r (λ _. t ≡ seat_after s (xs ++ e ∷ []) (s.mine ++ e ∷ [])) (λ _. t ≡ seat_after s xs s.mine)
+  seat_after_step (Ok v) e xs ys added s t adds is one =
+      let mine : added ≡ e ∷ [] = adds_only xs ys added (e ∷ []) adds one in
+      is ∙ (ap (λ l. seat_after s l (s.mine ++ added)) one ∙ ap (λ l. seat_after s (xs ++ e ∷ []) (s.mine ++ l)) mine)
+  seat_after_step (Err f) e xs ys added s t adds is same =
+      let none : added ≡ [] = adds_nothing xs ys added adds same in
+      is ∙ (ap (λ l. seat_after s l (s.mine ++ added)) same ∙ ap (λ l. seat_after s xs l) (ap (λ l. s.mine ++ l) none ∙ append-nil s.mine))
+
+module _ {T F : Type 0} where
+  -- two facts for each answer
+  pub match_both : (r : Result T F) (A B : T → Type 0) (C D : F → Type 0) → MatchResult r A C → MatchResult r B D → MatchResult r (λ v. A v × B v) (λ e. C e × D e)
+  match_both (Ok v) A B C D one two = (one, two)
+  match_both (Err e) A B C D one two = (one, two)
 
 module _ {E : Type 0} (seat_of : E → ℕ) where
   pub by_seat-append : (n : ℕ) (xs ys : List E) → by_seat seat_of n (xs ++ ys) ≡ by_seat seat_of n xs ++ by_seat seat_of n ys

@@ -73,6 +73,11 @@ module _ {F S R : Type 0} (g : Once F (MutBor S × (ℕ × Unit {0})) (R × (Mut
   pub takes_at : (f : F) (x : S) (n m : ℕ) → n ≡ m → TakesChange g f x n → TakesChange g f x m
   takes_at f x n m e t = subst (λ (k : ℕ). TakesChange g f x k) e t
 
+  -- what f does to any value it did to this one
+  pub gives_values : (f : F) (x : S) (n : ℕ) (r : R) (y : S) (Q : S → R → S → Type 0) → ((p q : MutBor S) → g.post f (p, (n, tt)) (r, (q, tt)) → Q p.now r q.now) → GivesChange g f x n r y → Q x r y
+  gives_values f x n r y Q each h =
+      subst (λ (v : S). Q x r v) h.leaves (subst (λ (v : S). Q v r h.left.now) h.shows (each h.shown h.left h.met))
+
   pub gives_at : (f : F) (x : S) (n m : ℕ) (r : R) (y : S) → n ≡ m → GivesChange g f x n r y → GivesChange g f x m r y
   gives_at f x n m r y e t = subst (λ (k : ℕ). GivesChange g f x k r y) e t
 

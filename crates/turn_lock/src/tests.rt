@@ -1,6 +1,8 @@
 ghost use Rattle.std.specs.Prelude.{◌≡◌, ◌+◌, ◌<◌, [], ◌∷◌, ◌++◌, length, IfOk, IfSome, MatchResult, All};
 ghost use Rattle.turn_lock.specs.Seats.{seat_after, longer_of};
 
+mod lake;
+
 use super::*;
 use std::alloc::{AllocError, Global};
 use std::process::Abort;

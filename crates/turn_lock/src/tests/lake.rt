@@ -1,0 +1,219 @@
+//! A small lake over any keeper, whose steps go through a turn as those of a lake of many seats will.
+ghost use Rattle.std.specs.Prelude.{◌≡◌, ℕ, ◌+◌, ◌<◌, List, [], ◌∷◌, ◌++◌, length, map, Some, MatchResult};
+ghost use mathlib.Core.List.{IsPrefix};
+ghost use Rattle.turn_lock.specs.Seats.{seat_after};
+ghost use Rattle.turn_lock.specs.SmallLake.{SmallState, state_after, put_reply};
+
+use crate::{Seat, Standing, Turn};
+use std::alloc::AllocError;
+use std::marker::Model;
+use std::snapshot::Snapshot;
+use std::sync::Wait;
+
+/// What keeps the numbers of a lake. It may fail.
+pub trait Keeper: Drop {
+    /// How often it has failed.
+    ghost faults: { Self → ℕ };
+
+    fn keep(&mut self, number: u64) -> Result<(), Failed>
+        ensures { MatchResult result (λ _. faults self.new ≡ faults self.old)
+            (λ _. faults self.old < faults self.new) };
+}
+
+#[derive(Clone, Copy, Debug, PartialEq, Eq)]
+pub struct Failed;
+
+/// Who made an entry: the number of a seat, and which of its calls.
+#[derive(Clone, Copy, Debug, PartialEq, Eq)]
+pub struct By {
+    pub seat: u32,
+    pub call: u64,
+}
+
+#[derive(Clone, Copy, Debug, PartialEq, Eq)]
+pub struct Entry {
+    pub by: By,
+    pub number: u64,
+}
+
+#[derive(Clone, Copy, Debug, PartialEq, Eq)]
+pub enum PutFault {
+    /// The lake has another version: this one.
+    Changed(u64),
+    Failed,
+    Full,
+    NoMemory,
+}
+
+impl From<AllocError> for PutFault {
+    ghost use Rattle.std.specs.Prelude.{◌≡◌};
+    ghost use Rattle.turn_lock.specs.declared.tests.lake.PutFault.TheVariants.{NoMemory};
+
+    ghost from_gives = { λ _ e. e ≡ NoMemory };
+
+    fn from(_: AllocError) -> PutFault {
+        PutFault::NoMemory
+    }
+}
+
+/// Stands for the state that a lake was opened with. No value of it is made.
+pub struct Opened;
+
+impl Model for Opened {
+    ghost use Rattle.turn_lock.specs.SmallLake.{SmallState};
+
+    ghost Value = { SmallState };
+
+    ghost view = { λ _. record { number = 0; version = 0 } };
+}
+
+/// What a lake is now.
+#[derive(Clone, Copy, Debug, PartialEq, Eq)]
+pub struct Now {
+    pub number: u64,
+    pub version: u64,
+}
+
+/// A lake of one number. Contracts see the state that it was opened with, its entries and its keeper.
+#[derive(Drop)]
+pub struct Lake<K: Keeper> {
+    opened: Snapshot<Now>,
+    present: Now,
+    entries: Vec<Entry>,
+    keeper: K,
+}
+
+impl<K: Keeper> Model for Lake<K> {
+    ghost use Rattle.std.specs.Prelude.{◌≡◌, map};
+    ghost use Rattle.turn_lock.specs.SmallLake.{SmallLakeValue, state_after};
+    ghost use Rattle.turn_lock.specs.declared.tests.lake.Entry.{Entry};
+
+    ghost Value = { SmallLakeValue K Entry };
+
+    ghost view = { λ l. record {
+      opened = record { number = l.opened.value.number; version = l.opened.value.version };
+      entries = l.entries.items;
+      keeper = l.keeper;
+    } };
+
+    ghost invariant = { λ l. state_after
+        (record { number = l.opened.value.number; version = l.opened.value.version })
+        (map (λ e. e.number) l.entries.items)
+        ≡ record { number = l.present.number; version = l.present.version } };
+}
+
+impl<K: Keeper> Standing for Lake<K> {
+    type Origin = Opened;
+
+    type Entry = Entry;
+
+    ghost origin = { λ l. l.opened };
+
+    ghost list = { λ l. l.entries };
+
+    ghost seat_of = { λ e. e.by.seat };
+
+    fn entries(&self) -> u64 {
+        self.entries.len() as u64
+    }
+}
+
+impl<K: Keeper> Lake<K> {
+    /// What the lake is now.
+    pub fn look(&self) -> Now
+        ensures { let state = state_after self.now.opened (map (λ e. e.number) self.now.entries)
+            in (result.number ≡ state.number) × (result.version ≡ state.version) }
+    {
+        self.present
+    }
+
+    /// Puts a number where the lake has this version, and answers the next version.
+    pub fn put(&mut self, by: By, version: u64, number: u64) -> Result<u64, PutFault>
+        ensures opened { self.new.opened ≡ self.old.opened }
+        ensures entries { MatchResult result
+            (λ _. self.new.entries ≡ self.old.entries ++ record { by = by; number = number } ∷ [])
+            (λ _. self.new.entries ≡ self.old.entries) }
+        ensures reply { let state = state_after self.old.opened (map (λ e. e.number) self.old.entries)
+            in MatchResult result
+            (λ next. put_reply state version ≡ Ok next)
+            (λ fault. (v : ℕ) → fault ≡ PutFault.Changed v → put_reply state version ≡ Err v) }
+    {
+        if version != self.present.version {
+            return Err(PutFault::Changed(self.present.version));
+        }
+        if version == u64::MAX {
+            return Err(PutFault::Full);
+        }
+        self.entries.reserve(1)?;
+        if self.keeper.keep(number).is_err() {
+            return Err(PutFault::Failed);
+        }
+        let _ = self.entries.push(Entry { by, number });
+        self.present = Now {
+            number,
+            version: version + 1,
+        };
+        Ok(version + 1)
+    }
+}
+
+/// A lake that seats share. To a contract it is the name of its turn.
+#[derive(Drop)]
+pub struct Shared<K: Keeper> {
+    turn: Turn<Lake<K>>,
+}
+
+impl<K: Keeper> Model for Shared<K> {
+    ghost use Rattle.turn_lock.specs.Seats.{TableId, table_id_coded};
+
+    ghost Value = { TableId };
+
+    ghost coded = { table_id_coded };
+
+    ghost view = { λ s. s.turn };
+}
+
+/// A seat at such a lake, whatever its keeper is.
+pub type LakeSeat = Seat<Opened, Entry>;
+
+impl<K: Keeper> Shared<K> {
+    /// What the lake is at a history that begins with all that the seat had seen.
+    pub fn look<W: Wait>(&self, rt: &W, seat: &mut LakeSeat) -> Now
+        requires { seat.old.turn ≡ self.now }
+        ensures { (opened : SmallState) × (history : List Entry)
+            × (seat.old.origin ≡ Some opened)
+            × IsPrefix seat.old.seen history
+            × (seat.new ≡ seat_after seat.old history seat.old.mine)
+            × (let state = state_after opened (map (λ e. e.number) history)
+            in (result.number ≡ state.number) × (result.version ≡ state.version)) }
+    {
+        self.turn.with_read(rt, seat, |lake| lake.look())
+    }
+
+    /// Puts a number where the lake has this version.
+    pub fn put<W: Wait>(
+        &self,
+        rt: &W,
+        seat: &mut LakeSeat,
+        call: u64,
+        version: u64,
+        number: u64,
+    ) -> Result<u64, PutFault>
+        requires { seat.old.turn ≡ self.now }
+        ensures { (opened : SmallState) × (history : List Entry)
+            × (seat.old.origin ≡ Some opened)
+            × IsPrefix seat.old.seen history
+            × (let state = state_after opened (map (λ e. e.number) history) in
+            let by : By = record { seat = seat.old.number; call = call } in
+            let entry : Entry = record { by = by; number = number }
+            in MatchResult result
+            (λ next. (put_reply state version ≡ Ok next)
+            × (seat.new ≡ seat_after seat.old (history ++ entry ∷ []) (seat.old.mine ++ entry ∷ [])))
+            (λ fault. ((v : ℕ) → fault ≡ PutFault.Changed v → put_reply state version ≡ Err v)
+            × (seat.new ≡ seat_after seat.old history seat.old.mine))) }
+    {
+        self.turn.with_change(rt, seat, |lake, own| {
+            lake.put(By { seat: own, call }, version, number)
+        })
+    }
+}
