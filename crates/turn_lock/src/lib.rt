@@ -13,6 +13,7 @@
 //! promised of progress or of fairness: a call that waits keeps its promise if it returns.
 #![tactic(auto)]
 
+mod laws;
 mod rule;
 mod seat;
 mod standing;
@@ -20,6 +21,7 @@ mod steps;
 mod threads;
 mod turn;
 
+pub use laws::law_of_steps;
 pub use seat::Seat;
 pub use standing::Standing;
 pub use threads::{seats_cross, turns_cross};

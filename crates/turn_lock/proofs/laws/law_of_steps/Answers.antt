@@ -1,0 +1,11 @@
+use Rattle.turn_lock.proofs.SeatsLemmas.{adds_only, adds_nothing, seat_after_step}
+use Rattle.turn_lock.proofs.laws.law_of_steps.Goals as goal
+
+pub returns-clause-more : goal.returns-clause-more
+returns-clause-more g c n x y added more adds is = adds_only _ _ added more adds.1 is
+
+pub returns-clause-none : goal.returns-clause-none
+returns-clause-none g c n x y added adds same = adds_nothing _ _ added adds.1 same
+
+pub returns-clause-one : goal.returns-clause-one
+returns-clause-one g c answer x y e added s t adds is one = seat_after_step answer e _ _ added s t adds.1 is one
