@@ -1,12 +1,12 @@
 -- Beginnings of one list, and the entries of one seat in it.
-use Rattle.std.proofs.Common.{◌≡◌, ◌≢◌, ℕ, zero, suc, ◌<◌, ◌≤◌, eqb, eq-eqb, ne_eqb, List, [], ◌∷◌, ◌++◌, length, Bool, true, false, refl, ap, sym, ◌∙◌, arith, append_assoc, length-append, cond, Result, Ok, Err, MatchResult}
+use Rattle.std.proofs.Common.{◌≡◌, ◌≢◌, ℕ, zero, suc, ◌<◌, ◌≤◌, eqb, eq-eqb, ne_eqb, List, [], ◌∷◌, ◌++◌, length, Bool, true, false, refl, ap, sym, ◌∙◌, arith, append_assoc, length-append, cond, Result, Ok, Err, MatchResult, get_or}
 use Rattle.std.proofs.lemmas.List.{append-nil, append_cancel_left}
 use Rattle.std.proofs.lemmas.List.Elements.{filter-append}
 use Rattle.std.proofs.Math.Dec.{ltb}
 use Rattle.std.proofs.lemmas.Bool.{ltb-true, ltb-false}
 use Rattle.std.specs.List.{All}
 use mathlib.Core.List.{IsPrefix}
-use Rattle.turn_lock.specs.Seats.{by_seat, SeatValue, seat_after, longer_of}
+use Rattle.turn_lock.specs.Seats.{by_seat, SeatValue, OnlyAdds, seat_after, longer_of}
 
 module _ {A : Type 0} where
   pub prefix_self : (xs : List A) → IsPrefix xs xs
@@ -73,11 +73,15 @@ module _ {O E T F : Type 0} where
       let none : added ≡ [] = adds_nothing xs ys added adds same in
       is ∙ (ap (λ l. seat_after s l (s.mine ++ added)) same ∙ ap (λ l. seat_after s xs l) (ap (λ l. s.mine ++ l) none ∙ append-nil s.mine))
 
-module _ {T F : Type 0} where
-  -- two facts for each answer
-  pub match_both : (r : Result T F) (A B : T → Type 0) (C D : F → Type 0) → MatchResult r A C → MatchResult r B D → MatchResult r (λ v. A v × B v) (λ e. C e × D e)
-  match_both (Ok v) A B C D one two = (one, two)
-  match_both (Err e) A B C D one two = (one, two)
+module _ {S O E T F : Type 0} (origin : S → O) (list : S → List E) (seat_of : E → ℕ) where
+  -- a step that adds one entry of its seat where it answers Ok, and else nothing, only adds
+  pub step_only_adds : (r : Result T F) (n : ℕ) (e : E) (x y : S) → origin y ≡ origin x → seat_of e ≡ n → MatchResult r (λ _. list y ≡ list x ++ e ∷ []) (λ _. list y ≡ list x) → OnlyAdds origin list seat_of n x y
+  step_only_adds (Ok v) n e x y same own one = (e ∷ [], (same, one, each))
+    where
+      each : (k : ℕ) (d : E) → k < 1 → seat_of (get_or (e ∷ []) k d) ≡ n
+      each zero d l = own
+      each (suc k) d l = absurd (omega arith)
+  step_only_adds (Err f) n e x y same own none = ([], (same, none ∙ sym (append-nil (list x)), λ k d l. absurd (omega arith)))
 
 module _ {E : Type 0} (seat_of : E → ℕ) where
   pub by_seat-append : (n : ℕ) (xs ys : List E) → by_seat seat_of n (xs ++ ys) ≡ by_seat seat_of n xs ++ by_seat seat_of n ys

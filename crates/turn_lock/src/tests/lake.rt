@@ -1,8 +1,8 @@
 //! A small lake over any keeper, whose steps go through a turn as those of a lake of many seats will.
-ghost use Rattle.std.specs.Prelude.{◌≡◌, ℕ, ◌+◌, ◌<◌, List, [], ◌∷◌, ◌++◌, length, map, Some, MatchResult};
+ghost use Rattle.std.specs.Prelude.{◌≡◌, ℕ, ◌<◌, List, [], ◌∷◌, ◌++◌, map, Some, MatchOption, MatchResult, Contains};
 ghost use mathlib.Core.List.{IsPrefix};
-ghost use Rattle.turn_lock.specs.Seats.{seat_after};
-ghost use Rattle.turn_lock.specs.SmallLake.{SmallState, state_after, put_reply};
+ghost use Rattle.turn_lock.specs.Seats.{by_seat, seat_after};
+ghost use Rattle.turn_lock.specs.SmallLake.{SmallState, Gives, state_of, put_reply};
 
 use crate::{Seat, Standing, Turn};
 use std::alloc::AllocError;
@@ -30,10 +30,25 @@ pub struct By {
     pub call: u64,
 }
 
-#[derive(Clone, Copy, Debug, PartialEq, Eq)]
+/// What is said of a number. Contracts see its bytes.
+#[derive(Drop)]
+pub struct Remark {
+    bytes: Vec<u8>,
+}
+
+impl Model for Remark {
+    ghost use Rattle.std.specs.Prelude.{ℕ, List};
+
+    ghost Value = { List ℕ };
+
+    ghost view = { λ r. r.bytes.items };
+}
+
+#[derive(Drop)]
 pub struct Entry {
     pub by: By,
     pub number: u64,
+    pub remark: Remark,
 }
 
 #[derive(Clone, Copy, Debug, PartialEq, Eq)]
@@ -119,24 +134,35 @@ impl<K: Keeper> Standing for Lake<K> {
 }
 
 impl<K: Keeper> Lake<K> {
-    /// What the lake is now.
-    pub fn look(&self) -> Now
-        ensures { let state = state_after self.now.opened (map (λ e. e.number) self.now.entries)
-            in (result.number ≡ state.number) × (result.version ≡ state.version) }
+    /// What the lake is now, unless it still has the version that is known.
+    pub fn look(&self, known: &Now) -> Option<Now>
+        ensures { let state = state_of (λ e. e.number) self.now.opened self.now.entries
+            in MatchOption result (state.version ≡ known.now.version)
+            (λ now. (now.number ≡ state.number) × (now.version ≡ state.version)) }
     {
-        self.present
+        if known.version == self.present.version {
+            None
+        } else {
+            Some(self.present)
+        }
     }
 
-    /// Puts a number where the lake has this version, and answers the next version.
-    pub fn put(&mut self, by: By, version: u64, number: u64) -> Result<u64, PutFault>
+    /// Puts a number where the lake has this version, and answers the next version. No call puts two.
+    pub fn put(
+        &mut self,
+        by: By,
+        version: u64,
+        number: u64,
+        remark: Remark,
+    ) -> Result<u64, PutFault>
+        requires { let own = by_seat (λ e. e.by.seat) by.seat self.old.entries
+            in Contains (map (λ e. e.by.call) own) by.call → ⊥ }
         ensures opened { self.new.opened ≡ self.old.opened }
-        ensures entries { MatchResult result
-            (λ _. self.new.entries ≡ self.old.entries ++ record { by = by; number = number } ∷ [])
+        ensures entries { let entry : Entry = record { by = by; number = number; remark = remark }
+            in MatchResult result (λ _. self.new.entries ≡ self.old.entries ++ entry ∷ [])
             (λ _. self.new.entries ≡ self.old.entries) }
-        ensures reply { let state = state_after self.old.opened (map (λ e. e.number) self.old.entries)
-            in MatchResult result
-            (λ next. put_reply state version ≡ Ok next)
-            (λ fault. (v : ℕ) → fault ≡ PutFault.Changed v → put_reply state version ≡ Err v) }
+        ensures reply { let state = state_of (λ e. e.number) self.old.opened self.old.entries
+            in Gives PutFault.Changed result (put_reply state version) }
     {
         if version != self.present.version {
             return Err(PutFault::Changed(self.present.version));
@@ -148,7 +174,7 @@ impl<K: Keeper> Lake<K> {
         if self.keeper.keep(number).is_err() {
             return Err(PutFault::Failed);
         }
-        let _ = self.entries.push(Entry { by, number });
+        let _ = self.entries.push(Entry { by, number, remark });
         self.present = Now {
             number,
             version: version + 1,
@@ -177,20 +203,22 @@ impl<K: Keeper> Model for Shared<K> {
 pub type LakeSeat = Seat<Opened, Entry>;
 
 impl<K: Keeper> Shared<K> {
-    /// What the lake is at a history that begins with all that the seat had seen.
-    pub fn look<W: Wait>(&self, rt: &W, seat: &mut LakeSeat) -> Now
+    /// What the lake is at a history that begins with all that the seat had seen, unless it has the version
+    /// that is known.
+    pub fn look<W: Wait>(&self, rt: &W, seat: &mut LakeSeat, known: &Now) -> Option<Now>
         requires { seat.old.turn ≡ self.now }
         ensures { (opened : SmallState) × (history : List Entry)
             × (seat.old.origin ≡ Some opened)
             × IsPrefix seat.old.seen history
             × (seat.new ≡ seat_after seat.old history seat.old.mine)
-            × (let state = state_after opened (map (λ e. e.number) history)
-            in (result.number ≡ state.number) × (result.version ≡ state.version)) }
+            × (let state = state_of (λ e. e.number) opened history
+            in MatchOption result (state.version ≡ known.now.version)
+            (λ now. (now.number ≡ state.number) × (now.version ≡ state.version))) }
     {
-        self.turn.with_read(rt, seat, |lake| lake.look())
+        self.turn.with_read(rt, seat, |lake| lake.look(known))
     }
 
-    /// Puts a number where the lake has this version.
+    /// Puts a number where the lake has this version, at a history that begins with all that the seat had seen.
     pub fn put<W: Wait>(
         &self,
         rt: &W,
@@ -198,22 +226,24 @@ impl<K: Keeper> Shared<K> {
         call: u64,
         version: u64,
         number: u64,
+        remark: Remark,
     ) -> Result<u64, PutFault>
-        requires { seat.old.turn ≡ self.now }
+        requires own { seat.old.turn ≡ self.now }
+        requires new { Contains (map (λ e. e.by.call) seat.old.mine) call → ⊥ }
         ensures { (opened : SmallState) × (history : List Entry)
             × (seat.old.origin ≡ Some opened)
             × IsPrefix seat.old.seen history
-            × (let state = state_after opened (map (λ e. e.number) history) in
-            let by : By = record { seat = seat.old.number; call = call } in
-            let entry : Entry = record { by = by; number = number }
+            × Gives PutFault.Changed result
+            (put_reply (state_of (λ e. e.number) opened history) version)
+            × (let by : By = record { seat = seat.old.number; call = call } in
+            let entry : Entry = record { by = by; number = number; remark = remark }
             in MatchResult result
-            (λ next. (put_reply state version ≡ Ok next)
-            × (seat.new ≡ seat_after seat.old (history ++ entry ∷ []) (seat.old.mine ++ entry ∷ [])))
-            (λ fault. ((v : ℕ) → fault ≡ PutFault.Changed v → put_reply state version ≡ Err v)
-            × (seat.new ≡ seat_after seat.old history seat.old.mine))) }
+            (λ _. seat.new
+            ≡ seat_after seat.old (history ++ entry ∷ []) (seat.old.mine ++ entry ∷ []))
+            (λ _. seat.new ≡ seat_after seat.old history seat.old.mine)) }
     {
-        self.turn.with_change(rt, seat, |lake, own| {
-            lake.put(By { seat: own, call }, version, number)
+        self.turn.with_change(rt, seat, move |lake, own| {
+            lake.put(By { seat: own, call }, version, number, remark)
         })
     }
 }

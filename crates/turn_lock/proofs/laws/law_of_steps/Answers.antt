@@ -1,4 +1,4 @@
-use Rattle.turn_lock.proofs.SeatsLemmas.{adds_only, adds_nothing, seat_after_step}
+use Rattle.turn_lock.proofs.SeatsLemmas.{adds_only, adds_nothing, seat_after_step, step_only_adds}
 use Rattle.turn_lock.proofs.laws.law_of_steps.Goals as goal
 
 pub returns-clause-more : goal.returns-clause-more
@@ -9,3 +9,6 @@ returns-clause-none g c n x y added adds same = adds_nothing _ _ added adds.1 sa
 
 pub returns-clause-one : goal.returns-clause-one
 returns-clause-one g c answer x y e added s t adds is one = seat_after_step answer e _ _ added s t adds.1 is one
+
+pub returns-clause-only : goal.returns-clause-only
+returns-clause-only g c answer n e x y same own is = step_only_adds g.S.Standing.origin g.S.Standing.list g.S.Standing.seat_of answer n e x y same own is

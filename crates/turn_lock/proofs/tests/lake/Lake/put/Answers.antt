@@ -16,7 +16,7 @@ put_state s now es e is =
 
 pub invariant_of-self-2 : goal.invariant_of-self-2
 invariant_of-self-2 g c =
-    let e : Entry = record { by = c.args.by; number = c.args.number } in
+    let e : Entry = record { by = c.args.by; number = c.args.number; remark = c.args.remark } in
     let s : SmallState = record { number = c.self.inside.opened.value.number; version = c.self.inside.opened.value.version } in
     let now : SmallState = record { number = c.self.inside.present.number; version = c.self.inside.present.version } in
     let next = put_state s now c.self.inside.entries.items e c.self.invariant in
