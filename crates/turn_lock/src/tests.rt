@@ -1,4 +1,4 @@
-ghost use Rattle.std.specs.Prelude.{◌≡◌, ◌+◌, ◌<◌, [], ◌∷◌, ◌++◌, length, IfOk, IfSome, MatchResult, All};
+ghost use Rattle.std.specs.Prelude.{◌≡◌, ◌+◌, ◌<◌, true, false, [], ◌∷◌, ◌++◌, length, IfOk, IfSome, MatchResult, All};
 ghost use Rattle.turn_lock.specs.Seats.{seat_after, longer_of};
 
 mod lake;
@@ -64,6 +64,24 @@ fn read<W: Wait>(
     ensures seen { IfOk result (λ v. v.items ≡ seat.new.seen) }
 {
     turn.with_read(rt, seat, |log| log.entries.clone())
+}
+
+// A seat that is alone finds just what it had seen, and is as it was. No seat is alone after a split.
+fn read_alone_and_split<W: Wait>(
+    rt: &W,
+    turn: &Turn<Log>,
+    seat: &mut LogSeat,
+) -> Result<(Vec<(u32, u64)>, LogSeat), AllocError>
+    requires { (seat.old.turn ≡ turn.now) × (seat.old.alone ≡ true) }
+    ensures seen { IfOk result (λ r. r.0.items ≡ seat.old.seen) }
+    ensures alone { IfOk result (λ r. (seat.new.alone ≡ false) × (r.1.alone ≡ false)) }
+    ensures turn { (seat.new.turn ≡ turn.now) × IfOk result (λ r. r.1.turn ≡ turn.now) }
+{
+    let found = turn.with_read(rt, seat, |log| log.entries.clone())?;
+    let Ok(other) = turn.split(rt, seat) else {
+        return Err(AllocError);
+    };
+    Ok((found, other))
 }
 
 struct Found {
@@ -138,6 +156,7 @@ fn open(alloc: Global, seats: u32) -> Result<(Turn<Log>, Vec<LogSeat>), NoMemory
     requires { 0 < seats }
     ensures own { IfOk result (λ r. All (λ s. s.turn ≡ r.0) r.1.items) }
     ensures count { IfOk result (λ r. length r.1.items ≡ seats) }
+    ensures alone { seats ≡ 1 → IfOk result (λ r. All (λ s. s.alone ≡ true) r.1.items) }
 {
     let log = Log {
         origin: 7,
@@ -165,6 +184,15 @@ fn a_seat_is_split_off_and_another_joined(rt: HostRuntime) -> Result<(), Fail> {
     assert!(rt; by_zero.as_slice() == [(0, 5), (1, 7)].as_slice());
     let log = turn.close(&rt, vec![in rt.alloc(); zero, split]?);
     assert!(rt; log.origin == 7 && log.entries.as_slice() == [(0, 5), (1, 7)].as_slice());
+    Ok(())
+}
+
+#[test]
+fn a_seat_that_is_alone_finds_what_it_has_seen(rt: HostRuntime) -> Result<(), Fail> {
+    let (turn, mut seats) = open(rt.alloc(), 1).ok().ok_or("memory")?;
+    let mut zero = seats.pop().ok_or("a seat")?;
+    let (found, one) = read_alone_and_split(&rt, &turn, &mut zero)?;
+    assert!(rt; found.is_empty() && one.number() == 1);
     Ok(())
 }
 

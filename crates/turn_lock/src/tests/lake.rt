@@ -1,14 +1,15 @@
 //! A small lake over any keeper, whose steps go through a turn as those of a lake of many seats will.
-ghost use Rattle.std.specs.Prelude.{◌≡◌, ℕ, ◌<◌, List, [], ◌∷◌, ◌++◌, map, Some, MatchOption, MatchResult, Contains};
+ghost use Rattle.std.specs.Prelude.{◌≡◌, ℕ, ◌<◌, List, [], ◌∷◌, ◌++◌, map, Some, IfOk, MatchOption, MatchResult, Contains};
 ghost use mathlib.Core.List.{IsPrefix};
 ghost use Rattle.turn_lock.specs.Seats.{by_seat, seat_after};
 ghost use Rattle.turn_lock.specs.SmallLake.{SmallState, Gives, state_of, put_reply};
 
-use crate::{Seat, Standing, Turn};
-use std::alloc::AllocError;
+use crate::{NoMemory, Seat, Standing, Turn};
+use std::alloc::{AllocError, Global};
 use std::marker::Model;
 use std::snapshot::Snapshot;
 use std::sync::Wait;
+use std::test::Fail;
 
 /// What keeps the numbers of a lake. It may fail.
 pub trait Keeper: Drop {
@@ -134,6 +135,22 @@ impl<K: Keeper> Standing for Lake<K> {
 }
 
 impl<K: Keeper> Lake<K> {
+    /// A lake without entries.
+    pub fn new(alloc: Global, keeper: K) -> Lake<K>
+        ensures { result.entries ≡ [] }
+    {
+        let present = Now {
+            number: 0,
+            version: 0,
+        };
+        Lake {
+            opened: Snapshot::of(&present),
+            present,
+            entries: Vec::new(alloc),
+            keeper,
+        }
+    }
+
     /// What the lake is now, unless it still has the version that is known.
     pub fn look(&self, known: &Now) -> Option<Now>
         ensures { let state = state_of (λ e. e.number) self.now.opened self.now.entries
@@ -203,6 +220,15 @@ impl<K: Keeper> Model for Shared<K> {
 pub type LakeSeat = Seat<Opened, Entry>;
 
 impl<K: Keeper> Shared<K> {
+    /// The lake with its one seat.
+    pub fn new(alloc: Global, lake: Lake<K>) -> Result<(Shared<K>, LakeSeat), NoMemory>
+        requires { lake.entries ≡ [] }
+        ensures { IfOk result (λ r. (r.1.turn ≡ r.0) × (r.1.mine ≡ [])) }
+    {
+        let (turn, mut seats) = Turn::new(alloc, lake, 1)?;
+        Ok((Shared { turn }, seats.remove(0)))
+    }
+
     /// What the lake is at a history that begins with all that the seat had seen, unless it has the version
     /// that is known.
     pub fn look<W: Wait>(&self, rt: &W, seat: &mut LakeSeat, known: &Now) -> Option<Now>
@@ -246,4 +272,54 @@ impl<K: Keeper> Shared<K> {
             lake.put(By { seat: own, call }, version, number, remark)
         })
     }
+}
+
+// Keeps so many numbers, and then fails.
+#[derive(Drop)]
+struct Faulty {
+    good: u64,
+    faults: u64,
+}
+
+impl Keeper for Faulty {
+    ghost faults = { λ k. k.faults };
+
+    fn keep(&mut self, _number: u64) -> Result<(), Failed> {
+        if self.good == 0 && self.faults < u64::MAX {
+            self.faults += 1;
+            return Err(Failed);
+        }
+        self.good = self.good.saturating_sub(1);
+        Ok(())
+    }
+}
+
+fn no_remark(alloc: Global) -> Remark {
+    Remark {
+        bytes: Vec::new(alloc),
+    }
+}
+
+#[test]
+fn a_put_is_refused_where_the_version_differs_or_the_keeper_fails(
+    rt: HostRuntime,
+) -> Result<(), Fail> {
+    let alloc = rt.alloc();
+    for (good, version, answer, left) in [
+        (1, 0, Ok(1), Some((5, 1))),
+        (1, 7, Err(PutFault::Changed(0)), None),
+        (0, 0, Err(PutFault::Failed), None),
+    ] {
+        let lake = Lake::new(alloc, Faulty { good, faults: 0 });
+        let (shared, mut seat) = Shared::new(alloc, lake).ok().ok_or("memory")?;
+        let put = shared.put(&rt, &mut seat, 1, version, 5, no_remark(alloc));
+        assert!(rt; put == answer);
+        let known = Now {
+            number: 0,
+            version: 0,
+        };
+        let found = shared.look(&rt, &mut seat, &known);
+        assert!(rt; found.map(|now| (now.number, now.version)) == left);
+    }
+    Ok(())
 }
