@@ -1,5 +1,7 @@
--- The rule of a turn over its three words, the value's place and what the seats know, and what each step tells.
--- The words are the turn (1 while a seat holds it), the length of the stored list, and how many seat numbers were drawn.
+-- The rule of a turn over its three words, the value's place and what the seats know, and what each step
+-- tells.
+-- The words are the turn (1 while a seat holds it), the length of the stored list, and how many seat
+-- numbers were drawn.
 use Rattle.std.specs.Prelude.{◌++◌, ◌≡◌, ◌≢◌, ◌⊎◌, ℕ, ◌+◌, ◌<◌, ◌≤◌, ◌==◌, ◌||◌, List, [], ◌∷◌, length, Bool, true, false, Option, Some, None, if◌then◌else◌, MatchBool}
 use mathlib.Core.Option.{some, none}
 use mathlib.Core.Option as maybe
@@ -12,14 +14,15 @@ use Rattle.turn_lock.specs.declared.rule.View.{View}
 use Rattle.turn_lock.specs.declared.rule.Kin.{Kin}
 use Rattle.turn_lock.specs.declared.rule.Stage.{Stage}
 use Rattle.turn_lock.specs.declared.rule.Stage.TheVariants.{Away, Holds, Out}
-use Rattle.turn_lock.specs.Seats.{by_seat, SeatValue, KnowsOwn, Meets, longer_of}
+use Rattle.turn_lock.specs.Seats.{by_seat, SeatValue, KnowsOwn, Meets, seat_limit, longer_of}
 
 -- the value lies in its place and stands for the stored list, or it is out with the holder
 abbrev pub HoldsOfPlace : {S O E : Type 0} → (S → O) → (S → List E) → O → List E → Bool → List (maybe.Option (Option S)) → Type 0
 HoldsOfPlace {S} origin list o log true homes = homes ≡ none ∷ []
 HoldsOfPlace {S} origin list o log false homes = (y : S) × (homes ≡ some (Some y) ∷ []) × (origin y ≡ o) × (list y ≡ log)
 
--- only the holder is at work, while the turn's word is 1. While the value is out, the holder has seen the whole stored list
+-- only the holder is at work, while the turn's word is 1. While the value is out, the holder has seen
+-- the whole stored list
 abbrev pub HoldsOfStage : {E : Type 0} → ℕ → ℕ → Bool → List E → ℕ → List E → Stage → Type 0
 HoldsOfStage turn holder lent log j seen Away = Unit {0}
 HoldsOfStage turn holder lent log j seen Holds = (j ≡ holder) × (turn ≡ 1) × (lent ≡ false)
@@ -56,7 +59,8 @@ pub record HoldsOfView {O E : Type 0} (seat_of : E → ℕ) (o : O) (log : List 
   pub kin : (k : Kin O E) → IsKin d k → (k.number < seats) × (k.number ≢ d.number) × (Reserves d k.number → ⊥) × HoldsOfKin seat_of o log d.seen k
   pub no_clash : d.clash ≡ false
 
--- what is true of two living views: their numbers differ, also from those kept back, and a seat that is alone has no other beside it
+-- what is true of two living views: their numbers differ, also from those kept back, and a seat that is
+-- alone has no other beside it
 pub record Differ {O E : Type 0} (d e : View O E) : Type 0 where
   pub numbers : d.number ≢ e.number
   pub kept_back : (n : ℕ) → Reserves d n → n ≢ e.number
@@ -74,7 +78,7 @@ pub record HoldsOfTurn {S O E : Type 0} (origin : S → O) (list : S → List E)
   pub lent : Bool
   pub words : s.words ≡ turn ∷ length log ∷ seats ∷ []
   pub one : turn ≤ 1
-  pub few : seats ≤ 4294967295
+  pub few : seats ≤ seat_limit
   pub home : HoldsOfPlace origin list o log lent s.homes
   pub free : turn ≡ 0 → lent ≡ false
   pub held : turn ≡ 1 → (d : View O E) × (get_elem? s.views holder ≡ some d) × (d.living ≡ true) × (d.stage ≢ Away)
@@ -160,7 +164,8 @@ module _ {O E : Type 0} where
   value_of_views turn [] = seat_value turn spent_view
   value_of_views turn (d ∷ _) = seat_value turn d
 
-  -- a joined seat's origin is this seat's, and its list begins what this seat has seen, with just its own entries of its number
+  -- a joined seat's origin is this seat's, and its list begins what this seat has seen, with just its
+  -- own entries of its number
   abbrev pub IsKnownKin : (E → ℕ) → View O E → Kin O E → Type 0
   IsKnownKin seat_of d k = (k.origin ≡ d.origin) × IsPrefix k.seen d.seen × (by_seat seat_of k.number k.seen ≡ k.mine)
 
@@ -201,10 +206,11 @@ module _ {S O E : Type 0} where
   DrawsNumber seat_of s m n m' =
       MatchBool (n == s.first)
       ((m' ≡ (record m.0 { alone = false; numbers = n + 1; draws = m.0.draws + 1; from = n; to = n + 1 }, m.1)) × (by_seat seat_of n m.0.seen ≡ []) × (m.0.numbers ≤ n))
-      ((m' ≡ (record m.0 { alone = false; numbers = n }, m.1)) × (m.0.numbers ≤ n) × (n ≤ 4294967295))
+      ((m' ≡ (record m.0 { alone = false; numbers = n }, m.1)) × (m.0.numbers ≤ n) × (n ≤ seat_limit))
       × KnowsOwn seat_of (seat_value no_turn m.0)
 
-  -- what the seat had seen begins what it has seen, and each has just its own entries; so it is with each seat that was joined; none was alone
+  -- what the seat had seen begins what it has seen, and each has just its own entries; so it is with
+  -- each seat that was joined; none was alone
   abbrev pub ComparesSeats : (E → ℕ) → Step (Option S) → BaseSeat S O E → ℕ → BaseSeat S O E → Type 0
   ComparesSeats seat_of s m n m' =
       (m' ≡ m)

@@ -84,9 +84,13 @@ seat_beside s number = record s { number = number; mine = []; alone = false; num
 abbrev pub seat_after_draw : {O E : Type 0} → SeatValue O E → ℕ → SeatValue O E
 seat_after_draw s number = record s { alone = false; numbers = number + 1; draws = s.draws + 1 }
 
+-- how many seat numbers there are
+abbrev pub seat_limit : ℕ
+seat_limit = 4294967295
+
 -- the seat once it has found that all numbers were drawn: it has drawn nothing
 abbrev pub seat_when_full : {O E : Type 0} → SeatValue O E → SeatValue O E
-seat_when_full s = record s { alone = false; numbers = 4294967295 }
+seat_when_full s = record s { alone = false; numbers = seat_limit }
 
 -- the longer of two lists
 abbrev pub longer_of : {E : Type 0} → List E → List E → List E

@@ -7,6 +7,7 @@ use std::snapshot::Snapshot;
 
 /// How far a seat is with its turn.
 pub enum Stage {
+    /// It doesn't hold the turn.
     Away,
     /// It holds the turn, and the value lies in its place.
     Holds,
@@ -54,6 +55,7 @@ pub struct Opening<S> {
     pub seats: u64,
 }
 
+/// The rule of a turn.
 pub struct TurnRule<S> {
     of: PhantomData<S>,
 }

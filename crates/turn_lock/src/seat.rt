@@ -6,8 +6,9 @@ use std::marker::Model;
 
 /// A place at a turn. Its holder knows which entries it has seen, and which it made.
 ///
-/// Contracts see it as a `SeatValue`: its turn, its number, its origin, `seen` and `mine`, whether it is alone, and how
-/// many numbers it has seen drawn. When it runs, it is its number alone.
+/// Contracts see it as a `SeatValue`: its turn, its number, its origin, `seen` and `mine`, whether it
+/// is alone, how many numbers it has seen drawn, and how many it drew itself. When it runs, it is its
+/// number alone.
 #[derive(Drop)]
 pub struct Seat<O, E> {
     pub(crate) number: u32,

@@ -2,7 +2,7 @@
 ghost use Rattle.std.specs.Prelude.{◌≡◌, ◌≢◌, ℕ, ◌+◌, ◌<◌, ◌≤◌, true, false, List, [], ◌∷◌, ◌++◌, length, Some, None, MatchOption, All, slice_get, vec_capacity};
 ghost use mathlib.Core.List.{IsPrefix};
 ghost use Rattle.turn_lock.specs.declared.rule.Stage.TheVariants.{Away, Holds, Out};
-ghost use Rattle.turn_lock.specs.Seats.{by_seat, KnowsOwn, Meets, new_seat};
+ghost use Rattle.turn_lock.specs.Seats.{by_seat, KnowsOwn, Meets, new_seat, seat_limit};
 ghost use Rattle.turn_lock.specs.Rule.{IsSeatOf, IsSameSeat, IsAtRest, no_turn, seat_value, view_at, left_view, right_view, joined_view, first_view, IsHolding, IsSameWork, IsJoined};
 
 use crate::rule::{
@@ -110,8 +110,8 @@ pub(crate) fn draw<S: Standing, W: Wait>(rt: &W, top: &Top<S>, place: &mut Place
         × (place.old.me.1 ≡ []) }
     ensures same { IsSameSeat place.old place.new }
     ensures drawn { MatchOption result
-        ((place.new.me ≡ (record place.old.me.0 { alone = false; numbers = 4294967295 }, []))
-        × (place.old.me.0.numbers ≤ 4294967295))
+        ((place.new.me ≡ (record place.old.me.0 { alone = false; numbers = seat_limit }, []))
+        × (place.old.me.0.numbers ≤ seat_limit))
         (λ n. (place.new.me ≡ (
           record place.old.me.0 {
             alone = false;
@@ -124,7 +124,7 @@ pub(crate) fn draw<S: Standing, W: Wait>(rt: &W, top: &Top<S>, place: &mut Place
         ))
         × (by_seat S.seat_of n place.old.me.0.seen ≡ [])
         × (place.old.me.0.numbers ≤ n)
-        × (n < 4294967295)) }
+        × (n < seat_limit)) }
     ensures own { KnowsOwn S.seat_of (seat_value no_turn place.old.me.0) }
 {
     let mut expected = 1;

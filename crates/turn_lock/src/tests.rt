@@ -22,7 +22,9 @@ struct Log {
 impl Log {
     fn add(&mut self, seat: u32, number: u64) -> Result<(), AllocError>
         ensures origin { self.new.origin ≡ self.old.origin }
-        ensures entries { MatchResult result (λ _. self.new.entries.items ≡ self.old.entries.items ++ (seat, number) ∷ []) (λ _. self.new.entries.items ≡ self.old.entries.items) }
+        ensures entries { MatchResult result
+            (λ _. self.new.entries.items ≡ self.old.entries.items ++ (seat, number) ∷ [])
+            (λ _. self.new.entries.items ≡ self.old.entries.items) }
     {
         self.entries.push((seat, number))?;
         Ok(())
@@ -48,7 +50,9 @@ impl Standing for Log {
 fn add<W: Wait>(rt: &W, turn: &Turn<Log>, seat: &mut LogSeat, number: u64) -> Result<(), AllocError>
     requires { seat.old.turn ≡ turn.now }
     ensures turn { seat.new.turn ≡ seat.old.turn }
-    ensures mine { MatchResult result (λ _. seat.new.mine ≡ seat.old.mine ++ (seat.old.number, number) ∷ []) (λ _. seat.new.mine ≡ seat.old.mine) }
+    ensures mine { MatchResult result
+        (λ _. seat.new.mine ≡ seat.old.mine ++ (seat.old.number, number) ∷ [])
+        (λ _. seat.new.mine ≡ seat.old.mine) }
 {
     turn.with_change(rt, seat, |log, own| log.add(own, number))
 }
@@ -100,8 +104,11 @@ fn split_and_join<W: Wait>(
 ) -> Option<Found>
     requires { (zero.old.turn ≡ turn.now) × (one.turn ≡ turn.now) }
     ensures turn { zero.new.turn ≡ turn.now }
-    ensures split { IfSome result (λ r. (r.split.turn ≡ turn.now) × (r.split.mine ≡ []) × (r.split.seen ≡ longer_of r.at_split.items r.by_one.items)) }
-    ensures zero { IfSome result (λ r. (zero.new.mine ≡ zero.old.mine ++ (zero.old.number, 5) ∷ []) × (zero.new.seen ≡ r.by_zero.items)) }
+    ensures split { IfSome result (λ r. (r.split.turn ≡ turn.now) × (r.split.mine ≡ [])
+        × (r.split.seen ≡ longer_of r.at_split.items r.by_one.items)) }
+    ensures zero { IfSome result (λ r.
+        (zero.new.mine ≡ zero.old.mine ++ (zero.old.number, 5) ∷ [])
+        × (zero.new.seen ≡ r.by_zero.items)) }
 {
     add(rt, turn, zero, 5).ok()?;
     let at_split = read(rt, turn, zero).ok()?;

@@ -1,7 +1,7 @@
 ghost use Rattle.std.specs.Prelude.{◌≡◌, ℕ, ◌+◌, ◌<◌, ◌≤◌, true, false, List, [], ◌∷◌, ◌++◌, length, Some, All, IfOk, IfErr, MatchResult, slice_get};
 ghost use Rattle.std.specs.Fn.{FnOnceTakesAt, FnOnceReturnsAt};
 ghost use mathlib.Core.List.{IsPrefix};
-ghost use Rattle.turn_lock.specs.Seats.{KnowsOwn, Meets, Adds, OnlyAdds, TakesChange, GivesChange, new_seat, seat_after, seat_beside, seat_after_draw, seat_when_full, longer_of};
+ghost use Rattle.turn_lock.specs.Seats.{KnowsOwn, Meets, Adds, OnlyAdds, TakesChange, GivesChange, new_seat, seat_after, seat_beside, seat_after_draw, seat_when_full, seat_limit, longer_of};
 
 use crate::rule::{Opening, SplitOff, TurnRule};
 use crate::seat::Seat;
@@ -16,7 +16,7 @@ use std::mem::replace;
 use std::snapshot::Snapshot;
 use std::sync::Wait;
 
-/// There was no memory. It is this crate's own.
+/// Out of memory. The error is this crate's own.
 #[derive(Clone, Copy, Debug, PartialEq, Eq)]
 pub struct NoMemory;
 
@@ -31,11 +31,11 @@ impl From<AllocError> for NoMemory {
 pub enum SplitFault {
     /// All 4,294,967,295 seat numbers were drawn.
     Full,
-    /// There was no memory. A split takes none, so this never comes.
+    /// Out of memory. A split takes none, so this never comes.
     NoMemory,
 }
 
-/// A value that threads share, one seat at a time. To a contract it is a name, which its seats have too.
+/// A value that threads share, one seat at a time. To a contract it is a name, which its seats show.
 #[derive(Drop)]
 pub struct Turn<S: Standing> {
     table: Table<Option<S>, ViewOf<S>, Opening<S>, TurnRule<S>, Global>,
@@ -85,7 +85,8 @@ impl<S: Standing> Turn<S> {
         Ok((Turn { table }, all))
     }
 
-    /// Takes the turn by the first of these seats, joins the others to it, and hands out the value. It waits.
+    /// Takes the turn by the first of these seats, joins the others to it, and hands out the value.
+    /// Each seat may find that value. It waits.
     pub fn close<W: Wait>(self, rt: &W, mut seats: Vec<Seat<S::Origin, S::Entry>>) -> S
         requires some { 0 < length seats.items }
         requires own { All (λ s. s.turn ≡ self) seats.items }
@@ -160,7 +161,8 @@ impl<S: Standing> Turn<S> {
         answer
     }
 
-    /// A seat of a new number. It has seen what this seat has, and made nothing. It waits.
+    /// A seat of a new number. It has seen what this seat has, and made nothing. Full where all numbers
+    /// were drawn: then this seat drew none. It waits.
     pub fn split<W: Wait>(
         &self,
         rt: &W,
@@ -169,9 +171,9 @@ impl<S: Standing> Turn<S> {
         requires { seat.old.turn ≡ self.now }
         ensures new { IfOk result (λ s. (s ≡ seat_beside seat.old s.number)
             × (seat.new ≡ seat_after_draw seat.old s.number)
-            × (seat.old.numbers ≤ s.number) × (s.number < 4294967295)) }
+            × (seat.old.numbers ≤ s.number) × (s.number < seat_limit)) }
         ensures full { IfErr result (λ e. (e ≡ SplitFault.Full)
-            × (seat.new ≡ seat_when_full seat.old) × (seat.old.numbers ≤ 4294967295)) }
+            × (seat.new ≡ seat_when_full seat.old) × (seat.old.numbers ≤ seat_limit)) }
         ensures own { KnowsOwn S.seat_of seat.old × KnowsOwn S.seat_of seat.new
             × IfOk result (KnowsOwn S.seat_of) }
     {
