@@ -1,7 +1,7 @@
 ghost use Rattle.std.specs.Prelude.{◌≡◌, ℕ, ◌+◌, ◌<◌, ◌≤◌, true, false, List, [], ◌∷◌, ◌++◌, length, Some, All, IfOk, IfErr, MatchResult, slice_get};
 ghost use Rattle.std.specs.Fn.{FnOnceTakesAt, FnOnceReturnsAt};
 ghost use mathlib.Core.List.{IsPrefix};
-ghost use Rattle.turn_lock.specs.Seats.{KnowsOwn, Meets, Adds, OnlyAdds, TakesChange, GivesChange, new_seat, seat_after, seat_beside, seat_after_draw, seat_when_full, seat_limit, longer_of};
+ghost use Rattle.turn_lock.specs.Seats.{by_seat, KnowsOwn, Meets, Adds, OnlyAdds, TakesChange, GivesChange, new_seat, seat_after, seat_beside, seat_after_draw, seat_when_full, seat_limit, longer_of};
 
 use crate::rule::{Opening, SplitOff, TurnRule};
 use crate::seat::Seat;
@@ -172,6 +172,7 @@ impl<S: Standing> Turn<S> {
         ensures new { IfOk result (λ s. (s ≡ seat_beside seat.old s.number)
             × (seat.new ≡ seat_after_draw seat.old s.number)
             × (seat.old.numbers ≤ s.number) × (s.number < seat_limit)) }
+        ensures none { IfOk result (λ s. by_seat S.seat_of s.number s.seen ≡ []) }
         ensures full { IfErr result (λ e. (e ≡ SplitFault.Full)
             × (seat.new ≡ seat_when_full seat.old) × (seat.old.numbers ≤ seat_limit)) }
         ensures own { KnowsOwn S.seat_of seat.old × KnowsOwn S.seat_of seat.new
