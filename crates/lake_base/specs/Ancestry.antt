@@ -1,28 +1,28 @@
--- Commit graphs: ancestors, generations, the merge base, and the way back by first parents (Git's words; that a
+-- CommitRecordValue graphs: ancestors, generations, the merge base, and the way back by first parents (Git's words; that a
 -- base is of greatest generation and then of least id is this project's profile).
 use Rattle.std.specs.Prelude.{◌≡◌, ◌≤◌, ◌+◌, ◌==◌, ◌&&◌, ◌||◌, false, ℕ, zero, suc, max, Bool, List, [], ◌∷◌, map, nat_lt, slice_get, Option, Some, None, IsSome, option_map, option_and_then, if◌then◌else◌}
 use Rattle.std.specs.Option.{unwrap_or}
 use Rattle.std.specs.Ordering.{is_lt}
 use Rattle.std.specs.List.{Contains}
 use Rattle.std.specs.FinMap.{get, from_entries}
-use Rattle.lake_base.specs.Commit.{Commit}
+use Rattle.lake_base.specs.Commit.{CommitRecordValue}
 use Rattle.lake_base.specs.Maps.{ByteMap, byte_order}
 use Rattle.lake_base.specs.declared.digest.Digest.{Digest}
 
 -- commits by the bytes of their ids
 abbrev pub Graph : Type 0
-Graph = ByteMap Commit
+Graph = ByteMap CommitRecordValue
 
 -- the graph of a list of commits; where an id stands twice, its first commit counts
-abbrev pub graph_of : List (Digest × Commit) → Graph
+abbrev pub graph_of : List (Digest × CommitRecordValue) → Graph
 graph_of commits = from_entries (map (λ c. (c.0.0, c.1)) commits)
 
 -- the commit of an id
-abbrev pub commit_of : Graph → Digest → Option Commit
+abbrev pub commit_of : Graph → Digest → Option CommitRecordValue
 commit_of graph id = get graph id.0
 
 -- the parents of a commit, where there is one
-abbrev pub parents_in : Option Commit → List Digest
+abbrev pub parents_in : Option CommitRecordValue → List Digest
 parents_in None = []
 parents_in (Some commit) = commit.parents
 
@@ -39,14 +39,14 @@ unfoldable pub date : Graph → Digest → ℕ
 date graph id = unwrap_or (option_map (λ c. c.date) (commit_of graph id)) 0
 
 -- the generation due after these parents: 1 plus the greatest of theirs, and 1 without parents
-abbrev pub due_after : Graph → List Digest → ℕ
-due_after graph [] = 1
-due_after graph (id ∷ ids) = max (generation graph id + 1) (due_after graph ids)
+abbrev pub due_generation : Graph → List Digest → ℕ
+due_generation graph [] = 1
+due_generation graph (id ∷ ids) = max (generation graph id + 1) (due_generation graph ids)
 
 -- its parents are there, and its generation is the one due
 pub record IsDue (graph : Graph) (id : Digest) : Type 0 where
   pub whole : (parent : Digest) → Contains (parents graph id) parent → IsSome (commit_of graph parent)
-  pub counted : generation graph id ≡ due_after graph (parents graph id)
+  pub counted : generation graph id ≡ due_generation graph (parents graph id)
 
 -- a graph of commits: each has its parents there, and the generation that is due
 abbrev pub IsGraph : Graph → Type 0

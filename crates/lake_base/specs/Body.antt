@@ -3,7 +3,7 @@ use Rattle.std.specs.Prelude.{◌≡◌, ℕ, List, length}
 use Rattle.sha2.specs.Sha256.{sha256}
 use Rattle.lake_base.specs.declared.entry.Place.{Place}
 use Rattle.lake_base.specs.declared.entry.Place.TheVariants.{Own, External}
-use Rattle.lake_base.specs.Entry.{Object}
+use Rattle.lake_base.specs.Entry.{EntryValue}
 
 -- the bytes have the digest of an own place
 abbrev pub HasDigest : Place → List ℕ → Type 0
@@ -11,6 +11,6 @@ HasDigest (Own number digest) body = sha256 body ≡ digest.0
 HasDigest (External at checksum) body = ⊥
 
 -- a body fits an own entry: its length is the entry's size, and its SHA-256 the entry's digest
-pub record Fits (entry : Object) (body : List ℕ) : Type 0 where
+pub record Fits (entry : EntryValue) (body : List ℕ) : Type 0 where
   pub size : length body ≡ entry.size
   pub digest : HasDigest entry.place body

@@ -3,12 +3,12 @@ use Rattle.std.specs.Prelude.{◌-◌, ◌++◌, ◌∷◌, [], ℕ, zero, suc, 
 use Rattle.lake_base.specs.Outside.{last_count}
 
 -- a clock that always gives one moment, and how many readings it gave
-pub record Still : Type 0 where
+pub record FixedClockValue : Type 0 where
   pub at : ℕ
   pub given : ℕ
 
 -- a clock that gives moments in turn, and how many readings it gave
-pub record Script : Type 0 where
+pub record ScriptClockValue : Type 0 where
   pub moments : List ℕ
   pub given : ℕ
 
@@ -22,13 +22,13 @@ first_moments moments zero = []
 first_moments moments (suc given) = first_moments moments given ++ moment_after moments given ∷ []
 
 -- readings are told as long as their count isn't at its end
-abbrev pub told_before_end : ℕ → List ℕ → Option (List ℕ)
-told_before_end given readings = if nat_lt given last_count then Some readings else None
+abbrev pub readings_told : ℕ → List ℕ → Option (List ℕ)
+readings_told given readings = if nat_lt given last_count then Some readings else None
 
 -- the readings that a still clock tells
-abbrev pub told_still : Still → Option (List ℕ)
-told_still clock = told_before_end clock.given (replicate clock.given clock.at)
+abbrev pub fixed_readings : FixedClockValue → Option (List ℕ)
+fixed_readings clock = readings_told clock.given (replicate clock.given clock.at)
 
 -- the readings that a clock of moments tells
-abbrev pub told_script : Script → Option (List ℕ)
-told_script clock = told_before_end clock.given (first_moments clock.moments clock.given)
+abbrev pub script_readings : ScriptClockValue → Option (List ℕ)
+script_readings clock = readings_told clock.given (first_moments clock.moments clock.given)

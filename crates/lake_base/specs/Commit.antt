@@ -3,7 +3,7 @@ use Rattle.std.specs.Prelude.{◌≤◌, ℕ, List, length}
 use Rattle.lake_base.specs.declared.digest.Digest.{Digest}
 
 -- a commit as contracts see it
-pub record Commit : Type 0 where
+pub record CommitRecordValue : Type 0 where
   pub meta_range : Digest
   pub generation : ℕ
   pub date : ℕ
@@ -13,7 +13,7 @@ pub record Commit : Type 0 where
   pub metadata : List (List ℕ × List ℕ)
 
 -- what is said of a commit
-pub record Remark : Type 0 where
+pub record AboutValue : Type 0 where
   pub committer : List ℕ
   pub message : List ℕ
   pub metadata : List (List ℕ × List ℕ)

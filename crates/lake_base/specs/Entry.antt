@@ -6,7 +6,7 @@ use Rattle.lake_base.specs.declared.entry.Place.{Place}
 use Rattle.lake_base.specs.declared.entry.Place.TheVariants.{Own, External}
 
 -- an entry as contracts see it
-pub record Object : Type 0 where
+pub record EntryValue : Type 0 where
   pub place : Place
   pub size : ℕ
   pub mtime : ℕ

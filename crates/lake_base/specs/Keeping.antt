@@ -3,7 +3,7 @@ use Rattle.std.specs.Prelude.{◌≡◌, ◌≤◌, ◌-◌, ◌*◌, ◌⊎◌,
 use Rattle.std.specs.List.{Contains}
 use Rattle.std.specs.Str.{bytes_eq}
 use Rattle.lake_base.specs.Ancestry.{Graph, commit_of, back, date, first_parent, IsOnWalk}
-use Rattle.lake_base.specs.Settings.{Retention}
+use Rattle.lake_base.specs.Settings.{RulesValue}
 use Rattle.lake_base.specs.declared.digest.Digest.{Digest}
 use Rattle.lake_base.specs.declared.settings.BranchDays.{BranchDays}
 
@@ -17,7 +17,7 @@ days_in otherwise [] branch = otherwise
 days_in otherwise (rule ∷ rules) branch = if bytes_eq rule.branch branch then rule.days else days_in otherwise rules branch
 
 -- the days of a branch; the default's where no rule names it
-abbrev pub days_of : Retention → List ℕ → ℕ
+abbrev pub days_of : RulesValue → List ℕ → ℕ
 days_of rules branch = days_in rules.default_days rules.branches branch
 
 -- it is the head of a branch
@@ -33,22 +33,22 @@ pub record IsFollower (graph : Graph) (head : Digest) (limit : ℕ) (id : Digest
   pub dated : limit ≤ date graph later
 
 -- it is a follower on some branch's walk, by that branch's cutoff
-abbrev pub IsFollowed : Graph → List (List ℕ × Digest) → Retention → ℕ → Digest → Type 0
+abbrev pub IsFollowed : Graph → List (List ℕ × Digest) → RulesValue → ℕ → Digest → Type 0
 IsFollowed graph heads rules now id =
     (head : List ℕ × Digest) × Contains heads head × IsFollower graph head.1 (cutoff now (days_of rules head.0)) id
 
 -- it lies on no branch's walk, and is itself dated at or after the default cutoff
-pub record IsYoung (graph : Graph) (heads : List (List ℕ × Digest)) (rules : Retention) (now : ℕ) (id : Digest) : Type 0 where
+pub record IsYoung (graph : Graph) (heads : List (List ℕ × Digest)) (rules : RulesValue) (now : ℕ) (id : Digest) : Type 0 where
   pub apart : (head : List ℕ × Digest) → Contains heads head → IsOnWalk graph head.1 id → ⊥
   pub dated : cutoff now rules.default_days ≤ date graph id
 
 -- Of the commits, those are kept: by rules each that is a head, or tagged, or followed on a walk, or young
 -- beside all walks; without rules all.
-abbrev pub IsKeptBy : Graph → List (List ℕ × Digest) → List Digest → Option Retention → ℕ → Digest → Type 0
+abbrev pub IsKeptBy : Graph → List (List ℕ × Digest) → List Digest → Option RulesValue → ℕ → Digest → Type 0
 IsKeptBy graph heads tags None now id = Unit {0}
 IsKeptBy graph heads tags (Some rules) now id =
     IsHead heads id ⊎ (Contains tags id ⊎ (IsFollowed graph heads rules now id ⊎ IsYoung graph heads rules now id))
 
 -- it is a commit of the graph, and one of those that are kept
-abbrev pub IsKept : Graph → List (List ℕ × Digest) → List Digest → Option Retention → ℕ → Digest → Type 0
+abbrev pub IsKept : Graph → List (List ℕ × Digest) → List Digest → Option RulesValue → ℕ → Digest → Type 0
 IsKept graph heads tags rules now id = IsSome (commit_of graph id) × IsKeptBy graph heads tags rules now id

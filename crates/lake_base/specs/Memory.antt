@@ -16,7 +16,7 @@ abbrev pub is_to_fail : List ℕ → ℕ → Bool
 is_to_fail fails calls = list_any (λ k. k == next_count calls) fails
 
 -- a source in memory: the bytes that are left, the most that one read gives, the reads that are to fail, and what was counted
-pub record Supply : Type 0 where
+pub record MemorySourceValue : Type 0 where
   pub left : List ℕ
   pub piece : ℕ
   pub fails : List ℕ
@@ -24,7 +24,7 @@ pub record Supply : Type 0 where
   pub faults : ℕ
 
 -- a sink in memory: what was written, the most that one write takes, the writes that are to fail, what was counted, and whether one found no memory
-pub record Deposit : Type 0 where
+pub record MemorySinkValue : Type 0 where
   pub written : List ℕ
   pub piece : ℕ
   pub fails : List ℕ

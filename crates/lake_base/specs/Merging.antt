@@ -2,26 +2,26 @@
 use Rattle.std.specs.Prelude.{◌≡◌, ◌↔◌, ◌||◌, ℕ, List, [], ◌∷◌, ◌++◌, Option, Some, None, if◌then◌else◌}
 use Rattle.std.specs.FinMap.{empty, get, insert, remove, keys, contains_key}
 use Rattle.std.specs.List.{Contains}
-use Rattle.lake_base.specs.Entry.{Object}
-use Rattle.lake_base.specs.KeyMap.{Objects, Edits}
+use Rattle.lake_base.specs.Entry.{EntryValue}
+use Rattle.lake_base.specs.KeyMap.{KeyMapValue, ChangesValue}
 use Rattle.lake_base.specs.Maps.{IsAscending}
 use Rattle.lake_base.specs.Sameness.{same_value}
 use Rattle.lake_base.specs.declared.entry.Change.{Change}
 use Rattle.lake_base.specs.declared.entry.Change.TheVariants.{Put, Delete}
 use Rattle.lake_base.specs.declared.commit.Strategy.{Strategy}
 use Rattle.lake_base.specs.declared.commit.Strategy.TheVariants.{Refuse, SourceWins, DestWins}
-use Rattle.lake_base.specs.declared.merging.Side.{Side}
-use Rattle.lake_base.specs.declared.merging.Side.TheVariants.{Source, Destination, Neither}
+use Rattle.lake_base.specs.declared.merge.Side.{Side}
+use Rattle.lake_base.specs.declared.merge.Side.TheVariants.{Source, Destination, Neither}
 
 -- the map of the merge base; where the commits have no common ancestor, the empty map is the base
-abbrev pub base_map : Option Objects → Objects
+abbrev pub base_map : Option KeyMapValue → KeyMapValue
 base_map None = empty
 base_map (Some map) = map
 
 -- Whose value a path takes, where base, source and destination have these: where the source is as the base,
 -- the destination's; where the destination is as the base, the source's; where both are equal, the source's.
 -- Else the path conflicts.
-abbrev pub side_of : Option Object → Option Object → Option Object → Side
+abbrev pub side_of : Option EntryValue → Option EntryValue → Option EntryValue → Side
 side_of base source dest =
     if same_value source base then Destination
     else if same_value dest base then Source
@@ -30,60 +30,60 @@ side_of base source dest =
 
 -- the value of a side; where a path conflicts, the source's or the destination's as the strategy says, and the
 -- destination's where it refuses
-abbrev pub taken : Strategy → Option Object → Option Object → Side → Option Object
-taken strategy source dest Source = source
-taken strategy source dest Destination = dest
-taken SourceWins source dest Neither = source
-taken DestWins source dest Neither = dest
-taken Refuse source dest Neither = dest
+abbrev pub side_value : Strategy → Option EntryValue → Option EntryValue → Side → Option EntryValue
+side_value strategy source dest Source = source
+side_value strategy source dest Destination = dest
+side_value SourceWins source dest Neither = source
+side_value DestWins source dest Neither = dest
+side_value Refuse source dest Neither = dest
 
 -- what a path has after the merge
-abbrev pub merged_value : Strategy → Option Object → Option Object → Option Object → Option Object
-merged_value strategy base source dest = taken strategy source dest (side_of base source dest)
+abbrev pub merged_value : Strategy → Option EntryValue → Option EntryValue → Option EntryValue → Option EntryValue
+merged_value strategy base source dest = side_value strategy source dest (side_of base source dest)
 
 -- the map with this value at the path, or with nothing there
-abbrev pub with_value : List ℕ → Option Object → Objects → Objects
-with_value path (Some entry) map = insert map path entry
-with_value path None map = remove map path
+abbrev pub map_with : List ℕ → Option EntryValue → KeyMapValue → KeyMapValue
+map_with path (Some entry) map = insert map path entry
+map_with path None map = remove map path
 
 -- the destination's map with the merged values at these paths
-abbrev pub merged_at : Strategy → Objects → Objects → Objects → List (List ℕ) → Objects
-merged_at strategy base source dest [] = dest
-merged_at strategy base source dest (path ∷ paths) =
-    with_value path (merged_value strategy (get base path) (get source path) (get dest path)) (merged_at strategy base source dest paths)
+abbrev pub merged_map_at : Strategy → KeyMapValue → KeyMapValue → KeyMapValue → List (List ℕ) → KeyMapValue
+merged_map_at strategy base source dest [] = dest
+merged_map_at strategy base source dest (path ∷ paths) =
+    map_with path (merged_value strategy (get base path) (get source path) (get dest path)) (merged_map_at strategy base source dest paths)
 
 -- The merged map: at each path the merged value. A path that neither base nor source has stays as it is.
-unfoldable pub merged : Strategy → Objects → Objects → Objects → Objects
-merged strategy base source dest = merged_at strategy base source dest (keys base ++ keys source)
+unfoldable pub merged_map : Strategy → KeyMapValue → KeyMapValue → KeyMapValue → KeyMapValue
+merged_map strategy base source dest = merged_map_at strategy base source dest (keys base ++ keys source)
 
 -- a change that leaves this value at its path
-abbrev pub Leaves : Change → Option Object → Type 0
+abbrev pub Leaves : Change → Option EntryValue → Type 0
 Leaves (Put entry) value = value ≡ Some entry
 Leaves Delete value = value ≡ None
 
 -- changes at just the paths that base or source has
-abbrev pub ArePathsOf : Objects → Objects → Edits → Type 0
+abbrev pub ArePathsOf : KeyMapValue → KeyMapValue → ChangesValue → Type 0
 ArePathsOf base source paths = (path : List ℕ) → contains_key paths path ≡ (contains_key base path || contains_key source path)
 
 -- changes at the paths of these changes and of this map, and at no others
-abbrev pub HasPathsToo : Edits → Objects → Edits → Type 0
+abbrev pub HasPathsToo : ChangesValue → KeyMapValue → ChangesValue → Type 0
 HasPathsToo old map new = (path : List ℕ) → contains_key new path ≡ (contains_key old path || contains_key map path)
 
 -- a path at which the two sides changed the base differently
-abbrev pub IsConflict : Objects → Objects → Objects → List ℕ → Type 0
+abbrev pub IsConflict : KeyMapValue → KeyMapValue → KeyMapValue → List ℕ → Type 0
 IsConflict base source dest path = side_of (get base path) (get source path) (get dest path) ≡ Neither
 
 -- the paths that conflict: all of them, in ascending order, and no others
-pub record AreConflicts (base source dest : Objects) (paths : List (List ℕ)) : Type 0 where
+pub record AreConflicts (base source dest : KeyMapValue) (paths : List (List ℕ)) : Type 0 where
   pub ascending : IsAscending paths
   pub all : (path : List ℕ) → Contains paths path ↔ IsConflict base source dest path
 
 -- a merge without a strategy is refused where a path conflicts
-abbrev pub IsRefused : Strategy → Objects → Objects → Objects → Type 0
+abbrev pub IsRefused : Strategy → KeyMapValue → KeyMapValue → KeyMapValue → Type 0
 IsRefused strategy base source dest = (strategy ≡ Refuse) × ((path : List ℕ) × IsConflict base source dest path)
 
 -- a merge's answer: none where it is refused, and else the merged map
-abbrev pub AnswersMerge : Strategy → Objects → Objects → Objects → Option Objects → Type 0
+abbrev pub AnswersMerge : Strategy → KeyMapValue → KeyMapValue → KeyMapValue → Option KeyMapValue → Type 0
 AnswersMerge strategy base source dest None = IsRefused strategy base source dest
 AnswersMerge strategy base source dest (Some map) =
-    (IsRefused strategy base source dest → ⊥) × (map ≡ merged strategy base source dest)
+    (IsRefused strategy base source dest → ⊥) × (map ≡ merged_map strategy base source dest)

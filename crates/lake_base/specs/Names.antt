@@ -6,14 +6,14 @@ use Rattle.lake_base.specs.declared.names.NameFault.{NameFault}
 use Rattle.lake_base.specs.declared.names.NameFault.TheVariants.{Empty, TooShort, TooLong, NotUtf8, BadByte, NoMemory}
 
 -- What a reader answers: the first fault where there is one, and else a value with P, unless memory ran out.
-abbrev pub Answers : {X : Type 0} → Result X NameFault → Option NameFault → (X → Type 0) → Type 0
-Answers (Ok value) found P = (found ≡ None) × P value
-Answers (Err NoMemory) found P = found ≡ None
-Answers (Err Empty) found P = found ≡ Some Empty
-Answers (Err TooShort) found P = found ≡ Some TooShort
-Answers (Err TooLong) found P = found ≡ Some TooLong
-Answers (Err NotUtf8) found P = found ≡ Some NotUtf8
-Answers (Err (BadByte at)) found P = found ≡ Some (BadByte at)
+abbrev pub ReadsName : {X : Type 0} → Result X NameFault → Option NameFault → (X → Type 0) → Type 0
+ReadsName (Ok value) found P = (found ≡ None) × P value
+ReadsName (Err NoMemory) found P = found ≡ None
+ReadsName (Err Empty) found P = found ≡ Some Empty
+ReadsName (Err TooShort) found P = found ≡ Some TooShort
+ReadsName (Err TooLong) found P = found ≡ Some TooLong
+ReadsName (Err NotUtf8) found P = found ≡ Some NotUtf8
+ReadsName (Err (BadByte at)) found P = found ≡ Some (BadByte at)
 
 -- a text is UTF-8 of at most so many bytes
 abbrev pub text_fault : ℕ → List ℕ → Option NameFault

@@ -4,7 +4,7 @@ use Rattle.std.specs.Int.{Width, w16, w64, byte_len, from_be_bytes}
 use Rattle.std.specs.List.{starts_with}
 use Rattle.std.specs.Ordering.{is_lt}
 use Rattle.std.specs.Str.{is_utf8}
-use Rattle.lake_base.specs.Entry.{Object}
+use Rattle.lake_base.specs.Entry.{EntryValue}
 use Rattle.lake_base.specs.Maps.{byte_order}
 use Rattle.lake_base.specs.declared.entry.Place.{Place}
 use Rattle.lake_base.specs.declared.entry.Place.TheVariants.{Own, External}
@@ -24,9 +24,9 @@ Fails Short read = read ≡ Err Short
 Fails Bad read = read ≡ Err Bad
 
 -- What a reader answered, seen by view, is what reading gives, unless memory ran out.
-abbrev pub Gives : {X Y : Type 0} → (X → Y) → Result X EntryFault → Result Y EntryFault → Type 0
-Gives view (Ok x) read = read ≡ Ok (view x)
-Gives view (Err e) read = Fails e read
+abbrev pub ReadsAs : {X Y : Type 0} → (X → Y) → Result X EntryFault → Result Y EntryFault → Type 0
+ReadsAs view (Ok x) read = read ≡ Ok (view x)
+ReadsAs view (Err e) read = Fails e read
 
 -- A field is a value and the bytes after it. A number of this width:
 abbrev pub number_at : Width → List ℕ → Result (ℕ × List ℕ) EntryFault
@@ -107,7 +107,7 @@ metadata_at bytes = do
   if nat_lt 64 count.0 then Err Bad else pairs_at count.0 None count.1
 
 -- the fields of an entry, one after the other
-unfoldable pub entry_at : List ℕ → Result (Object × List ℕ) EntryFault
+unfoldable pub entry_at : List ℕ → Result (EntryValue × List ℕ) EntryFault
 entry_at bytes = do
   place ← place_at bytes
   size ← number_at w64 place.1
@@ -117,7 +117,7 @@ entry_at bytes = do
   Ok (record { place = place.0; size = size.0; mtime = mtime.0; content_type = content_type.0; metadata = metadata.0 }, metadata.1)
 
 -- the entry that starts at a place, and its end
-unfoldable pub entry_from : List ℕ → ℕ → Result (Object × ℕ) EntryFault
+unfoldable pub entry_from : List ℕ → ℕ → Result (EntryValue × ℕ) EntryFault
 entry_from bytes from = do
   entry ← entry_at (drop from bytes)
   Ok (entry.0, length bytes - length entry.1)

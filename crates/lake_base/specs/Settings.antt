@@ -8,7 +8,7 @@ use Rattle.lake_base.specs.declared.settings.Deny.TheVariants.{RequireMeta, Deny
 use Rattle.lake_base.specs.declared.settings.HookRule.{HookRule}
 
 -- how long commits are kept, as contracts see it
-pub record Retention : Type 0 where
+pub record RulesValue : Type 0 where
   pub default_days : ℕ
   pub branches : List BranchDays
 

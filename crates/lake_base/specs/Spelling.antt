@@ -7,16 +7,16 @@ use Rattle.std.specs.Ordering.{is_gt}
 use Rattle.std.specs.Str.{is_utf8}
 use Rattle.std.specs.declared.cmp.Ordering.TheVariants.{Less}
 use Rattle.hex.specs.Hex.{encode_lower}
-use Rattle.lake_base.specs.Commit.{Commit, IsCommit}
+use Rattle.lake_base.specs.Commit.{CommitRecordValue, IsCommit}
 use Rattle.lake_base.specs.Digest.{sha256}
-use Rattle.lake_base.specs.Entry.{Object, IsOutside}
+use Rattle.lake_base.specs.Entry.{EntryValue, IsOutside}
 use Rattle.lake_base.specs.Maps.{byte_order, HasAscendingKeys}
 use Rattle.lake_base.specs.Names.{path_fault}
 use Rattle.lake_base.specs.Pairs.{ArePairs}
 use Rattle.lake_base.specs.declared.digest.Digest.{Digest}
 use Rattle.lake_base.specs.declared.entry.Place.{Place}
 use Rattle.lake_base.specs.declared.entry.Place.TheVariants.{Own, External}
-use Rattle.lake_base.specs.declared.files.RangeLine.{RangeLine}
+use Rattle.lake_base.specs.declared.range_line.RangeLine.{RangeLine}
 
 -- two bytes of length, and that many bytes
 abbrev pub short_text : List ℕ → List ℕ
@@ -40,20 +40,20 @@ abbrev pub pairs_spelling : List (List ℕ × List ℕ) → List ℕ
 pairs_spelling pairs = to_be_bytes w16 (length pairs) ++ flat_map pair_spelling pairs
 
 -- the place, the size, the time, the content type and the metadata
-abbrev pub entry_spelling : Object → List ℕ
+abbrev pub entry_spelling : EntryValue → List ℕ
 entry_spelling e =
     place_spelling e.place ++ (to_be_bytes w64 e.size ++ (to_be_bytes w64 e.mtime ++ (short_text e.content_type ++ pairs_spelling e.metadata)))
 
 -- a row of a range: its path, and its entry
-abbrev pub row_spelling : List ℕ × Object → List ℕ
+abbrev pub row_spelling : List ℕ × EntryValue → List ℕ
 row_spelling row = short_text row.0 ++ entry_spelling row.1
 
 -- a range, version 1: the count in four bytes, and the rows
-unfoldable pub range_spelling : List (List ℕ × Object) → List ℕ
+unfoldable pub range_spelling : List (List ℕ × EntryValue) → List ℕ
 range_spelling rows = 1 ∷ (to_be_bytes w32 (length rows) ++ flat_map row_spelling rows)
 
 -- the path of the row at a place
-abbrev pub path_at : List (List ℕ × Object) → ℕ → List ℕ
+abbrev pub path_at : List (List ℕ × EntryValue) → ℕ → List ℕ
 path_at rows at = unwrap_or (option_map (λ row. row.0) (slice_get rows at)) []
 
 -- the SHA-256 of a file's bytes, by which it is known
@@ -61,7 +61,7 @@ abbrev pub file_name : List ℕ → Digest
 file_name bytes = record { 0 = sha256 bytes }
 
 -- what is said of a range of these rows: its file's name, its count of rows, its first path and its last
-unfoldable pub line_of : List (List ℕ × Object) → RangeLine
+unfoldable pub line_of : List (List ℕ × EntryValue) → RangeLine
 line_of rows = record { name = file_name (range_spelling rows); rows = length rows; first = path_at rows 0; last = path_at rows (length rows - 1) }
 
 -- what is said of a range: its name, its count of rows in four bytes, its first path and its last
@@ -78,14 +78,14 @@ long_text text = to_be_bytes w32 (length text) ++ text
 
 -- a commit, version 1: the metarange's id, the generation, the date, the parents behind two bytes of count, the
 -- committer, the message and the metadata
-unfoldable pub commit_spelling : Commit → List ℕ
+unfoldable pub commit_spelling : CommitRecordValue → List ℕ
 commit_spelling c =
     1 ∷ (c.meta_range.0 ++ (to_be_bytes w64 c.generation ++ (to_be_bytes w64 c.date
     ++ (to_be_bytes w16 (length c.parents) ++ (flat_map (λ parent. parent.0) c.parents
     ++ (short_text c.committer ++ (long_text c.message ++ pairs_spelling c.metadata)))))))
 
 -- a commit is known by the SHA-256 of its bytes
-abbrev pub commit_id : Commit → Digest
+abbrev pub commit_id : CommitRecordValue → Digest
 commit_id c = file_name (commit_spelling c)
 
 -- each is below 256
@@ -125,7 +125,7 @@ pub record IsMetadata (pairs : List (List ℕ × List ℕ)) : Type 0 where
   pub utf8 : AllByRecursion (λ pair. (is_utf8 pair.0 ≡ true) × (is_utf8 pair.1 ≡ true)) pairs
 
 -- an entry within its limits
-pub record IsEntry (e : Object) : Type 0 where
+pub record IsEntry (e : EntryValue) : Type 0 where
   pub place : IsSpelledPlace e.place
   pub size : e.size < 2 ^ 64
   pub mtime : e.mtime < 2 ^ 64
@@ -133,11 +133,11 @@ pub record IsEntry (e : Object) : Type 0 where
   pub metadata : IsMetadata e.metadata
 
 -- a row within its limits
-abbrev pub IsRow : List ℕ × Object → Type 0
+abbrev pub IsRow : List ℕ × EntryValue → Type 0
 IsRow row = (path_fault row.0 ≡ None) × IsEntry row.1
 
 -- the rows of a range within their limits: at least one, fewer than 2^32, paths strictly ascending
-pub record IsRange (rows : List (List ℕ × Object)) : Type 0 where
+pub record IsRange (rows : List (List ℕ × EntryValue)) : Type 0 where
   pub some : 1 ≤ length rows
   pub few : length rows < 2 ^ 32
   pub ascend : HasAscendingKeys rows
@@ -179,7 +179,7 @@ pub record IsMetarange (lines : List RangeLine) : Type 0 where
   pub follow : FollowOn lines
 
 -- a commit within its limits, its texts UTF-8, and the ids that it names of 32 bytes
-pub record IsSpelledCommit (c : Commit) : Type 0 where
+pub record IsSpelledCommit (c : CommitRecordValue) : Type 0 where
   pub commit : IsCommit c.generation c.parents c.committer c.message
   pub meta_range : IsDigest c.meta_range.0
   pub parents : AllByRecursion (λ parent. IsDigest parent.0) c.parents

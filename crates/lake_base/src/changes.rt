@@ -6,7 +6,7 @@ ghost use Rattle.lake_base.specs.KeyMap.{over};
 use crate::entry::Change;
 use crate::names::Path;
 use crate::outside::NoMemory;
-use crate::places::{put_at, value_at};
+use crate::sorted::{put_at, value_at};
 use std::alloc::Global;
 use std::marker::Model;
 

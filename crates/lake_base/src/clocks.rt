@@ -1,7 +1,7 @@
 //! Clocks that give fixed moments, for tests and for runs without a system's clock.
 ghost use Rattle.std.specs.Prelude.{◌≡◌, ◌++◌, ◌∷◌, [], IfSome, IsSome};
 ghost use Rattle.lake_base.specs.Memory.{next_count};
-ghost use Rattle.lake_base.specs.Clocks.{told_still, told_script, moment_after};
+ghost use Rattle.lake_base.specs.Clocks.{fixed_readings, script_readings, moment_after};
 
 use crate::outside::Clock;
 use std::marker::Model;
@@ -14,9 +14,9 @@ pub struct FixedClock {
 }
 
 impl Model for FixedClock {
-    ghost use Rattle.lake_base.specs.Clocks.{Still};
+    ghost use Rattle.lake_base.specs.Clocks.{FixedClockValue};
 
-    ghost Value = { Still };
+    ghost Value = { FixedClockValue };
 
     ghost view = { λ clock. record { at = clock.at; given = clock.given } };
 }
@@ -31,12 +31,12 @@ impl FixedClock {
 }
 
 impl Clock for FixedClock {
-    ghost readings = { told_still };
+    ghost readings = { fixed_readings };
 
     fn now(&mut self) -> u64
-        ensures reading { IfSome (told_still self.new) (λ now. IfSome (told_still self.old)
+        ensures reading { IfSome (fixed_readings self.new) (λ now. IfSome (fixed_readings self.old)
             (λ before. now ≡ before ++ result ∷ [])) }
-        ensures told { IfSome (told_still self.new) (λ _. IsSome (told_still self.old)) }
+        ensures told { IfSome (fixed_readings self.new) (λ _. IsSome (fixed_readings self.old)) }
 
         // It gives its moment, also where the readings are no longer told.
         ensures moment { result ≡ self.old.at }
@@ -55,9 +55,9 @@ pub struct ScriptClock {
 }
 
 impl Model for ScriptClock {
-    ghost use Rattle.lake_base.specs.Clocks.{Script};
+    ghost use Rattle.lake_base.specs.Clocks.{ScriptClockValue};
 
-    ghost Value = { Script };
+    ghost Value = { ScriptClockValue };
 
     ghost view = { λ clock. record { moments = clock.moments.items; given = clock.given } };
 }
@@ -87,12 +87,12 @@ fn moment_after(moments: &[u64], given: u64) -> u64
 }
 
 impl Clock for ScriptClock {
-    ghost readings = { told_script };
+    ghost readings = { script_readings };
 
     fn now(&mut self) -> u64
-        ensures reading { IfSome (told_script self.new) (λ now. IfSome (told_script self.old)
+        ensures reading { IfSome (script_readings self.new) (λ now. IfSome (script_readings self.old)
             (λ before. now ≡ before ++ result ∷ [])) }
-        ensures told { IfSome (told_script self.new) (λ _. IsSome (told_script self.old)) }
+        ensures told { IfSome (script_readings self.new) (λ _. IsSome (script_readings self.old)) }
 
         // It goes on in turn, also where the readings are no longer told.
         ensures moment { result ≡ moment_after self.old.moments self.old.given }

@@ -29,9 +29,9 @@ pub struct CommitRecord {
 }
 
 impl Model for CommitRecord {
-    ghost use Rattle.lake_base.specs.Commit.{Commit, IsCommit};
+    ghost use Rattle.lake_base.specs.Commit.{CommitRecordValue, IsCommit};
 
-    ghost Value = { Commit };
+    ghost Value = { CommitRecordValue };
 
     ghost view = { λ c. record { meta_range = c.meta_range; generation = c.generation; date = c.date; parents = c.parents; committer = c.committer; message = c.message; metadata = c.metadata } };
 
@@ -49,9 +49,9 @@ pub struct About {
 }
 
 impl Model for About {
-    ghost use Rattle.lake_base.specs.Commit.{Remark, IsRemark};
+    ghost use Rattle.lake_base.specs.Commit.{AboutValue, IsRemark};
 
-    ghost Value = { Remark };
+    ghost Value = { AboutValue };
 
     ghost view = { λ about. record { committer = about.committer; message = about.message; metadata = about.metadata; date = about.date } };
 

@@ -1,6 +1,9 @@
 //! What stands at a path: an entry, and a change of one.
 ghost use Rattle.std.specs.Prelude.{◌≡◌, ◌↔◌, IfOk, IsTrue};
+ghost use Rattle.std.specs.Cmp.Lexicographic.{pointwise};
 ghost use Rattle.lake_base.specs.Body.{Fits};
+ghost use Rattle.lake_base.specs.Entry.{EntryValue as AnyEntry};
+ghost use Rattle.lake_base.specs.Sameness.{same_place, same_pair, same_entry};
 
 use crate::digest::Digest;
 use crate::outside::NoMemory;
@@ -33,9 +36,9 @@ pub struct Entry {
 
 impl Model for Entry {
     ghost use Rattle.std.specs.Prelude.{◌≤◌, length};
-    ghost use Rattle.lake_base.specs.Entry.{Object, IsPlace};
+    ghost use Rattle.lake_base.specs.Entry.{EntryValue, IsPlace};
 
-    ghost Value = { Object };
+    ghost Value = { EntryValue };
 
     ghost view = { λ entry. record { place = entry.place; size = entry.size; mtime = entry.mtime; content_type = entry.content_type; metadata = entry.metadata } };
 
@@ -105,4 +108,61 @@ impl Change {
             Change::Delete => Ok(Change::Delete),
         }
     }
+}
+
+/// Whether two entries are equal in all fields. It takes no memory.
+pub fn same_entry(entry: &Entry, other: &Entry) -> bool
+    ensures { result ≡ same_entry entry.now other.now }
+{
+    same_place(&entry.place, &other.place)
+        && entry.size == other.size
+        && entry.mtime == other.mtime
+        && entry.content_type.as_slice() == other.content_type.as_slice()
+        && same_pairs(entry.metadata.as_slice(), other.metadata.as_slice())
+}
+
+/// Entries are told the same exactly where they are equal. (A law: it does nothing.)
+pub fn law_of_sameness()
+    ensures { (entry other : AnyEntry) → IsTrue (same_entry entry other) ↔ (entry ≡ other) }
+{}
+
+// Whether two places are equal.
+fn same_place(place: &Place, other: &Place) -> bool
+    ensures { result ≡ same_place place.now other.now }
+{
+    match (place, other) {
+        (
+            Place::Own { number, digest },
+            Place::Own {
+                number: n,
+                digest: d,
+            },
+        ) => { *number == *n && digest.0.as_slice() == d.0.as_slice() }
+        (Place::External { at, checksum }, Place::External { at: a, checksum: c }) => {
+            at.as_slice() == a.as_slice() && checksum.as_slice() == c.as_slice()
+        }
+        _ => false,
+    }
+}
+
+// Whether the metadata is equal.
+fn same_pairs(pairs: &[(Text, Text)], others: &[(Text, Text)]) -> bool
+    ensures { result ≡ pointwise same_pair pairs.now others.now }
+{
+    if pairs.len() != others.len() {
+        return false;
+    }
+    for (at, pair) in pairs.iter().enumerate() {
+        if !same_pair(pair, &others[at]) {
+            return false;
+        }
+    }
+    true
+}
+
+// Whether a key and its value are equal.
+fn same_pair(pair: &(Text, Text), other: &(Text, Text)) -> bool
+    ensures { result ≡ same_pair pair.now other.now }
+{
+    pair.0.as_slice() == other.0.as_slice() && pair.1.as_slice() == other.1.as_slice()
 }

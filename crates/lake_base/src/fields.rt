@@ -5,7 +5,7 @@
 ghost use Rattle.std.specs.Prelude.{◌≡◌, ◌++◌, ◌<◌, ◌^◌, length, None, OnOk, option_copied};
 ghost use Rattle.std.specs.Int.{w16, w64};
 ghost use Rattle.lake_base.specs.Spelling.{short_text, pairs_spelling, IsMetadata};
-ghost use Rattle.lake_base.specs.Reading.{Gives, number_at, bytes_at, utf8_at, text_at, is_next, last_key, pair_at, pairs_at, metadata_at};
+ghost use Rattle.lake_base.specs.Reading.{ReadsAs, number_at, bytes_at, utf8_at, text_at, is_next, last_key, pair_at, pairs_at, metadata_at};
 ghost use Rattle.lake_base.specs.declared.fields.EntryFault.TheVariants.{NoMemory as fault_no_memory};
 
 use crate::digest::Digest;
@@ -49,7 +49,7 @@ impl<T: Drop> From<AllocFailed<T>> for EntryFault {
 
 // A number of two bytes.
 pub(crate) fn u16_at(bytes: &[u8]) -> Result<(u16, &[u8]), EntryFault>
-    ensures { Gives (λ x. (x.0, x.1.now)) result (number_at w16 bytes.now) }
+    ensures { ReadsAs (λ x. (x.0, x.1.now)) result (number_at w16 bytes.now) }
 {
     if bytes.len() < 2 {
         return Err(EntryFault::Short);
@@ -60,7 +60,7 @@ pub(crate) fn u16_at(bytes: &[u8]) -> Result<(u16, &[u8]), EntryFault>
 
 // A number of eight bytes.
 pub(crate) fn u64_at(bytes: &[u8]) -> Result<(u64, &[u8]), EntryFault>
-    ensures { Gives (λ x. (x.0, x.1.now)) result (number_at w64 bytes.now) }
+    ensures { ReadsAs (λ x. (x.0, x.1.now)) result (number_at w64 bytes.now) }
 {
     if bytes.len() < 8 {
         return Err(EntryFault::Short);
@@ -74,7 +74,7 @@ pub(crate) fn u64_at(bytes: &[u8]) -> Result<(u64, &[u8]), EntryFault>
 
 // A digest of 32 bytes.
 pub(crate) fn digest_at(bytes: &[u8]) -> Result<(Digest, &[u8]), EntryFault>
-    ensures { Gives (λ x. (x.0.0, x.1.now)) result (bytes_at 32 bytes.now) }
+    ensures { ReadsAs (λ x. (x.0.0, x.1.now)) result (bytes_at 32 bytes.now) }
 {
     if bytes.len() < 32 {
         return Err(EntryFault::Short);
@@ -87,7 +87,7 @@ pub(crate) fn digest_at(bytes: &[u8]) -> Result<(Digest, &[u8]), EntryFault>
 
 // A text of so many bytes.
 fn utf8_at(alloc: Global, bytes: &[u8], len: usize) -> Result<(Text, &[u8]), EntryFault>
-    ensures { Gives (λ x. (x.0, x.1.now)) result (utf8_at len bytes.now) }
+    ensures { ReadsAs (λ x. (x.0, x.1.now)) result (utf8_at len bytes.now) }
 {
     if bytes.len() < len {
         return Err(EntryFault::Short);
@@ -108,7 +108,7 @@ pub(crate) fn text_at(
     least: u16,
     most: u16,
 ) -> Result<(Text, &[u8]), EntryFault>
-    ensures { Gives (λ x. (x.0, x.1.now)) result (text_at least most bytes.now) }
+    ensures { ReadsAs (λ x. (x.0, x.1.now)) result (text_at least most bytes.now) }
 {
     let (len, rest) = u16_at(bytes)?;
     if len < least || most < len {
@@ -144,7 +144,7 @@ fn pair_at<'a>(
     last: Option<&Text>,
     bytes: &'a [u8],
 ) -> Result<((Text, Text), &'a [u8]), EntryFault>
-    ensures { Gives (λ x. (x.0, x.1.now)) result (pair_at (option_copied last.entry) bytes.now) }
+    ensures { ReadsAs (λ x. (x.0, x.1.now)) result (pair_at (option_copied last.entry) bytes.now) }
 {
     let (key, rest) = text_at(alloc, bytes, 1, 128)?;
     if !is_next(last, &key) {
@@ -160,7 +160,7 @@ fn pairs_at(
     bytes: &[u8],
     count: u16,
 ) -> Result<(Vec<(Text, Text)>, &[u8]), EntryFault>
-    ensures { Gives (λ x. (x.0.items, x.1.now)) result (pairs_at count None bytes.now) }
+    ensures { ReadsAs (λ x. (x.0.items, x.1.now)) result (pairs_at count None bytes.now) }
 {
     let mut pairs = Vec::new(alloc);
     let mut rest = bytes;
@@ -175,7 +175,7 @@ fn pairs_at(
 // Metadata behind two bytes of count.
 #[tactic(auto, unfolding(crate::specs::Reading::metadata_at))]
 pub(crate) fn metadata_at(alloc: Global, bytes: &[u8]) -> Result<(Pairs, &[u8]), EntryFault>
-    ensures { Gives (λ x. (x.0, x.1.now)) result (metadata_at bytes.now) }
+    ensures { ReadsAs (λ x. (x.0, x.1.now)) result (metadata_at bytes.now) }
 {
     let (count, rest) = u16_at(bytes)?;
     if count > 64 {
@@ -186,7 +186,7 @@ pub(crate) fn metadata_at(alloc: Global, bytes: &[u8]) -> Result<(Pairs, &[u8]),
 }
 
 // Appends a text behind two bytes of length. Where it is refused, part of it may have been appended.
-pub(crate) fn put_text(out: &mut Vec<u8>, text: &[u8]) -> Result<(), NoMemory>
+pub fn put_text(out: &mut Vec<u8>, text: &[u8]) -> Result<(), NoMemory>
     requires { length text.now < 2 ^ 16 }
     ensures { OnOk result (out.new.items ≡ out.old.items ++ short_text text.now) }
 {
@@ -196,7 +196,7 @@ pub(crate) fn put_text(out: &mut Vec<u8>, text: &[u8]) -> Result<(), NoMemory>
 }
 
 // Appends metadata behind two bytes of count. Where it is refused, part of it may have been appended.
-pub(crate) fn put_metadata(out: &mut Vec<u8>, pairs: &Pairs) -> Result<(), NoMemory>
+pub fn put_metadata(out: &mut Vec<u8>, pairs: &Pairs) -> Result<(), NoMemory>
     ensures spelled { OnOk result (out.new.items ≡ out.old.items ++ pairs_spelling pairs.now) }
     ensures limits { OnOk result (IsMetadata pairs.now) }
 {

@@ -3,14 +3,14 @@ ghost use Rattle.std.specs.Prelude.{◌≡◌, ◌++◌, ℕ, List, OnOk, IfOk, 
 ghost use Rattle.std.specs.Option.{option_or};
 ghost use Rattle.std.specs.FinMap as map;
 ghost use Rattle.lake_base.specs.Maps.{HasAscendingKeys, IsParted};
-ghost use Rattle.lake_base.specs.KeyMap.{Objects, Edits, HasPathKeys, apply, over, said, left_by};
+ghost use Rattle.lake_base.specs.KeyMap.{KeyMapValue, ChangesValue, HasPathKeys, apply, over, value_after, rows_left};
 ghost use Rattle.lake_base.specs.declared.entry.Change.{Change as AnyChange};
 
 use crate::changes::Changes;
 use crate::entry::{Change, Entry};
 use crate::names::Path;
 use crate::outside::NoMemory;
-use crate::places::{value_at, walk_to};
+use crate::sorted::{value_at, walk_to};
 use std::alloc::Global;
 use std::marker::Model;
 
@@ -25,11 +25,11 @@ impl Model for KeyMap {
     ghost use Rattle.std.specs.FinMap as map;
     ghost use Rattle.std.specs.Coded.{coded_list, coded_ℕ};
     ghost use Rattle.lake_base.specs.Maps.{ByteMap, HasAscendingKeys};
-    ghost use Rattle.lake_base.specs.Entry.{Object};
+    ghost use Rattle.lake_base.specs.Entry.{EntryValue};
     ghost use Rattle.lake_base.specs.KeyMap.{HasPathKeys};
     ghost use Rattle.lake_base.specs.contracts.entry.Entry.{the_row};
 
-    ghost Value = { ByteMap Object };
+    ghost Value = { ByteMap EntryValue };
 
     ghost coded = { map.code (coded_list coded_ℕ) the_row.coded };
 
@@ -92,15 +92,15 @@ impl KeyMap {
 /// elsewhere. Changes over changes are applied as one after the other. One change over others is that change
 /// set in them. Of three, it is one which two are put together first. (A law: it does nothing.)
 pub fn laws_of_changes()
-    ensures applied { (changes : Edits) (old : Objects) (path : List ℕ)
-        → map.get (apply changes old) path ≡ said (map.get changes path) (map.get old path) }
-    ensures over { (new old : Edits) (path : List ℕ)
+    ensures applied { (changes : ChangesValue) (old : KeyMapValue) (path : List ℕ)
+        → map.get (apply changes old) path ≡ value_after (map.get changes path) (map.get old path) }
+    ensures over { (new old : ChangesValue) (path : List ℕ)
         → map.get (over new old) path ≡ option_or (map.get new path) (map.get old path) }
-    ensures in_turn { (new old : Edits) (under : Objects)
+    ensures in_turn { (new old : ChangesValue) (under : KeyMapValue)
         → apply (over new old) under ≡ apply new (apply old under) }
-    ensures one { (path : List ℕ) (change : AnyChange) (old : Edits)
+    ensures one { (path : List ℕ) (change : AnyChange) (old : ChangesValue)
         → over (map.insert map.empty path change) old ≡ map.insert old path change }
-    ensures together { (a b c : Edits) → over (over a b) c ≡ over a (over b c) }
+    ensures together { (a b c : ChangesValue) → over (over a b) c ≡ over a (over b c) }
 {}
 
 // The entries after the changes: one merge of the two lists.
@@ -163,8 +163,8 @@ fn add(
     path: &Path,
     change: &Change,
 ) -> Result<(), NoMemory>
-    ensures appended { OnOk result (merged.new.items ≡ merged.old.items ++ left_by path.now change.now) }
-    ensures paths { OnOk result (HasPathKeys (left_by path.now change.now)) }
+    ensures appended { OnOk result (merged.new.items ≡ merged.old.items ++ rows_left path.now change.now) }
+    ensures paths { OnOk result (HasPathKeys (rows_left path.now change.now)) }
 {
     if let Change::Put(entry) = change {
         merged.push((path.copy(alloc)?, entry.copy(alloc)?))?;

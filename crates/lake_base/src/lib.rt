@@ -1,69 +1,66 @@
-//! The words of the lake: names and texts, digests, entries and changes, key maps and their pages, the formats of
+//! The words of the lake: names and texts, digests, entries and changes, key maps and their pages, fields of
 //! bytes, and the traits of the outside. What the crates above share of merges, graphs, trees and rules is
-//! defined here, and beside it stand plain, slow functions whose contracts are these definitions.
+//! defined here, in `specs/`; the crate `lake_reference` has plain, slow functions by these definitions.
 //!
 //! - `text`, `names`: texts, paths and the names of repositories, branches and tags, each read from bytes.
 //! - `digest`: SHA-256.
 //! - `sequence`: a vector that contracts see as a list.
 //! - `pairs`, `entry`, `changes`, `key_map`: metadata, what stands at a path, what is put and deleted, and maps;
-//!   `places`: where a path stands in a list of either.
+//!   `sorted`: where a path stands in a list of either.
 //! - `listing`: pages of a map under a prefix and a delimiter.
-//! - `commit`, `settings`: commits, and the settings of a repository, within their limits.
-//! - `fields`, `spelling`, `files`: entries, ranges, metaranges and commits as bytes.
-//! - `merging`, `ancestry`, `keeping`, `cutting`, `segments`, `deciding`: the plain functions of merges, commit
-//!   graphs, retention, the cut of trees, and rules.
+//! - `commit`, `settings`: commits, and the settings of a repository, within their limits; `retention`: the
+//!   moment up to which a branch keeps what it has left behind.
+//! - `merge`: whose value a path takes in a merge.
+//! - `cut`, `range_line`: where a tree is cut, and what is said of each of its ranges.
+//! - `fields`, `encoding`: fields and entries as bytes.
 //! - `outside`: sources, sinks and clocks, whose failures are counted; `memory`, `clocks`: those of tests and of
 //!   runs in memory.
-//! - `crossing`: which values may go from thread to thread.
+//! - `threads`: which values may go from thread to thread.
 //!
 //! The promise to the layer above: what a reader accepts is what it was given, and it refuses exactly what
 //! breaks the stated limits; a map is its look-ups; a value has one spelling; an object of the outside fails
 //! only with a count that rose.
 #![tactic(auto)]
 
-pub mod ancestry;
 pub mod changes;
 pub mod clocks;
 pub mod commit;
-pub mod crossing;
-pub mod cutting;
-pub mod deciding;
+pub mod cut;
 pub mod digest;
+pub mod encoding;
 pub mod entry;
 pub mod fields;
-pub mod files;
-pub mod keeping;
 pub mod key_map;
 pub mod listing;
 pub mod memory;
-pub mod merging;
+pub mod merge;
 pub mod names;
 pub mod outside;
 pub mod pairs;
-mod places;
-pub mod segments;
+pub mod range_line;
+pub mod retention;
 pub mod sequence;
 pub mod settings;
-pub mod spelling;
-#[cfg(test)]
-mod tests;
+mod sorted;
 pub mod text;
+pub mod threads;
 
 pub use changes::Changes;
 pub use clocks::{FixedClock, ScriptClock};
 pub use commit::{About, CommitId, CommitRecord, ResetWhat, Strategy};
-pub use cutting::{Cut, USUAL_CUT};
+pub use cut::{Cut, USUAL_CUT};
 pub use digest::Digest;
+pub use encoding::{entry_bytes, entry_read, own_address};
 pub use entry::{Change, Entry, Place};
 pub use fields::EntryFault;
 pub use key_map::KeyMap;
 pub use listing::{Item, Page, PageQuery};
 pub use memory::{MemorySink, MemorySource};
-pub use merging::Side;
+pub use merge::Side;
 pub use names::{NameFault, Path, RefName, RepoName};
 pub use outside::{Clock, Failed, NoMemory, Sink, Source, Trouble};
 pub use pairs::{Pairs, PairsFault};
+pub use range_line::RangeLine;
 pub use sequence::Sequence;
 pub use settings::{BranchDays, Deny, HookRule, HookRules, Note, Protection, Rules};
-pub use spelling::{entry_bytes, entry_read, own_address};
 pub use text::{Text, is_utf8};

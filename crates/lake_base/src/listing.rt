@@ -11,10 +11,10 @@ ghost use Rattle.std.specs.Ordering.{is_lt};
 ghost use Rattle.std.specs.declared.cmp.Ordering.TheVariants.{Less};
 ghost use Rattle.std.specs.Str.{is_utf8};
 ghost use Rattle.lake_base.specs.Maps.{HasAscendingKeys, IsAscending, byte_order};
-ghost use Rattle.lake_base.specs.KeyMap.{Objects, HasPathKeys};
+ghost use Rattle.lake_base.specs.KeyMap.{KeyMapValue, HasPathKeys};
 ghost use Rattle.lake_base.specs.declared.listing.PageQuery.{PageQuery as Query};
 ghost use Rattle.lake_base.specs.declared.listing.Item.{Item as Line};
-ghost use Rattle.lake_base.specs.Listing.{through, common_prefix, IsItem, item_name, items_of, items_left, items_above, page_items, has_more, pages};
+ghost use Rattle.lake_base.specs.Listing.{front_through, common_prefix, IsItem, item_name, items_of, items_left, items_above, page_items, has_more, pages};
 ghost use Rattle.lake_base.specs.PageSteps.{is_before, IsRest, IsFull, IsPast, BeginsWith, Visits};
 
 use crate::entry::Entry;
@@ -117,21 +117,21 @@ impl KeyMap {
 /// Pages of an amount above 0, each taken after the last item of the one before, give all items above the first
 /// query's `after`, each once, in order. (A law: it does nothing.)
 pub fn law_of_pages()
-    ensures { (n : ℕ) (query : Query) (objects : Objects) → 0 < query.amount
+    ensures { (n : ℕ) (query : Query) (objects : KeyMapValue) → 0 < query.amount
         → length (items_above query objects) ≤ n → pages n query objects ≡ items_above query objects }
 {}
 
 /// What is listed: the item of each key that begins with the prefix, each once, in ascending order of name,
 /// and nothing else. (A law: it does nothing.)
 pub fn law_of_items()
-    ensures listed { (query : Query) (objects : Objects) (item : Line)
+    ensures listed { (query : Query) (objects : KeyMapValue) (item : Line)
         → Contains (map (λ i. i.1) (items_of query (entries objects))) item ↔ IsItem query objects item }
-    ensures ascending { (query : Query) (objects : Objects) → IsAscending (map item_name (items_above query objects)) }
+    ensures ascending { (query : Query) (objects : KeyMapValue) → IsAscending (map item_name (items_above query objects)) }
     // Pages give those of them whose name is above `after`.
-    ensures above { (query : Query) (objects : Objects) (item : Line)
+    ensures above { (query : Query) (objects : KeyMapValue) (item : Line)
         → Contains (items_above query objects) item ↔ (IsItem query objects item × (byte_order query.after (item_name item) ≡ Less)) }
     // Those are all items where `after` is empty and each key is a path, as in each `KeyMap`.
-    ensures all { (query : Query) (objects : Objects) → query.after ≡ [] → HasPathKeys (entries objects)
+    ensures all { (query : Query) (objects : KeyMapValue) → query.after ≡ [] → HasPathKeys (entries objects)
         → items_above query objects ≡ map (λ i. i.1) (items_of query (entries objects)) }
 {}
 
@@ -251,8 +251,8 @@ fn common_prefix<'a>(path: &'a Path, query: &PageQuery) -> Option<&'a [u8]>
 // How many bytes there are up to and including the first delimiter.
 fn through(bytes: &[u8], delimiter: &[u8]) -> Option<usize>
     requires { 0 < length delimiter.now }
-    ensures { MatchOption result (through delimiter.now bytes.now ≡ None)
-        (λ end. (end ≤ length bytes.now) × (through delimiter.now bytes.now ≡ Some (take end bytes.now))) }
+    ensures { MatchOption result (front_through delimiter.now bytes.now ≡ None)
+        (λ end. (end ≤ length bytes.now) × (front_through delimiter.now bytes.now ≡ Some (take end bytes.now))) }
 {
     for at in 0..bytes.len() {
         if bytes.split_at(at).1.starts_with(delimiter) {

@@ -20,9 +20,9 @@ pub struct MemorySource {
 
 impl Model for MemorySource {
     ghost use Rattle.std.specs.Prelude.{◌≤◌, ◌<◌, drop, vec_len};
-    ghost use Rattle.lake_base.specs.Memory.{Supply};
+    ghost use Rattle.lake_base.specs.Memory.{MemorySourceValue};
 
-    ghost Value = { Supply };
+    ghost Value = { MemorySourceValue };
 
     ghost view = { λ source. record {
       left = drop source.at source.bytes.items;
@@ -109,9 +109,9 @@ pub struct MemorySink {
 
 impl Model for MemorySink {
     ghost use Rattle.std.specs.Prelude.{◌<◌};
-    ghost use Rattle.lake_base.specs.Memory.{Deposit};
+    ghost use Rattle.lake_base.specs.Memory.{MemorySinkValue};
 
-    ghost Value = { Deposit };
+    ghost Value = { MemorySinkValue };
 
     ghost view = { λ sink. record {
       written = sink.written.items;

@@ -1,6 +1,6 @@
 //! Paths, and the names of repositories, branches and tags.
 ghost use Rattle.std.specs.Prelude.{◌≡◌, ◌+◌, ◌<◌, not, length, position, IfOk, None};
-ghost use Rattle.lake_base.specs.Names.{Answers, path_fault, repo_fault, ref_fault, bad_byte, begins_repo, continues_repo, begins_ref, continues_ref, is_hex, stray_hex, is_like_id};
+ghost use Rattle.lake_base.specs.Names.{ReadsName, path_fault, repo_fault, ref_fault, bad_byte, begins_repo, continues_repo, begins_ref, continues_ref, is_hex, stray_hex, is_like_id};
 
 use crate::outside::NoMemory;
 use crate::text::utf8;
@@ -138,7 +138,7 @@ impl Model for Path {
 impl Path {
     /// Reads it. Each fault comes exactly where it is the first.
     pub fn read(alloc: Global, bytes: &[u8]) -> Result<Path, NameFault>
-        ensures { Answers result (path_fault bytes.now) (λ name. name ≡ bytes.now) }
+        ensures { ReadsName result (path_fault bytes.now) (λ name. name ≡ bytes.now) }
     {
         if bytes.is_empty() {
             return Err(NameFault::Empty);
@@ -193,7 +193,7 @@ impl Model for RepoName {
 impl RepoName {
     /// Reads it. Each fault comes exactly where it is the first.
     pub fn read(alloc: Global, bytes: &[u8]) -> Result<RepoName, NameFault>
-        ensures { Answers result (repo_fault bytes.now) (λ name. name ≡ bytes.now) }
+        ensures { ReadsName result (repo_fault bytes.now) (λ name. name ≡ bytes.now) }
     {
         if bytes.is_empty() {
             return Err(NameFault::Empty);
@@ -251,7 +251,7 @@ impl Model for RefName {
 impl RefName {
     /// Reads it. Each fault comes exactly where it is the first.
     pub fn read(alloc: Global, bytes: &[u8]) -> Result<RefName, NameFault>
-        ensures { Answers result (ref_fault bytes.now) (λ name. name ≡ bytes.now) }
+        ensures { ReadsName result (ref_fault bytes.now) (λ name. name ≡ bytes.now) }
     {
         if bytes.is_empty() {
             return Err(NameFault::Empty);

@@ -24,9 +24,9 @@ pub struct Rules {
 }
 
 impl Model for Rules {
-    ghost use Rattle.lake_base.specs.Settings.{Retention, IsRetention};
+    ghost use Rattle.lake_base.specs.Settings.{RulesValue, IsRetention};
 
-    ghost Value = { Retention };
+    ghost Value = { RulesValue };
 
     ghost view = { λ rules. record { default_days = rules.default_days; branches = rules.branches } };
 

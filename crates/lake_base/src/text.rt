@@ -1,7 +1,7 @@
 //! Texts: UTF-8 bytes.
 ghost use Rattle.std.specs.Prelude.{◌≡◌, IfOk, MatchOption, true, false, string_bytes};
 ghost use Rattle.std.specs.Str.{is_utf8};
-ghost use Rattle.lake_base.specs.Names.{Answers, text_fault};
+ghost use Rattle.lake_base.specs.Names.{ReadsName, text_fault};
 
 use crate::names::NameFault;
 use crate::outside::NoMemory;
@@ -42,7 +42,7 @@ pub fn is_utf8(bytes: &[u8]) -> bool
 impl Text {
     /// The text of these bytes: UTF-8, at most `most` of them. Refused as TooLong, else as NotUtf8.
     pub fn read(alloc: Global, bytes: &[u8], most: usize) -> Result<Text, NameFault>
-        ensures { Answers result (text_fault most bytes.now) (λ text. text ≡ bytes.now) }
+        ensures { ReadsName result (text_fault most bytes.now) (λ text. text ≡ bytes.now) }
     {
         if bytes.len() > most {
             return Err(NameFault::TooLong);

@@ -20,7 +20,7 @@ use Rattle.lake_model.specs.declared.reply.StepFault.{StepFault}
 use Rattle.lake_model.specs.declared.reply.StepFault.TheVariants.{NoRepo, NoRef}
 use Rattle.std.specs.Str.{bytes_eq}
 use Rattle.std.proofs.lemmas.Map.Text.{is_eq-slice_cmp}
-use Rattle.lake_base.specs.Entry.{Object}
+use Rattle.lake_base.specs.Entry.{EntryValue}
 use Rattle.lake_model.proofs.Only.{ties, staged-only, named-only, there-only, refusal-only}
 use Rattle.lake_model.proofs.Refused.{room, there, refused-next}
 use Rattle.lake_model.proofs.Replay.{replay-push, IsLegal-push}
@@ -114,10 +114,10 @@ pub found-only : (state : State) (staged : ByteMap Change) (repo branch path : L
     → found_in state repo branch path ≡ shown_by (get staged path)
 found-only state staged repo branch path is named = ap (λ o. shown_by (option_and_then (λ (b : Branch). get b.staged path) o)) (there-only state staged repo branch is named)
 
-pub look_given : (state : State) (staged : ByteMap Change) (repo branch path : List ℕ) (at : ℕ) (found : Option Object) → state.repositories ≡ only staged → branch_refusal state repo branch ≡ None
+pub look_given : (state : State) (staged : ByteMap Change) (repo branch path : List ℕ) (at : ℕ) (found : Option EntryValue) → state.repositories ≡ only staged → branch_refusal state repo branch ≡ None
     → at ≡ state.entries → found ≡ shown_by (get staged path) → look_reply state repo branch path ≡ Ok (record { at = at; found = found; gone = false })
 look_given state staged repo branch path at found is named count shows =
-    let seen : ℕ → Option Object → Result Seen StepFault = λ a f. Ok (record { at = a; found = f; gone = false }) in
+    let seen : ℕ → Option EntryValue → Result Seen StepFault = λ a f. Ok (record { at = a; found = f; gone = false }) in
     ap (λ o. unless_refused o (record { at = state.entries; found = found_in state repo branch path; gone = false })) named
     ∙ ap (λ f. seen state.entries f) (found-only state staged repo branch path is named ∙ sym shows)
     ∙ ap (λ a. seen a found) (sym count)

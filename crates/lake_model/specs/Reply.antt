@@ -1,7 +1,7 @@
 -- What the one-thread lake answers at a state.
 use Rattle.std.specs.Prelude.{◌≡◌, ◌+◌, ℕ, false, nat_lt, ◌==◌, if◌then◌else◌, List, Option, Some, None, option_and_then, is_some, Result, Ok, Err}
 use Rattle.std.specs.FinMap.{get, contains_key}
-use Rattle.lake_base.specs.Entry.{Object}
+use Rattle.lake_base.specs.Entry.{EntryValue}
 use Rattle.lake_base.specs.declared.entry.Change.{Change}
 use Rattle.lake_base.specs.declared.entry.Change.TheVariants.{Put, Delete}
 use Rattle.lake_model.specs.declared.history.TheConstants.{HISTORY_LIMIT}
@@ -54,13 +54,13 @@ unless_refused None answer = Ok answer
 unless_refused (Some fault) answer = Err fault
 
 -- what a branch shows at a path
-abbrev pub shown_by : Option Change → Option Object
+abbrev pub shown_by : Option Change → Option EntryValue
 shown_by (Some (Put entry)) = Some entry
 shown_by (Some Delete) = None
 shown_by None = None
 
 -- the entry at a path of a branch
-abbrev pub found_in : State → List ℕ → List ℕ → List ℕ → Option Object
+abbrev pub found_in : State → List ℕ → List ℕ → List ℕ → Option EntryValue
 found_in state repo branch path = shown_by (option_and_then (λ b. get b.staged path) (branch_of state repo branch))
 
 abbrev pub look_reply : State → List ℕ → List ℕ → List ℕ → Result Seen StepFault

@@ -1,7 +1,7 @@
 -- The path of a URI, by what its reader answers.
 use Rattle.std.proofs.Common.{◌≡◌, ◌≢◌, ℕ, true, cond, List, length, drop, nat_eq, Option, Some, None, Err, refl, ◌∙◌, ap}
 use Rattle.std.specs.List.{starts_with}
-use Rattle.lake_base.specs.Names.{Answers, path_fault}
+use Rattle.lake_base.specs.Names.{ReadsName, path_fault}
 use Rattle.lake_base.specs.declared.names.NameFault.{NameFault}
 use Rattle.lake_base.specs.declared.names.NameFault.TheVariants.{Empty, TooShort, TooLong, NotUtf8, BadByte, NoMemory}
 use Rattle.lake_program.specs.Command.{branch_uri, valid_path, path_of}
@@ -13,7 +13,7 @@ path_of_by uri begins found is =
     ∙ ap (valid_path (drop (length branch_uri) uri)) is
 
 -- a refusal that isn't for want of memory is the first fault
-pub fault_found : {X : Type 0} (P : X → Type 0) (fault : NameFault) (found : Option NameFault) → Answers (Err fault) found P → fault ≢ NoMemory → found ≡ Some fault
+pub fault_found : {X : Type 0} (P : X → Type 0) (fault : NameFault) (found : Option NameFault) → ReadsName (Err fault) found P → fault ≢ NoMemory → found ≡ Some fault
 fault_found P Empty found is other = is
 fault_found P TooShort found is other = is
 fault_found P TooLong found is other = is

@@ -4,10 +4,10 @@ use Rattle.std.specs.List.{slice_split}
 use Rattle.std.specs.Str.Lines.{lines, strip_carriage_return}
 use Rattle.std.specs.FinMap.{empty, get, insert}
 use Rattle.lake_base.specs.Digest.{sha256}
-use Rattle.lake_base.specs.Entry.{Object}
+use Rattle.lake_base.specs.Entry.{EntryValue}
 use Rattle.lake_base.specs.declared.entry.Place.TheVariants.{Own}
 use Rattle.lake_base.specs.declared.entry.Change.TheVariants.{Put}
-use Rattle.block_store.specs.Blocks.{Objects}
+use Rattle.block_store.specs.Blocks.{KeyMapValue}
 use Rattle.lake_model.specs.declared.first.TheConstants.{FIRST_REPO, FIRST_BRANCH}
 use Rattle.lake_program.specs.declared.session.TheConstants.{CONTENT_TYPE}
 use Rattle.lake_model.specs.declared.history.HistoryEntry.{HistoryEntry}
@@ -26,7 +26,7 @@ use Rattle.lake_program.specs.Text.{not_built, too_long, uploaded, no_path, lost
 pub record Lake : Type 0 where
   -- the accepted changes, from the fresh lake on
   pub history : List HistoryEntry
-  pub objects : Objects
+  pub objects : KeyMapValue
   -- how many requests were made
   pub calls : ℕ
 
@@ -69,7 +69,7 @@ abbrev pub with_object : ℕ → List ℕ → Lake → Lake
 with_object number text lake = record { history = lake.history; objects = insert lake.objects number text; calls = lake.calls }
 
 -- the entry of a text that is uploaded at a moment under a number
-abbrev pub entry_of : ℕ → List ℕ → ℕ → Object
+abbrev pub entry_of : ℕ → List ℕ → ℕ → EntryValue
 entry_of number text moment = record {
   place = Own number (record { 0 = sha256 text });
   size = length text;
@@ -106,7 +106,7 @@ upload_ticketed path text moment (Ok taken) lake =
 upload_ticketed path text moment (Err fault) lake = refusal lake (refused fault)
 
 -- the bytes that are held of an entry
-abbrev pub held_of : Objects → Object → Option (List ℕ)
+abbrev pub held_of : KeyMapValue → EntryValue → Option (List ℕ)
 held_of objects entry = option_and_then (get objects) (own_number entry.place)
 
 -- what is shown of the bytes that are held
@@ -115,7 +115,7 @@ body path (Some bytes) lake = success lake bytes
 body path None lake = refusal lake (lost path)
 
 -- what is shown of the entry that was found
-abbrev pub found : List ℕ → Option Object → Lake → Shown
+abbrev pub found : List ℕ → Option EntryValue → Lake → Shown
 found path (Some entry) lake = body path (held_of lake.objects entry) lake
 found path None lake = refusal lake (no_path path)
 

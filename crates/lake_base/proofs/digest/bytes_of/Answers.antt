@@ -1,6 +1,6 @@
 use Rattle.std.proofs.Common.{ap, sym, ◌∙◌}
 use Rattle.hex.specs.Hex.{encode_lower}
-use Rattle.lake_base.proofs.Hexes.{decoded}
+use Rattle.lake_base.proofs.DigestLemmas.{decoded}
 use Rattle.lake_base.proofs.digest.bytes_of.Goals as goal
 
 pub unreachable-requires : goal.unreachable-requires

@@ -1,4 +1,4 @@
-use Rattle.lake_base.proofs.PairsLoop.{are_pairs}
+use Rattle.lake_base.proofs.MetadataLemmas.{are_pairs}
 use Rattle.lake_base.proofs.fields.metadata_at.Goals as goal
 
 pub of-requires : goal.of-requires

@@ -1,7 +1,7 @@
 use Rattle.std.proofs.Common.{◌≡◌, option_copied, ap, sym, subst, ◌∙◌}
 use Rattle.std.proofs.lemmas.Result.{err_from_is_err_and}
 use Rattle.lake_base.specs.Reading.{Fails, last_key, pair_at, pairs_at}
-use Rattle.lake_base.proofs.PairsLoop.{goes_on, ends, is_done}
+use Rattle.lake_base.proofs.MetadataLemmas.{goes_on, ends, is_done}
 use Rattle.lake_base.proofs.fields.pairs_at.Goals as goal
 use Rattle.std.proofs.Common.{None}
 

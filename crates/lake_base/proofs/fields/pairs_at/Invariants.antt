@@ -1,6 +1,6 @@
 use Rattle.std.proofs.Common.{◌≡◌, ◌-◌, None}
 use Rattle.lake_base.specs.Reading.{last_key, pairs_at}
-use Rattle.lake_base.proofs.PairsLoop.{with_front}
+use Rattle.lake_base.proofs.MetadataLemmas.{with_front}
 use Rattle.lake_base.proofs.fields.pairs_at.Given as goal
 
 -- the pairs so far, and those still read, are all

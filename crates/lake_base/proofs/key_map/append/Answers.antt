@@ -1,6 +1,6 @@
 use Rattle.std.proofs.Common.{refl, arith, ◌≡◌, None}
 use Rattle.lake_base.specs.Names.{path_fault}
-use Rattle.lake_base.proofs.TreeFiles.{copied_more, all_more}
+use Rattle.lake_base.proofs.ListLemmas.{copied_more, all_more}
 use Rattle.lake_base.proofs.key_map.append.Goals as goal
 
 pub loop-path-preserved : goal.loop-path-preserved

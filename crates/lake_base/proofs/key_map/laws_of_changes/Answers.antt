@@ -1,4 +1,4 @@
-use Rattle.lake_base.proofs.Applied.{get_apply, get_over, apply_over, over_one, over_over}
+use Rattle.lake_base.proofs.KeyMapLemmas.{get_apply, get_over, apply_over, over_one, over_over}
 use Rattle.lake_base.proofs.key_map.laws_of_changes.Goals as goal
 
 pub returns : goal.returns

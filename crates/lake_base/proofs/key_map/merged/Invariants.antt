@@ -1,7 +1,7 @@
 use Rattle.std.proofs.Common.{◌≡◌, ◌++◌, drop}
 use Rattle.lake_base.specs.Maps.{HasAscendingKeys}
 use Rattle.lake_base.specs.KeyMap.{HasPathKeys}
-use Rattle.lake_base.proofs.Applied.{applied}
+use Rattle.lake_base.proofs.KeyMapLemmas.{applied}
 use Rattle.lake_base.proofs.key_map.merged.Given as goal
 
 -- what is merged, and the rest after the changes to come, are the entries after all changes

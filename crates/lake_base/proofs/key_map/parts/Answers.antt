@@ -1,5 +1,5 @@
 use Rattle.std.proofs.Common.{add-one}
-use Rattle.lake_base.proofs.Ascending.{parted_at, parted_gap}
+use Rattle.lake_base.proofs.MapsLemmas.{parted_at, parted_gap}
 use Rattle.lake_base.proofs.key_map.parts.Goals as goal
 
 pub returns-in-Ok : goal.returns-in-Ok

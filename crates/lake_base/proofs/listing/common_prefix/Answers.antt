@@ -1,6 +1,6 @@
 use Rattle.std.proofs.Common.{◌≡◌, ◌<◌, length, Some, sym, subst, ◌∙◌}
 use Rattle.lake_base.specs.Listing.{common_prefix}
-use Rattle.lake_base.proofs.Fronts.{common_found, common_utf8, not_empty, path_utf8}
+use Rattle.lake_base.proofs.ListingPrefixLemmas.{common_found, common_utf8, not_empty, path_utf8}
 use Rattle.lake_base.proofs.listing.common_prefix.Goals as goal
 
 found : (c : goal.After-result-1) → common_prefix c.args.query.now.prefix c.args.query.now.delimiter c.args.path.now ≡ Some c.split_at-in-Some.result.0.now

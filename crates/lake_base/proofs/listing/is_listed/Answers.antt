@@ -1,14 +1,14 @@
 use Rattle.std.proofs.Common.{◌≡◌, Bool, true, false, nat_eq, List, [], ℕ, Some, sym, ap, ◌∙◌}
 use Rattle.std.specs.Bool.{MatchBool}
 use Rattle.std.specs.List.{starts_with, slice_get}
-use Rattle.lake_base.specs.Entry.{Object}
+use Rattle.lake_base.specs.Entry.{EntryValue}
 use Rattle.lake_base.specs.Listing.{items_left}
 use Rattle.lake_base.specs.PageSteps.{IsRest, BeginsWith}
 use Rattle.lake_base.specs.declared.listing.PageQuery.{PageQuery}
-use Rattle.lake_base.proofs.Listed.{none_left, first_is, nothing_left, none_first}
+use Rattle.lake_base.proofs.ListingStepLemmas.{none_left, first_is, nothing_left, none_first}
 use Rattle.lake_base.proofs.listing.is_listed.Goals as goal
 
-tested : (b : Bool) (query : PageQuery) (es : List (List ℕ × Object)) (x : List ℕ × Object) → IsRest query es → slice_get es 0 ≡ Some x → b ≡ starts_with nat_eq x.0 query.prefix → MatchBool b (BeginsWith es query.prefix) (items_left query es ≡ [])
+tested : (b : Bool) (query : PageQuery) (es : List (List ℕ × EntryValue)) (x : List ℕ × EntryValue) → IsRest query es → slice_get es 0 ≡ Some x → b ≡ starts_with nat_eq x.0 query.prefix → MatchBool b (BeginsWith es query.prefix) (items_left query es ≡ [])
 tested true query es x rest got is = first_is query es x got (sym is)
 tested false query es x rest got is = none_left query es rest x got (sym is)
 

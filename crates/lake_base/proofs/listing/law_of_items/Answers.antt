@@ -1,5 +1,5 @@
-use Rattle.lake_base.proofs.AllItems.{all_above_empty}
-use Rattle.lake_base.proofs.Items.{listed_is, items_ascend, above_is}
+use Rattle.lake_base.proofs.ListingAllLemmas.{all_above_empty}
+use Rattle.lake_base.proofs.ListingItemLemmas.{listed_is, items_ascend, above_is}
 use Rattle.lake_base.proofs.listing.law_of_items.Goals as goal
 
 pub returns : goal.returns

@@ -1,4 +1,4 @@
-use Rattle.lake_base.proofs.Paging.{all_pages}
+use Rattle.lake_base.proofs.ListingPageLemmas.{all_pages}
 use Rattle.lake_base.proofs.listing.law_of_pages.Goals as goal
 
 pub returns : goal.returns

@@ -3,7 +3,7 @@ use Rattle.std.specs.List.{starts_with}
 use Rattle.std.specs.Ordering.{is_gt}
 use Rattle.std.proofs.lemmas.List.Sorted.{IsPartitionPoint-from_clause}
 use Rattle.lake_base.specs.Maps.{byte_order}
-use Rattle.lake_base.proofs.Listed.{partitioned, begins_down, all_from, past_from}
+use Rattle.lake_base.proofs.ListingStepLemmas.{partitioned, begins_down, all_from, past_from}
 use Rattle.lake_base.proofs.listing.past.Goals as goal
 
 pub returns : goal.returns

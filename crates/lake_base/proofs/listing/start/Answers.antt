@@ -3,7 +3,7 @@ use Rattle.std.specs.List.Sorted.{IsPartitionPoint}
 use Rattle.std.proofs.lemmas.List.Sorted.{IsPartitionPoint-from_clause}
 use Rattle.lake_base.specs.Listing.{items_left}
 use Rattle.lake_base.specs.PageSteps.{is_before}
-use Rattle.lake_base.proofs.Listed.{partitioned, before_down, any_key, start_rest, start_same}
+use Rattle.lake_base.proofs.ListingStepLemmas.{partitioned, before_down, any_key, start_rest, start_same}
 use Rattle.lake_base.proofs.listing.start.Goals as goal
 
 parts : (c : goal.After-result-1) → IsPartitionPoint (λ e. is_before c.args.query.now e.0 ≡ true) (λ e. is_before c.args.query.now e.0 ≡ false) c.args.entries.now c.partition_point-at.result

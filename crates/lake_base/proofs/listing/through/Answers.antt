@@ -1,6 +1,6 @@
 use Rattle.std.proofs.Common.{sym, nat_eq, ap, ◌∙◌}
 use Rattle.std.specs.List.{starts_with}
-use Rattle.lake_base.proofs.Fronts.{through_here, through_on}
+use Rattle.lake_base.proofs.ListingPrefixLemmas.{through_here, through_on}
 use Rattle.lake_base.proofs.listing.through.Goals as goal
 
 pub returns-then-starts_with : goal.returns-then-starts_with

@@ -1,7 +1,7 @@
 use Rattle.std.proofs.Common.{◌≤◌, ◌<◌, length, refl, sym, ap, subst, ◌∙◌}
 use Rattle.std.specs.Ordering.{is_lt}
 use Rattle.lake_base.specs.Maps.{byte_order}
-use Rattle.lake_base.proofs.Listed.{visit_object, full_object, visit_prefix, full_prefix, skip_prefix, begins_common, begins_first, under_first}
+use Rattle.lake_base.proofs.ListingStepLemmas.{visit_object, full_object, visit_prefix, full_prefix, skip_prefix, begins_common, begins_first, under_first}
 use Rattle.lake_base.proofs.listing.visit.Goals as goal
 
 pub returns-then-as_slice-query : goal.returns-then-as_slice-query

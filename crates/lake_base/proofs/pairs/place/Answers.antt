@@ -1,6 +1,6 @@
 use Rattle.std.proofs.Common.{ap, sym, ◌∙◌}
 use Rattle.lake_base.specs.Maps.{byte_order}
-use Rattle.lake_base.proofs.Ascending.{greater_gap}
+use Rattle.lake_base.proofs.MapsLemmas.{greater_gap}
 use Rattle.lake_base.proofs.pairs.place.Goals as goal
 
 pub returns-in-Greater : goal.returns-in-Greater

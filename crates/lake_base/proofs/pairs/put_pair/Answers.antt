@@ -1,8 +1,8 @@
 use Rattle.std.proofs.Common.{◌≤◌, ◌<◌, length, ap, sym, set, subst, ◌∙◌, inl, inr}
 use Rattle.lake_base.specs.Maps.{IsAt, IsGap}
 use Rattle.lake_base.specs.Pairs.{ArePairs}
-use Rattle.lake_base.proofs.Ascending.{put_at, put_gap}
-use Rattle.lake_base.proofs.PairLists.{ascend_from, put_pairs, room_at, found_at, no_room, room_left}
+use Rattle.lake_base.proofs.MapsLemmas.{put_at, put_gap}
+use Rattle.lake_base.proofs.PairsLemmas.{ascend_from, put_pairs, room_at, found_at, no_room, room_left}
 use Rattle.lake_base.proofs.pairs.put_pair.Goals as goal
 
 pub place-requires : goal.place-requires

@@ -1,4 +1,4 @@
-use Rattle.lake_base.proofs.Ascending.{map_none}
+use Rattle.lake_base.proofs.MapsLemmas.{map_none}
 use Rattle.lake_base.proofs.changes.Changes.new.Goals as goal
 
 pub returns : goal.returns

@@ -2,7 +2,7 @@ use Rattle.std.proofs.Common.{ap, ◌∙◌}
 use Rattle.std.specs.FinMap.{from_sorted, insert}
 use Rattle.std.proofs.lemmas.Result.{on_ok_weaker}
 use Rattle.lake_base.specs.Maps.{byte_order}
-use Rattle.lake_base.proofs.Ascending.{map_put}
+use Rattle.lake_base.proofs.MapsLemmas.{map_put}
 use Rattle.lake_base.proofs.changes.Changes.set.Goals as goal
 
 pub returns-clause-set : goal.returns-clause-set

@@ -1,6 +1,6 @@
 use Rattle.std.proofs.Common.{arith}
 use Rattle.std.proofs.lemmas.Grind.{common_steps}
-use Rattle.lake_base.proofs.Moments.{first_moments-next}
+use Rattle.lake_base.proofs.ClocksLemmas.{first_moments-next}
 use Rattle.lake_base.proofs.clocks.ScriptClockClock.now.Goals as goal
 
 pub returns-clause-reading : goal.returns-clause-reading

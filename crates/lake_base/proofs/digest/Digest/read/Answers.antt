@@ -1,4 +1,4 @@
-use Rattle.lake_base.proofs.Hexes.{stray_fault, length_fault}
+use Rattle.lake_base.proofs.DigestLemmas.{stray_fault, length_fault}
 use Rattle.lake_base.proofs.digest.Digest.read.Goals as goal
 
 pub returns-in-Some : goal.returns-in-Some

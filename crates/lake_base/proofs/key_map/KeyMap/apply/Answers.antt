@@ -2,7 +2,7 @@ use Rattle.std.proofs.Common.{ap, sym, subst, ◌∙◌}
 use Rattle.std.specs.FinMap.{entries_sorted, from_sorted}
 use Rattle.lake_base.specs.Maps.{byte_order, HasAscendingKeys}
 use Rattle.lake_base.specs.KeyMap.{apply}
-use Rattle.lake_base.proofs.Ascending.{same_again}
+use Rattle.lake_base.proofs.MapsLemmas.{same_again}
 use Rattle.lake_base.proofs.key_map.KeyMap.apply.Goals as goal
 
 pub merged-requires-clause-changes : goal.merged-requires-clause-changes

@@ -1,0 +1,12 @@
+pub mod AncestryBaseLemmas
+pub mod AncestryGraphLemmas
+pub mod AncestryReachLemmas
+pub mod AncestryWalkLemmas
+pub mod FilesLemmas
+pub mod FilesLineLemmas
+pub mod HooksLemmas
+pub mod MergeLemmas
+pub mod RetentionLemmas
+pub mod SegmentLastLemmas
+pub mod SegmentRunLemmas
+pub mod SegmentsLemmas

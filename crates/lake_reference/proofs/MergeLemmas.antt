@@ -1,0 +1,290 @@
+-- What a merged map has at each path, the paths of two maps, and the paths that conflict.
+use Rattle.std.proofs.Common.{arith, ◌≡◌, ℕ, ◌+◌, ◌<◌, ◌≤◌, ◌&&◌, ◌||◌, T, Bool, true, false, cond, List, [], ◌∷◌, ◌++◌, Some, None, Option, is_some, map, length, take, get_or, append-nil, refl, sym, ap, subst, ◌∙◌}
+use Rattle.std.specs.List.{Contains, list_any, filter, AllByRecursion}
+use Rattle.std.specs.List.Sorted.{IsStrictlySortedBy}
+use Rattle.std.specs.FinMap.Entries.{below_all}
+use Rattle.std.proofs.lemmas.List.Elements.{filter-append}
+use Rattle.std.proofs.lemmas.List.Kept.{IsStrictlySortedBy-filter}
+use Rattle.std.proofs.lemmas.Map.Views.{any-filter_same, Contains-from_any, list_any-from_Contains}
+use Rattle.std.specs.Ordering.{is_eq, eq_by_cmp}
+use Rattle.std.specs.declared.cmp.Ordering.{Ordering}
+use Rattle.std.specs.declared.cmp.Ordering.TheVariants.{Less, Equal, Greater}
+use Rattle.std.proofs.lemmas.Cmp.{nat_list_cmp_total, eq_by_cmp_equiv}
+use Rattle.std.proofs.lemmas.List.Folds.{list_any-append, list_any_more}
+use Rattle.std.proofs.lemmas.List.{take_all, take_more, map-append}
+use Rattle.std.specs.FinMap.{find, get, entries, entries_sorted, insert, empty, get-empty, get-entries, get-insert, get-remove, keys, contains_key, contains_key-keys}
+use Rattle.lake_base.specs.Entry.{EntryValue}
+use Rattle.lake_base.specs.Maps.{byte_order, ByteMap, HasAscendingKeys}
+use Rattle.lake_base.specs.KeyMap.{KeyMapValue, ChangesValue, apply, value_after}
+use Rattle.lake_base.specs.Merging.{merged_map, merged_map_at, merged_value, map_with, side_of, Leaves, ArePathsOf, HasPathsToo, IsConflict, AreConflicts}
+use Rattle.lake_base.specs.declared.entry.Change.{Change}
+use Rattle.lake_base.specs.declared.entry.Change.TheVariants.{Put, Delete}
+use denote.Enum.Bare.{sameb}
+use Rattle.lake_base.specs.contracts.merge.Side.{the_type}
+use Rattle.lake_base.specs.declared.merge.Side.{Side}
+use Rattle.lake_base.specs.declared.merge.Side.TheVariants.{Source, Destination, Neither}
+use Rattle.lake_base.specs.declared.commit.Strategy.{Strategy}
+use Rattle.lake_base.proofs.MapsLemmas.{same_key, first, second, less}
+use Rattle.lake_base.proofs.KeyMapLemmas.{same, get_apply}
+
+or_swapped : (a b : Bool) → (a || b) ≡ (b || a)
+or_swapped true true = refl
+or_swapped true false = refl
+or_swapped false true = refl
+or_swapped false false = refl
+
+pub or_nothing : (b : Bool) → b ≡ (b || false)
+or_nothing true = refl
+or_nothing false = refl
+
+or_between : (a b c : Bool) → (a || (b || c)) ≡ (b || (a || c))
+or_between true true c = refl
+or_between true false c = refl
+or_between false b c = refl
+
+some_or : {X : Type 0} (b : Bool) (x : X) (other : Option X) → is_some (cond b (Some x) other) ≡ (b || is_some other)
+some_or true x other = refl
+some_or false x other = refl
+
+-- whether paths are one
+abbrev pub ties : List ℕ → List ℕ → Bool
+ties = eq_by_cmp byte_order
+
+tied : (o : Ordering) → is_eq o ≡ true → o ≡ Equal
+tied Less e = cc
+tied Equal e = refl
+tied Greater e = cc
+
+-- paths that tie are one
+pub same_path : (q p : List ℕ) → ties q p ≡ true → q ≡ p
+same_path q p e = same_key q p (tied _ e)
+
+-- ---- the merged map
+
+get_with_value : (p : List ℕ) (value : Option EntryValue) (map : KeyMapValue) (q : List ℕ) → get (map_with p value map) q ≡ cond (ties q p) value (get map q)
+get_with_value p (Some entry) map q = get-insert nat_list_cmp_total map p entry q
+get_with_value p None map q = get-remove nat_list_cmp_total map p q
+
+-- a value that depends on the path, put at one of the paths that tie
+pub at_one : {X : Type 0} (value : List ℕ → X) (q p : List ℕ) (among : Bool) (other : X) → (b : Bool) → ties q p ≡ b
+    → cond b (value p) (cond among (value q) other) ≡ cond (b || among) (value q) other
+at_one value q p among other true e = ap value (sym (same_path q p e))
+at_one value q p among other false e = refl
+
+module _ (strategy : Strategy) (base source dest : KeyMapValue) where
+  -- the merged value at a path
+  abbrev pub value_at : List ℕ → Option EntryValue
+  value_at path = merged_value strategy (get base path) (get source path) (get dest path)
+
+  get_merged_at : (paths : List (List ℕ)) (q : List ℕ) → get (merged_map_at strategy base source dest paths) q ≡ cond (list_any (ties q) paths) (value_at q) (get dest q)
+  get_merged_at [] q = refl
+  get_merged_at (p ∷ paths) q =
+      get_with_value p (value_at p) (merged_map_at strategy base source dest paths) q
+      ∙ ap (cond (ties q p) (value_at p)) (get_merged_at paths q)
+      ∙ at_one value_at q p (list_any (ties q) paths) (get dest q) (ties q p) refl
+
+  -- whether a path is one of the base's or the source's
+  abbrev pub is_path : List ℕ → Bool
+  is_path q = contains_key base q || contains_key source q
+
+  paths_any : (q : List ℕ) → list_any (ties q) (keys base ++ keys source) ≡ is_path q
+  paths_any q =
+      list_any-append (ties q) (keys base) (keys source)
+      ∙ ap (λ b. b || list_any (ties q) (keys source)) (sym (contains_key-keys base q))
+      ∙ ap (λ b. contains_key base q || b) (sym (contains_key-keys source q))
+
+  -- the merged map by base's and source's paths
+  pub get_merged_by : (q : List ℕ) → get (merged_map strategy base source dest) q ≡ cond (is_path q) (value_at q) (get dest q)
+  unfolding merged_map
+  get_merged_by q = get_merged_at (keys base ++ keys source) q ∙ ap (λ b. cond b (value_at q) (get dest q)) (paths_any q)
+
+-- where neither base nor source has anything, the destination's value is the merged one
+nothing_changed : (strategy : Strategy) (base source dest : Option EntryValue)
+    → cond (is_some base || is_some source) (merged_value strategy base source dest) dest ≡ merged_value strategy base source dest
+nothing_changed strategy None None dest = refl
+nothing_changed strategy (Some x) source dest = refl
+nothing_changed strategy None (Some y) dest = refl
+
+-- the merged map has the merged value at each path
+pub get_merged : (strategy : Strategy) (base source dest : KeyMapValue) (q : List ℕ)
+    → get (merged_map strategy base source dest) q ≡ merged_value strategy (get base q) (get source q) (get dest q)
+get_merged strategy base source dest q = get_merged_by strategy base source dest q ∙ nothing_changed strategy (get base q) (get source q) (get dest q)
+
+-- ---- paths one by one
+
+module _ {X : Type 0} where
+  -- whether a path is that of one of the entries
+  abbrev pub among : List (List ℕ × X) → List ℕ → Bool
+  among items q = list_any (λ item. ties q item.0) items
+
+  found_among : (items : List (List ℕ × X)) (q : List ℕ) → is_some (find byte_order q items) ≡ among items q
+  found_among [] q = refl
+  found_among (e ∷ items) q = elim (ties q e.0) as (λ b. is_some (cond b (Some e.1) (find byte_order q items)) ≡ (b || among items q)) [
+    | true ↦ refl
+    | false ↦ found_among items q
+  ]
+
+  -- a map's paths are those of its entries
+  pub contains_among : (m : ByteMap X) (items : List (List ℕ × X)) → items ≡ entries m → (q : List ℕ) → contains_key m q ≡ among items q
+  contains_among m items is q = ap is_some (get-entries m q) ∙ found_among (entries m) q ∙ ap (λ es. among es q) (sym is)
+
+  contains_insert : (m : ByteMap X) (p : List ℕ) (x : X) (q : List ℕ) → contains_key (insert m p x) q ≡ (ties q p || contains_key m q)
+  contains_insert m p x q = ap is_some (get-insert nat_list_cmp_total m p x q) ∙ some_or (ties q p) x (get m q)
+
+  among_next : (items : List (List ℕ × X)) (i : ℕ) (item : List ℕ × X) → i < length items → item ≡ get_or items i item
+      → (q : List ℕ) → among (take (i + 1) items) q ≡ (ties q item.0 || among (take i items) q)
+  among_next items i item lt is q =
+      list_any_more (λ e. ties q e.0) items i item lt
+      ∙ ap (λ (e : List ℕ × X). among (take i items) q || ties q e.0) (sym is)
+      ∙ or_swapped (among (take i items) q) (ties q item.0)
+
+  -- where all are passed
+  pub among_all : (items : List (List ℕ × X)) (i : ℕ) → length items ≤ i → (q : List ℕ) → among (take i items) q ≡ among items q
+  among_all items i past q = ap (λ es. among es q) (take_all i items past)
+
+-- one more entry's path in a map
+pub paths_next : {X Y : Type 0} (old m new : ByteMap Y) (p : List ℕ) (y : Y) (items : List (List ℕ × X)) (i : ℕ) (item : List ℕ × X) → i < length items → item ≡ get_or items i item
+    → p ≡ item.0 → new ≡ insert m p y
+    → (q : List ℕ) → contains_key m q ≡ (contains_key old q || among (take i items) q) → contains_key new q ≡ (contains_key old q || among (take (i + 1) items) q)
+paths_next old m new p y items i item lt is same puts q so_far =
+    ap (λ n. contains_key n q) puts
+    ∙ contains_insert m p y q
+    ∙ ap (λ b. ties q p || b) so_far
+    ∙ or_between (ties q p) (contains_key old q) (among (take i items) q)
+    ∙ ap (λ k. contains_key old q || (ties q k || among (take i items) q)) same
+    ∙ ap (λ b. contains_key old q || b) (sym (among_next items i item lt is q))
+
+-- all paths of a map's entries are in
+pub paths_all : {X Y : Type 0} (old new : ByteMap Y) (m : ByteMap X) (items : List (List ℕ × X)) (i : ℕ) → length items ≤ i → items ≡ entries m
+    → (q : List ℕ) → contains_key new q ≡ (contains_key old q || among (take i items) q) → contains_key new q ≡ (contains_key old q || contains_key m q)
+paths_all old new m items i past is q so_far =
+    so_far ∙ ap (λ b. contains_key old q || b) (among_all items i past q ∙ sym (contains_among m items is q))
+
+-- the paths of two maps, put into nothing one after the other
+pub paths_both : (base source : KeyMapValue) (first second : ChangesValue) → HasPathsToo empty base first → HasPathsToo first source second → ArePathsOf base source second
+paths_both base source first second one two path =
+    two path
+    ∙ ap (λ b. b || contains_key source path) (one path ∙ ap (λ v. is_some v || contains_key base path) (get-empty byte_order path))
+
+-- ---- the loop of a merge
+
+pub nothing_said : (changes : ChangesValue) (dest : KeyMapValue) → changes ≡ empty → (q : List ℕ) → value_after (get changes q) (get dest q) ≡ get dest q
+nothing_said changes dest e q = ap (λ m. value_after (get m q) (get dest q)) e ∙ ap (λ c. value_after c (get dest q)) (get-empty byte_order q)
+
+said_given : (b : Bool) (c : Change) (value : Option EntryValue) (old : Option Change) (had : Option EntryValue) → Leaves c value → value_after (cond b (Some c) old) had ≡ cond b value (value_after old had)
+said_given true (Put entry) value old had gives = sym gives
+said_given true Delete value old had gives = sym gives
+said_given false c value old had gives = refl
+
+module _ (strategy : Strategy) (base source dest : KeyMapValue) {X : Type 0} where
+  -- what the changes say at a path is the merged value where the path is one of those passed, and else what was there
+  abbrev pub Merges : ChangesValue → List (List ℕ × X) → Type 0
+  Merges changes items = (q : List ℕ) → value_after (get changes q) (get dest q) ≡ cond (among items q) (value_at strategy base source dest q) (get dest q)
+
+  pub merges_next : (changes new : ChangesValue) (p : List ℕ) (c : Change) (items : List (List ℕ × X)) (i : ℕ) (item : List ℕ × X) → i < length items → item ≡ get_or items i item
+      → p ≡ item.0 → new ≡ insert changes p c → Leaves c (value_at strategy base source dest item.0) → Merges changes (take i items) → Merges new (take (i + 1) items)
+  merges_next changes new p c items i item lt is same puts gives so_far q =
+      let value = value_at strategy base source dest in
+      let had = get dest q in
+      ap (λ n. value_after (get n q) had) puts
+      ∙ ap (λ v. value_after v had) (get-insert nat_list_cmp_total changes p c q)
+      ∙ ap (λ k. value_after (cond (ties q k) (Some c) (get changes q)) had) same
+      ∙ said_given (ties q item.0) c (value item.0) (get changes q) had gives
+      ∙ ap (cond (ties q item.0) (value item.0)) (so_far q)
+      ∙ at_one value q item.0 (among (take i items) q) had (ties q item.0) refl
+      ∙ ap (λ b. cond b (value q) had) (sym (among_next items i item lt is q))
+
+-- changes that merge at all paths of base and source make the merged map
+pub merges_all : (strategy : Strategy) (base source dest : KeyMapValue) (changes paths : ChangesValue) (items : List (List ℕ × Change)) (i : ℕ) → length items ≤ i → items ≡ entries paths
+    → ArePathsOf base source paths → Merges strategy base source dest changes (take i items) → apply changes dest ≡ merged_map strategy base source dest
+merges_all strategy base source dest changes paths items i past is of all = same _ _ (λ q.
+    get_apply changes dest q
+    ∙ all q
+    ∙ ap (λ b. cond b (value_at strategy base source dest q) (get dest q)) (among_all items i past q ∙ sym (contains_among paths items is q) ∙ of q)
+    ∙ sym (get_merged_by strategy base source dest q))
+
+-- ---- the paths that conflict
+
+and_left : (a b : Bool) → (a && b) ≡ true → a ≡ true
+and_left true b e = refl
+and_left false b e = e
+
+below_keys : {X : Type 0} (k : List ℕ) (es : List (List ℕ × X)) → T (below_all byte_order k es) → AllByRecursion (λ y. byte_order k y ≡ Less) (map (λ e. e.0) es)
+below_keys k [] h = tt
+below_keys k (e ∷ es) h = (less _ (first _ _ h), below_keys k es (second _ _ h))
+
+keys_ascend : {X : Type 0} (es : List (List ℕ × X)) → HasAscendingKeys es → IsStrictlySortedBy byte_order (map (λ e. e.0) es)
+unfolding IsStrictlySortedBy
+keys_ascend [] h = tt
+keys_ascend (e ∷ es) h = (below_keys e.0 es (first _ _ h), keys_ascend es (second _ _ h))
+
+abbrev pub is_neither : Side → Bool
+is_neither Source = false
+is_neither Destination = false
+is_neither Neither = true
+
+-- what a test against Neither tells
+pub told_neither : (side : Side) → sameb the_type side Neither ≡ is_neither side
+told_neither Source = refl
+told_neither Destination = refl
+told_neither Neither = refl
+
+module _ (base source dest : KeyMapValue) where
+  abbrev pub conflicts_at : List ℕ → Bool
+  conflicts_at path = is_neither (side_of (get base path) (get source path) (get dest path))
+
+  -- the conflicting paths of entries
+  abbrev pub conflicting : {X : Type 0} → List (List ℕ × X) → List (List ℕ)
+  conflicting items = filter conflicts_at (map (λ item. item.0) items)
+
+  kept_one : (b : Bool) (p : List ℕ) (so_far : List (List ℕ)) → (pushed : List (List ℕ)) → (b ≡ true → pushed ≡ so_far ++ p ∷ []) → (b ≡ false → pushed ≡ so_far) → pushed ≡ so_far ++ cond b (p ∷ []) []
+  kept_one true p so_far pushed kept dropped = kept refl
+  kept_one false p so_far pushed kept dropped = dropped refl ∙ sym (append-nil so_far)
+
+  -- one more entry's path, where it conflicts
+  pub conflicting_next : {X : Type 0} (items : List (List ℕ × X)) (i : ℕ) (item : List ℕ × X) → i < length items → item ≡ get_or items i item
+      → (found : List (List ℕ)) → (conflicts_at item.0 ≡ true → found ≡ conflicting (take i items) ++ item.0 ∷ []) → (conflicts_at item.0 ≡ false → found ≡ conflicting (take i items))
+      → found ≡ conflicting (take (i + 1) items)
+  conflicting_next {X = X} items i item lt is found kept dropped =
+      kept_one (conflicts_at item.0) item.0 (conflicting (take i items)) found kept dropped
+      ∙ sym (
+      ap conflicting (take_more items i item lt ∙ ap (λ e. take i items ++ e ∷ []) (sym is))
+      ∙ ap (filter conflicts_at) (map-append (λ (e : List ℕ × X). e.0) (take i items) (item ∷ []))
+      ∙ filter-append conflicts_at (map (λ (e : List ℕ × X). e.0) (take i items)) (item.0 ∷ []))
+
+  pub neither : (side : Side) → is_neither side ≡ true → side ≡ Neither
+  neither Source e = cc
+  neither Destination e = cc
+  neither Neither e = refl
+
+  conflict_is_path : (was is other : Option EntryValue) → side_of was is other ≡ Neither → (is_some was || is_some is) ≡ true
+  conflict_is_path None None other e = cc
+  conflict_is_path (Some x) is other e = refl
+  conflict_is_path None (Some y) other e = refl
+
+  -- the conflicting paths among those of base and source are all that conflict
+  pub conflicts_all : (paths : ChangesValue) (items : List (List ℕ × Change)) (i : ℕ) → length items ≤ i → items ≡ entries paths → ArePathsOf base source paths
+      → (found : List (List ℕ)) → found ≡ conflicting (take i items) → AreConflicts base source dest found
+  conflicts_all paths items i past is of found so_far =
+      let all : found ≡ filter conflicts_at (keys paths) = so_far ∙ ap conflicting (take_all i items past ∙ is) in
+      let any : (q : List ℕ) → list_any (ties q) (filter conflicts_at (keys paths)) ≡ (conflicts_at q && list_any (ties q) (keys paths)) = λ q.
+      any-filter_same (ties q) conflicts_at (conflicts_at q) (λ k t. ap conflicts_at (sym (same_path q k t))) (keys paths) in
+      subst (AreConflicts base source dest) (sym all) (record {
+        ascending = IsStrictlySortedBy-filter byte_order conflicts_at (keys paths) (keys_ascend (entries paths) (entries_sorted paths));
+        all = λ q. (
+          λ within.
+              let told : (conflicts_at q && list_any (ties q) (keys paths)) ≡ true = sym (any q) ∙ list_any-from_Contains (eq_by_cmp_equiv nat_list_cmp_total) q _ within in
+              neither _ (and_left _ _ told),
+          λ conflict.
+              let kept : conflicts_at q ≡ true = ap is_neither conflict in
+              let among : list_any (ties q) (keys paths) ≡ true = sym (contains_key-keys paths q) ∙ of q ∙ conflict_is_path (get base q) (get source q) (get dest q) conflict in
+              Contains-from_any same_path q _ (any q ∙ ap (λ b. b && list_any (ties q) (keys paths)) kept ∙ among),
+        );
+      })
+
+  -- where none of the paths of base and source conflicts, no path does
+  pub no_conflict : (paths : ChangesValue) (items : List (List ℕ × Change)) (i : ℕ) → length items ≤ i → items ≡ entries paths → ArePathsOf base source paths
+      → [] ≡ conflicting (take i items) → (path : List ℕ) × IsConflict base source dest path → ⊥
+  no_conflict paths items i past is of none conflict =
+      let within : Contains [] conflict.0 = ((conflicts_all paths items i past is of [] none).all conflict.0).1 conflict.1 in
+      absurd (omega (arith, within.1))
