@@ -1,1 +1,1 @@
-pub mod Shelf
+pub mod SureLemmas

@@ -7,8 +7,8 @@ use Rattle.lake_base.specs.declared.outside.Trouble.{Trouble}
 use Rattle.lake_base.specs.declared.outside.Trouble.TheVariants.{Failed}
 
 -- the objects that a store holds: bytes under numbers
-abbrev pub Objects : Type 0
-Objects = map.FinMap nat_cmp (List ℕ)
+abbrev pub HeldObjects : Type 0
+HeldObjects = map.FinMap nat_cmp (List ℕ)
 
 -- a count of faults doesn't fall, and it rose where the object failed
 pub record FailsByFault {T : Type 0} (before now : ℕ) (result : Result T Trouble) : Type 0 where
@@ -26,9 +26,9 @@ pub record NoMiss (before now missed_before missed_now : ℕ) : Type 0 where
   pub last : missed_now ≡ missed_before
 
 -- after a put that failed the number holds nothing or the bytes, and no other number changed
-abbrev pub MayHavePut : ℕ → List ℕ → Objects → Objects → Type 0
+abbrev pub MayHavePut : ℕ → List ℕ → HeldObjects → HeldObjects → Type 0
 MayHavePut number bytes before after = (after ≡ map.remove before number) ⊎ (after ≡ map.insert before number bytes)
 
 -- after a removal that failed the number is held as before or not at all, and no other number changed
-abbrev pub MayHaveRemoved : ℕ → Objects → Objects → Type 0
+abbrev pub MayHaveRemoved : ℕ → HeldObjects → HeldObjects → Type 0
 MayHaveRemoved number before after = (after ≡ before) ⊎ (after ≡ map.remove before number)

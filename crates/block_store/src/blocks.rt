@@ -3,7 +3,7 @@ ghost use Rattle.std.specs.Prelude.{◌≡◌, ◌≤◌, ℕ, Option, Some, is_
 ghost use Rattle.std.specs.List.Sorted.{IsStrictlyIncreasing};
 ghost use Rattle.std.specs.FinMap as map;
 ghost use Rattle.lake_base.specs.declared.outside.Trouble.TheVariants.{Failed as trouble_failed, NoMemory as trouble_no_memory};
-ghost use Rattle.block_store.specs.Blocks.{Objects, FailsByFault, Misses, NoMiss, MayHavePut, MayHaveRemoved};
+ghost use Rattle.block_store.specs.Blocks.{HeldObjects, FailsByFault, Misses, NoMiss, MayHavePut, MayHaveRemoved};
 
 use lake_base::Trouble;
 
@@ -11,7 +11,7 @@ use lake_base::Trouble;
 /// its faults and its misses.
 pub trait Blocks: Drop {
     /// The objects held, where the store tells them.
-    ghost held: { Self → Option Objects };
+    ghost held: { Self → Option HeldObjects };
 
     /// How often it has failed.
     ghost faults: { Self → ℕ };

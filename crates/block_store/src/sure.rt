@@ -23,11 +23,11 @@ pub struct SureBlocks {
 
 impl Model for SureBlocks {
     ghost use Rattle.std.specs.FinMap as map;
-    ghost use Rattle.block_store.specs.Sure.{Shelf, shelf_code};
+    ghost use Rattle.block_store.specs.Sure.{SureBlocksValue, sure_blocks_code};
 
-    ghost Value = { Shelf };
+    ghost Value = { SureBlocksValue };
 
-    ghost coded = { shelf_code };
+    ghost coded = { sure_blocks_code };
 
     ghost view = { λ blocks. record {
       held = map.from_entries blocks.objects.entries;

@@ -9,9 +9,8 @@ use Rattle.lake_base.specs.declared.entry.Change.{Change}
 use Rattle.lake_model.specs.declared.history.By.{By}
 use Rattle.lake_model.specs.declared.history.HistoryEntry.{HistoryEntry}
 use Rattle.lake_model.specs.declared.history.EntryKind.TheVariants.{TicketTake, TicketDrop, Stage}
-use Rattle.lake_model.specs.declared.first.TheConstants.{FIRST_REPO, FIRST_BRANCH}
 use Rattle.lake_base.specs.Maps.{ByteMap}
-use Rattle.lake_model.specs.State.{Branch, State, only, fresh}
+use Rattle.lake_model.specs.State.{Branch, State, only, fresh, fresh_repo, fresh_branch}
 use Rattle.lake_model.specs.After.{after, replay, put_number, without}
 use Rattle.lake_model.specs.Legal.{Condition, IsLegal, HasTicket}
 use Rattle.lake_model.specs.Reply.{full_refusal, branch_refusal, version_refusal, ◌orelse◌, unless_refused, ticket_reply, drop_reply, stage_reply, look_reply, found_in, shown_by}
@@ -142,9 +141,9 @@ pub tie_from : (name now first : List ℕ) (r b : Bool) → now ≡ name → r �
 tie_from name now first r b same is answer = ap (λ n. ties n first) (sym same) ∙ is_eq-slice_cmp now first ∙ not_false (bytes_eq now first) b (sym is ∙ answer)
 
 -- the refusal of what names a branch, from the ties of its names
-pub names_tell : (state : State) (staged : ByteMap Change) (repo branch : List ℕ) (a b : Bool) → state.repositories ≡ only staged → ties repo FIRST_REPO.now ≡ a → ties branch FIRST_BRANCH.now ≡ b
+pub names_tell : (state : State) (staged : ByteMap Change) (repo branch : List ℕ) (a b : Bool) → state.repositories ≡ only staged → ties repo fresh_repo ≡ a → ties branch fresh_branch ≡ b
     → branch_refusal state repo branch ≡ cond a (cond b None (Some NoRef)) (Some NoRepo)
 names_tell state staged repo branch a b is first second =
     refusal-only state staged repo branch is
-    ∙ ap (λ t. cond t (cond (ties branch FIRST_BRANCH.now) None (Some NoRef)) (Some NoRepo)) first
+    ∙ ap (λ t. cond t (cond (ties branch fresh_branch) None (Some NoRef)) (Some NoRepo)) first
     ∙ ap (λ t. cond a (cond t None (Some NoRef)) (Some NoRepo)) second

@@ -7,9 +7,8 @@ use Rattle.std.specs.Cmp.{Equal-is}
 use Rattle.std.specs.Ordering.{nat_cmp, eq_by_cmp}
 use Rattle.std.specs.Cmp.Lexicographic.{slice_cmp, nat_list_cmp_total}
 use Rattle.lake_base.specs.declared.entry.Change.{Change}
-use Rattle.lake_model.specs.declared.first.TheConstants.{FIRST_REPO, FIRST_BRANCH}
 use Rattle.lake_base.specs.Maps.{ByteMap}
-use Rattle.lake_model.specs.State.{Branch, Repository, State, branch_of, only}
+use Rattle.lake_model.specs.State.{Branch, Repository, State, branch_of, only, fresh_repo, fresh_branch}
 use Rattle.lake_model.specs.After.{changed_at, staged_in}
 use Rattle.lake_model.specs.Reply.{branch_refusal}
 use Rattle.lake_model.specs.declared.reply.StepFault.TheVariants.{NoRepo, NoRef}
@@ -31,13 +30,13 @@ branch_in repositories repo branch = option_and_then (λ (r : Repository). get r
 
 -- the branch is there under its names alone
 pub branch-only : (staged : ByteMap Change) (repo branch : List ℕ)
-    → branch_in (only staged) repo branch ≡ cond (ties repo FIRST_REPO.now) (cond (ties branch FIRST_BRANCH.now) (Some (record { staged = staged })) None) None
+    → branch_in (only staged) repo branch ≡ cond (ties repo fresh_repo) (cond (ties branch fresh_branch) (Some (record { staged = staged })) None) None
 branch-only staged repo branch =
-    let main : Repository = record { branches = insert empty FIRST_BRANCH.now (record { staged = staged }) } in
+    let main : Repository = record { branches = insert empty fresh_branch (record { staged = staged }) } in
     let at_branch : Repository → Option Branch = λ r. get r.branches branch in
-    ap (option_and_then at_branch) (get-one FIRST_REPO.now main repo)
-    ∙ there (ties repo FIRST_REPO.now) at_branch main
-    ∙ ap (λ o. cond (ties repo FIRST_REPO.now) o None) (get-one FIRST_BRANCH.now (record { staged = staged }) branch)
+    ap (option_and_then at_branch) (get-one fresh_repo main repo)
+    ∙ there (ties repo fresh_repo) at_branch main
+    ∙ ap (λ o. cond (ties repo fresh_repo) o None) (get-one fresh_branch (record { staged = staged }) branch)
   where
     there : (b : Bool) (f : Repository → Option Branch) (r : Repository) → option_and_then f (cond b (Some r) None) ≡ cond b (f r) None
     there true f r = refl
@@ -49,7 +48,7 @@ found_there true false x y h = absurd cc
 found_there false b x y h = absurd cc
 
 pub only_branch : (staged : ByteMap Change) (repo branch : List ℕ) (b : Branch) → branch_in (only staged) repo branch ≡ Some b → b ≡ record { staged = staged }
-only_branch staged repo branch b is = found_there (ties repo FIRST_REPO.now) (ties branch FIRST_BRANCH.now) (record { staged = staged }) b (sym (branch-only staged repo branch) ∙ is)
+only_branch staged repo branch b is = found_there (ties repo fresh_repo) (ties branch fresh_branch) (record { staged = staged }) b (sym (branch-only staged repo branch) ∙ is)
 
 put_over : {X : Type 0} (b : Bool) (x y : Option X) → cond b y (cond b x None) ≡ cond b y None
 put_over true x y = refl
@@ -73,13 +72,13 @@ changed-one name q change x tie =
     ∙ put_again name x (change x)
 
 -- a change on the branch that is there leaves a lake of one branch
-pub staged-only : (staged : ByteMap Change) (repo branch path : List ℕ) (change : Change) → ties repo FIRST_REPO.now ≡ true → ties branch FIRST_BRANCH.now ≡ true
+pub staged-only : (staged : ByteMap Change) (repo branch path : List ℕ) (change : Change) → ties repo fresh_repo ≡ true → ties branch fresh_branch ≡ true
     → staged_in repo branch path change (only staged) ≡ only (insert staged path change)
 staged-only staged repo branch path change here on =
     let into : Branch → Branch = λ b. record { staged = insert b.staged path change } in
     let in_repo : Repository → Repository = λ r. record { branches = changed_at branch into r.branches } in
-    changed-one FIRST_REPO.now repo in_repo (record { branches = insert empty FIRST_BRANCH.now (record { staged = staged }) }) here
-    ∙ ap (λ (branches : ByteMap Branch). let r : Repository = record { branches = branches } in insert empty FIRST_REPO.now r) (changed-one FIRST_BRANCH.now branch into (record { staged = staged }) on)
+    changed-one fresh_repo repo in_repo (record { branches = insert empty fresh_branch (record { staged = staged }) }) here
+    ∙ ap (λ (branches : ByteMap Branch). let r : Repository = record { branches = branches } in insert empty fresh_repo r) (changed-one fresh_branch branch into (record { staged = staged }) on)
 
 -- the refusal of what names a branch, from what is there
 abbrev refused : Bool → Bool → Option StepFault
@@ -92,13 +91,13 @@ refused-by_names false b r x = refl
 
 -- what names a branch is refused by the names alone
 pub refusal-only : (state : State) (staged : ByteMap Change) (repo branch : List ℕ) → state.repositories ≡ only staged
-    → branch_refusal state repo branch ≡ cond (ties repo FIRST_REPO.now) (cond (ties branch FIRST_BRANCH.now) None (Some NoRef)) (Some NoRepo)
+    → branch_refusal state repo branch ≡ cond (ties repo fresh_repo) (cond (ties branch fresh_branch) None (Some NoRef)) (Some NoRepo)
 refusal-only state staged repo branch is =
-    let main : Repository = record { branches = insert empty FIRST_BRANCH.now (record { staged = staged }) } in
+    let main : Repository = record { branches = insert empty fresh_branch (record { staged = staged }) } in
     ap (λ repositories. refused (is_some (get repositories repo)) (is_some (branch_in repositories repo branch))) is
-    ∙ ap (λ o. refused (is_some o) (is_some (branch_in (only staged) repo branch))) (get-one FIRST_REPO.now main repo)
-    ∙ ap (λ o. refused (is_some (cond (ties repo FIRST_REPO.now) (Some main) None)) (is_some o)) (branch-only staged repo branch)
-    ∙ refused-by_names (ties repo FIRST_REPO.now) (ties branch FIRST_BRANCH.now) main (record { staged = staged })
+    ∙ ap (λ o. refused (is_some o) (is_some (branch_in (only staged) repo branch))) (get-one fresh_repo main repo)
+    ∙ ap (λ o. refused (is_some (cond (ties repo fresh_repo) (Some main) None)) (is_some o)) (branch-only staged repo branch)
+    ∙ refused-by_names (ties repo fresh_repo) (ties branch fresh_branch) main (record { staged = staged })
 
 there_by_names : (a b : Bool) (x : Branch) → refused a b ≡ None → cond a (cond b (Some x) None) None ≡ Some x
 there_by_names true true x is = refl
@@ -116,14 +115,14 @@ branch_by_names false b is = absurd cc
 
 -- where what names a branch isn't refused, the names are those of the one branch
 pub named-only : (state : State) (staged : ByteMap Change) (repo branch : List ℕ) → state.repositories ≡ only staged → branch_refusal state repo branch ≡ None
-    → (ties repo FIRST_REPO.now ≡ true) × (ties branch FIRST_BRANCH.now ≡ true)
+    → (ties repo fresh_repo ≡ true) × (ties branch fresh_branch ≡ true)
 named-only state staged repo branch is none =
-    let refusal : refused (ties repo FIRST_REPO.now) (ties branch FIRST_BRANCH.now) ≡ None = sym (refusal-only state staged repo branch is) ∙ none in
+    let refusal : refused (ties repo fresh_repo) (ties branch fresh_branch) ≡ None = sym (refusal-only state staged repo branch is) ∙ none in
     (repo_by_names _ _ refusal, branch_by_names _ _ refusal)
 
 -- and it is that branch
 pub there-only : (state : State) (staged : ByteMap Change) (repo branch : List ℕ) → state.repositories ≡ only staged → branch_refusal state repo branch ≡ None
     → branch_of state repo branch ≡ Some (record { staged = staged })
 there-only state staged repo branch is none =
-    let refusal : refused (ties repo FIRST_REPO.now) (ties branch FIRST_BRANCH.now) ≡ None = sym (refusal-only state staged repo branch is) ∙ none in
+    let refusal : refused (ties repo fresh_repo) (ties branch fresh_branch) ≡ None = sym (refusal-only state staged repo branch is) ∙ none in
     ap (λ repositories. branch_in repositories repo branch) is ∙ branch-only staged repo branch ∙ there_by_names _ _ (record { staged = staged }) refusal

@@ -3,7 +3,6 @@ use Rattle.std.proofs.Common.{◌≡◌, ◌<◌, ℕ, Bool, true, false, cond, 
 use Rattle.std.specs.Prelude.{Option, Some, None, Result, Err, IsSome, is_some}
 use Rattle.std.proofs.lemmas.Bool.Decides.{nat_tests}
 use Rattle.std.specs.FinMap.{contains_key}
-use Rattle.lake_model.specs.declared.history.TheConstants.{HISTORY_LIMIT}
 use Rattle.lake_model.specs.declared.reply.StepFault.{StepFault}
 use Rattle.lake_model.specs.declared.reply.StepFault.TheVariants.{HistoryFull, NoRepo, NoRef, Changed, NoMemory}
 use Rattle.lake_model.specs.State.{State, branch_of}
@@ -22,8 +21,8 @@ room_below true is = refl
 room_below false is = absurd cc
 
 -- where no change is refused, there is room for an entry
-pub room : (state : State) → full_refusal state ≡ None → state.entries < HISTORY_LIMIT
-room state none = let below : nat_lt state.entries HISTORY_LIMIT ≡ true = room_below (nat_lt state.entries HISTORY_LIMIT) none in grind (arith, nat_tests)
+pub room : (state : State) → full_refusal state ≡ None → state.entries < 4194304
+room state none = let below : nat_lt state.entries 4194304 ≡ true = room_below (nat_lt state.entries 4194304) none in grind (arith, nat_tests)
 
 both_there : (a b : Bool) → cond a (cond b None (Some NoRef)) (Some NoRepo) ≡ None → b ≡ true
 both_there true true is = refl

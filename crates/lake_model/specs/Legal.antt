@@ -3,7 +3,6 @@ use Rattle.std.specs.Prelude.{◌≡◌, ◌<◌, ℕ, List, [], ◌∷◌, ◌+
 use Rattle.std.specs.FinMap.{get}
 use Rattle.lake_base.specs.declared.entry.Change.{Change}
 use Rattle.lake_model.specs.declared.history.HistoryEntry.{HistoryEntry}
-use Rattle.lake_model.specs.declared.history.TheConstants.{HISTORY_LIMIT}
 use Rattle.lake_model.specs.declared.history.EntryKind.{EntryKind}
 use Rattle.lake_model.specs.declared.history.EntryKind.TheVariants.{TicketTake, TicketDrop, Stage}
 use Rattle.lake_model.specs.State.{Branch, State, branch_of}
@@ -21,7 +20,7 @@ Condition state seat (Stage repo branch path change) = IsSome (branch_of state r
 
 -- the entry may come next
 abbrev pub Allows : State → HistoryEntry → Type 0
-Allows state entry = (state.entries < HISTORY_LIMIT) × Condition state entry.by.seat entry.kind
+Allows state entry = (state.entries < 4194304) × Condition state entry.by.seat entry.kind
 
 -- each entry's condition held in the state before it
 abbrev pub IsLegal : State → List HistoryEntry → Type 0

@@ -4,7 +4,6 @@ use Rattle.std.specs.FinMap.{get, contains_key}
 use Rattle.lake_base.specs.Entry.{EntryValue}
 use Rattle.lake_base.specs.declared.entry.Change.{Change}
 use Rattle.lake_base.specs.declared.entry.Change.TheVariants.{Put, Delete}
-use Rattle.lake_model.specs.declared.history.TheConstants.{HISTORY_LIMIT}
 use Rattle.lake_model.specs.declared.reply.Seen.{Seen}
 use Rattle.lake_model.specs.declared.reply.Versions.{Versions}
 use Rattle.lake_model.specs.declared.reply.StepFault.{StepFault}
@@ -34,7 +33,7 @@ branch_refusal state repo branch =
 
 -- the first cause to refuse any change
 abbrev pub full_refusal : State → Option StepFault
-full_refusal state = if nat_lt state.entries HISTORY_LIMIT then None else Some HistoryFull
+full_refusal state = if nat_lt state.entries 4194304 then None else Some HistoryFull
 
 -- the first cause to refuse a write that was given this version
 abbrev pub version_refusal : State → List ℕ → List ℕ → ℕ → Option StepFault

@@ -5,19 +5,18 @@ use Rattle.std.proofs.lemmas.Bool.Decides.{nat_tests}
 use Rattle.std.proofs.lemmas.List.{take_all, get_or-take}
 use Rattle.std.specs.Str.{is_utf8}
 use Rattle.std.specs.Str.Lines.{strip_carriage_return}
-use Rattle.lake_program.specs.declared.word.TheConstants.{LINE_LIMIT}
 use Rattle.lake_program.specs.Command.{request_of, request_of_words, words_of}
 use Rattle.lake_program.specs.Batch.{Lake, Served, leaving, success, asked, turn}
 use Rattle.lake_program.specs.Feeding.{line_room}
 
 -- what is told by the length and the first byte
 pub record Long (x : List ℕ) (first : ℕ) : Type 0 where
-  long : LINE_LIMIT < length x
+  long : 65536 < length x
   begins : get_or x 0 0 ≡ first
 
-no_request : (x : List ℕ) → LINE_LIMIT < length x → request_of x ≡ None
+no_request : (x : List ℕ) → 65536 < length x → request_of x ≡ None
 no_request x long =
-    let over : nat_le (length x) LINE_LIMIT ≡ false = grind (arith, nat_tests) in
+    let over : nat_le (length x) 65536 ≡ false = grind (arith, nat_tests) in
     ap (λ b. cond (b && is_utf8 x) (request_of_words (words_of x)) None) over
 
 -- what a line that is too long comes to
@@ -33,7 +32,7 @@ choose : (P : List ℕ → Type 0) (b : Bool) (x y : List ℕ) → P x → P y �
 choose P true x y p q = p
 choose P false x y p q = q
 
-pub stripped : (x : List ℕ) (first : ℕ) → LINE_LIMIT + 1 < length x → get_or x 0 0 ≡ first → Long (strip_carriage_return x) first
+pub stripped : (x : List ℕ) (first : ℕ) → 65536 + 1 < length x → get_or x 0 0 ≡ first → Long (strip_carriage_return x) first
 stripped x first long begins =
     choose (λ y. Long y first) (get_or x (length x - 1) 0 == 13) (take (length x - 1) x) x
     (record { long = omega (arith, length-take (length x - 1) x); begins = get_or-take (length x - 1) x 0 0 (omega arith) ∙ begins })

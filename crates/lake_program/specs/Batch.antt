@@ -1,5 +1,5 @@
 -- What a batch of lines comes to on the one-thread lake.
-use Rattle.std.specs.Prelude.{◌≡◌, ℕ, ◌+◌, ◌-◌, ◌==◌, ◌&&◌, Bool, true, false, nat_le, if◌then◌else◌, List, [], ◌∷◌, ◌++◌, length, map, take, drop, slice_index, Option, Some, None, option_and_then, Result, Ok, Err}
+use Rattle.std.specs.Prelude.{◌≡◌, ℕ, ◌+◌, ◌-◌, ◌==◌, ◌&&◌, Bool, true, false, nat_le, if◌then◌else◌, List, [], ◌∷◌, ◌++◌, length, map, take, drop, slice_index, Option, Some, None, option_and_then, Result, Ok, Err, codes}
 use Rattle.std.specs.List.{slice_split}
 use Rattle.std.specs.Str.Lines.{lines, strip_carriage_return}
 use Rattle.std.specs.FinMap.{empty, get, insert}
@@ -7,16 +7,14 @@ use Rattle.lake_base.specs.Digest.{sha256}
 use Rattle.lake_base.specs.Entry.{EntryValue}
 use Rattle.lake_base.specs.declared.entry.Place.TheVariants.{Own}
 use Rattle.lake_base.specs.declared.entry.Change.TheVariants.{Put}
-use Rattle.block_store.specs.Blocks.{KeyMapValue}
-use Rattle.lake_model.specs.declared.first.TheConstants.{FIRST_REPO, FIRST_BRANCH}
-use Rattle.lake_program.specs.declared.session.TheConstants.{CONTENT_TYPE}
+use Rattle.block_store.specs.Blocks.{HeldObjects}
 use Rattle.lake_model.specs.declared.history.HistoryEntry.{HistoryEntry}
 use Rattle.lake_model.specs.declared.history.EntryKind.{EntryKind}
 use Rattle.lake_model.specs.declared.history.EntryKind.TheVariants.{TicketTake, TicketDrop, Stage}
 use Rattle.lake_model.specs.declared.reply.Seen.{Seen}
 use Rattle.lake_model.specs.declared.reply.Versions.{Versions}
 use Rattle.lake_model.specs.declared.reply.StepFault.{StepFault}
-use Rattle.lake_model.specs.State.{State, fresh}
+use Rattle.lake_model.specs.State.{State, fresh, fresh_repo, fresh_branch}
 use Rattle.lake_model.specs.After.{own_number, replay}
 use Rattle.lake_model.specs.Reply.{look_reply, versions_reply, ticket_reply, drop_reply, stage_reply}
 use Rattle.lake_program.specs.Command.{Request, Upload, Cat, is_skipped, request_of}
@@ -26,7 +24,7 @@ use Rattle.lake_program.specs.Text.{not_built, too_long, uploaded, no_path, lost
 pub record Lake : Type 0 where
   -- the accepted changes, from the fresh lake on
   pub history : List HistoryEntry
-  pub objects : KeyMapValue
+  pub objects : HeldObjects
   -- how many requests were made
   pub calls : ℕ
 
@@ -74,7 +72,7 @@ entry_of number text moment = record {
   place = Own number (record { 0 = sha256 text });
   size = length text;
   mtime = moment;
-  content_type = CONTENT_TYPE.now;
+  content_type = codes "application/octet-stream";
   metadata = [];
 }
 
@@ -86,27 +84,27 @@ without_ticket number (Err fault) lake = lake
 -- an upload whose entry was staged, or refused
 abbrev pub upload_staged : ℕ → List ℕ → List ℕ → ℕ → Result ℕ StepFault → Lake → Shown
 upload_staged number path text moment (Ok at) lake =
-    success (with_entry (Stage FIRST_REPO.now FIRST_BRANCH.now path (Put (entry_of number text moment))) lake) (uploaded path text)
+    success (with_entry (Stage fresh_repo fresh_branch path (Put (entry_of number text moment))) lake) (uploaded path text)
 upload_staged number path text moment (Err fault) lake = refusal (without_ticket number (drop_reply (now lake)) lake) (refused fault)
 
 -- an upload that read the branch's version, by which its entry is staged, or was refused it
 abbrev pub upload_versioned : ℕ → List ℕ → List ℕ → ℕ → Result Versions StepFault → Lake → Shown
 upload_versioned number path text moment (Ok versions) lake =
-    upload_staged number path text moment (stage_reply (now lake) FIRST_REPO.now FIRST_BRANCH.now versions.version) lake
+    upload_staged number path text moment (stage_reply (now lake) fresh_repo fresh_branch versions.version) lake
 upload_versioned number path text moment (Err fault) lake = refusal (without_ticket number (drop_reply (now lake)) lake) (refused fault)
 
 -- an upload whose text is held
 abbrev pub upload_held : ℕ → List ℕ → List ℕ → ℕ → Lake → Shown
-upload_held number path text moment lake = upload_versioned number path text moment (versions_reply (now lake) FIRST_REPO.now FIRST_BRANCH.now) lake
+upload_held number path text moment lake = upload_versioned number path text moment (versions_reply (now lake) fresh_repo fresh_branch) lake
 
 -- an upload that was given a number, which then holds the text, or was refused one
 abbrev pub upload_ticketed : List ℕ → List ℕ → ℕ → Result (ℕ × ℕ) StepFault → Lake → Shown
 upload_ticketed path text moment (Ok taken) lake =
-    upload_held taken.1 path text moment (with_object taken.1 text (with_entry (TicketTake FIRST_REPO.now FIRST_BRANCH.now taken.1) lake))
+    upload_held taken.1 path text moment (with_object taken.1 text (with_entry (TicketTake fresh_repo fresh_branch taken.1) lake))
 upload_ticketed path text moment (Err fault) lake = refusal lake (refused fault)
 
 -- the bytes that are held of an entry
-abbrev pub held_of : KeyMapValue → EntryValue → Option (List ℕ)
+abbrev pub held_of : HeldObjects → EntryValue → Option (List ℕ)
 held_of objects entry = option_and_then (get objects) (own_number entry.place)
 
 -- what is shown of the bytes that are held
@@ -126,8 +124,8 @@ cat_seen path (Err fault) lake = refusal lake (refused fault)
 
 -- what a request comes to at a moment
 abbrev pub serve : Request → ℕ → Lake → Shown
-serve (Upload path text) moment lake = upload_ticketed path text moment (ticket_reply (now lake) FIRST_REPO.now FIRST_BRANCH.now) lake
-serve (Cat path) moment lake = cat_seen path (look_reply (now lake) FIRST_REPO.now FIRST_BRANCH.now path) lake
+serve (Upload path text) moment lake = upload_ticketed path text moment (ticket_reply (now lake) fresh_repo fresh_branch) lake
+serve (Cat path) moment lake = cat_seen path (look_reply (now lake) fresh_repo fresh_branch path) lake
 
 -- what was shown of some lines, whether each was done, the lake after them, and the moments that are left for the next requests
 pub record Served : Type 0 where

@@ -5,7 +5,6 @@ use Rattle.std.specs.Str.{bytes_eq, is_utf8}
 use Rattle.std.specs.Prelude.{nat_eq}
 use Rattle.lake_base.specs.Names.{path_fault}
 use Rattle.lake_base.specs.declared.names.NameFault.{NameFault}
-use Rattle.lake_program.specs.declared.word.TheConstants.{LINE_LIMIT}
 
 pub data Request : Type 0 where
   -- the text becomes an object at the path
@@ -66,4 +65,4 @@ request_of_words (noun ∷ verb ∷ uri ∷ words) =
 
 -- The request of a line, which isn't too long and is UTF-8.
 abbrev pub request_of : List ℕ → Option Request
-request_of line = if nat_le (length line) LINE_LIMIT && is_utf8 line then request_of_words (words_of line) else None
+request_of line = if nat_le (length line) 65536 && is_utf8 line then request_of_words (words_of line) else None

@@ -5,7 +5,6 @@ use Rattle.std.specs.Str.Lines.{strip_carriage_return}
 use Rattle.lake_base.specs.declared.outside.Failed.{Failed}
 use Rattle.lake_program.specs.declared.words.Timing.{Timing}
 use Rattle.lake_program.specs.declared.words.Timing.TheVariants.{Clock, At}
-use Rattle.lake_program.specs.declared.word.TheConstants.{LINE_LIMIT}
 use Rattle.lake_program.specs.Batch.{Lake, Served, turn, batch, before}
 use Rattle.lake_program.specs.Front.{IsPrefix, AsStated}
 use Rattle.lake_program.specs.Text.{out_of_memory}
@@ -28,7 +27,7 @@ InLine byte = (byte == 10) ≡ false
 
 -- Of the line under way that many bytes are kept: enough to tell that it is too long, with a carriage return at its end.
 abbrev pub line_room : ℕ
-line_room = LINE_LIMIT + 2
+line_room = 65536 + 2
 
 pub record Holds (line kept : List ℕ) : Type 0 where
   pub front : kept ≡ take line_room line

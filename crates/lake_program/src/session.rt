@@ -1,6 +1,6 @@
 //! The requests of one client on a lake in memory.
 ghost use Rattle.std.specs.Prelude.{◌≡◌, ◌≢◌, ◌+◌, ◌<◌, ◌^◌, false, option_map, IfOk, OnOk};
-ghost use Rattle.lake_model.specs.declared.first.TheConstants.{FIRST_REPO, FIRST_BRANCH};
+ghost use Rattle.lake_model.specs.State.{fresh_repo, fresh_branch};
 ghost use Rattle.lake_model.specs.Legal.{HasTicket};
 ghost use Rattle.lake_model.specs.Reply.{look_reply, ticket_reply, drop_reply, stage_reply};
 ghost use Rattle.lake_base.specs.declared.entry.Change.TheVariants.{Put};
@@ -34,8 +34,8 @@ pub struct Session {
     pub calls: u64,
     repo: RepoName,
     branch: RefName,
-    pub ghost first_repo: { repo ≡ FIRST_REPO.now },
-    pub ghost first_branch: { branch ≡ FIRST_BRANCH.now },
+    pub ghost first_repo: { repo ≡ fresh_repo },
+    pub ghost first_branch: { branch ≡ fresh_branch },
 }
 
 impl Session {
@@ -91,7 +91,7 @@ impl Session {
 
     // Takes a number for the text, and stages its entry.
     fn upload(&mut self, path: Path, text: &[u8], moment: u64) -> Result<Reply, NoMemory>
-        ensures reply { IfOk result (λ reply. upload_ticketed path text.now moment (ticket_reply (now (lake_of self.old)) FIRST_REPO.now FIRST_BRANCH.now) (lake_of self.old)
+        ensures reply { IfOk result (λ reply. upload_ticketed path text.now moment (ticket_reply (now (lake_of self.old)) fresh_repo fresh_branch) (lake_of self.old)
             ≡ shown reply (lake_of self.new)) }
         ensures calls { self.new.calls ≡ self.old.calls }
     {
@@ -131,7 +131,7 @@ impl Session {
         moment: u64,
     ) -> Result<Reply, NoMemory>
         requires { HasTicket (now (lake_of self.old)) 0 number }
-        ensures reply { IfOk result (λ reply. upload_staged number path text.now moment (stage_reply (now (lake_of self.old)) FIRST_REPO.now FIRST_BRANCH.now version) (lake_of self.old)
+        ensures reply { IfOk result (λ reply. upload_staged number path text.now moment (stage_reply (now (lake_of self.old)) fresh_repo fresh_branch version) (lake_of self.old)
             ≡ shown reply (lake_of self.new)) }
         ensures calls { self.new.calls ≡ self.old.calls }
     {
@@ -168,7 +168,7 @@ impl Session {
 
     // Shows the object at the path.
     fn cat(&mut self, path: Path) -> Result<Reply, NoMemory>
-        ensures reply { IfOk result (λ reply. cat_seen path (look_reply (now (lake_of self.old)) FIRST_REPO.now FIRST_BRANCH.now path) (lake_of self.old)
+        ensures reply { IfOk result (λ reply. cat_seen path (look_reply (now (lake_of self.old)) fresh_repo fresh_branch path) (lake_of self.old)
             ≡ shown reply (lake_of self.new)) }
         ensures calls { self.new.calls ≡ self.old.calls }
     {

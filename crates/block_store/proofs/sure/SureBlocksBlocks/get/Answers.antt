@@ -1,6 +1,6 @@
 use Rattle.std.proofs.Common.{arith}
 use Rattle.std.proofs.lemmas.Grind.{common_steps}
-use Rattle.block_store.proofs.Shelf.{get-from}
+use Rattle.block_store.proofs.SureLemmas.{get-from}
 use Rattle.block_store.proofs.sure.SureBlocksBlocks.get.Goals as goal
 
 pub returns-in_default-clause-got : goal.returns-in_default-clause-got

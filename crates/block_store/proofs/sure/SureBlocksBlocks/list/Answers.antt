@@ -1,6 +1,6 @@
 use Rattle.std.proofs.Common.{◌∙◌, sym}
 use Rattle.std.proofs.lemmas.Map.Keys.{IsStrictlyIncreasing-from_sorted}
-use Rattle.block_store.proofs.Shelf.{keys-from}
+use Rattle.block_store.proofs.SureLemmas.{keys-from}
 use Rattle.block_store.proofs.sure.SureBlocksBlocks.list.Goals as goal
 
 pub returns-clause-numbers : goal.returns-clause-numbers

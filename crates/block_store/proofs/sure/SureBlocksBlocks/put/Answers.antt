@@ -1,5 +1,5 @@
 use Rattle.std.proofs.Common.{◌≡◌, ◌∙◌, ap, Some}
-use Rattle.block_store.proofs.Shelf.{insert-from}
+use Rattle.block_store.proofs.SureLemmas.{insert-from}
 use Rattle.block_store.proofs.sure.SureBlocksBlocks.put.Goals as goal
 
 pub returns-clause-put : goal.returns-clause-put

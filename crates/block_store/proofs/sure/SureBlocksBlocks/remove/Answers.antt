@@ -1,6 +1,6 @@
 use Rattle.std.proofs.Common.{◌∙◌, ap, sym}
 use Rattle.std.specs.Prelude.{is_some}
-use Rattle.block_store.proofs.Shelf.{get-from, remove-from}
+use Rattle.block_store.proofs.SureLemmas.{get-from, remove-from}
 use Rattle.block_store.proofs.sure.SureBlocksBlocks.remove.Goals as goal
 
 pub returns-clause-was : goal.returns-clause-was

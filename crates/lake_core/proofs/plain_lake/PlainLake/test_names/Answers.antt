@@ -1,5 +1,5 @@
 use Rattle.std.proofs.Common.{true, false, refl, ap, ◌∙◌, sym}
-use Rattle.lake_model.specs.declared.first.TheConstants.{FIRST_REPO, FIRST_BRANCH}
+use Rattle.lake_model.specs.State.{fresh_repo, fresh_branch}
 use Rattle.lake_model.specs.State.{State, fresh}
 use Rattle.lake_model.specs.After.{replay}
 use Rattle.lake_core.proofs.Steps.{tie_from, names_tell}
@@ -9,18 +9,18 @@ pub returns-then-ne-clause-refusal : goal.returns-then-ne-clause-refusal
 returns-then-ne-clause-refusal c =
     let leads = ap (replay fresh) (sym c.self.view_is) ∙ c.self.invariant.1 in
     names_tell (replay fresh c.args.self.now) c.self.inside.staged c.args.repo.now c.args.branch.now false _ (ap (λ (state : State). state.repositories) leads)
-    (tie_from c.args.repo.now c.as_slice.result.now FIRST_REPO.now c.ne.result false c.as_slice.ensures.bytes c.ne.ensures c.if-ne.true) refl
+    (tie_from c.args.repo.now c.as_slice.result.now fresh_repo c.ne.result false c.as_slice.ensures.bytes c.ne.ensures c.if-ne.true) refl
 
 pub returns-then-ne-2-clause-refusal : goal.returns-then-ne-2-clause-refusal
 returns-then-ne-2-clause-refusal c =
     let leads = ap (replay fresh) (sym c.self.view_is) ∙ c.self.invariant.1 in
     names_tell (replay fresh c.args.self.now) c.self.inside.staged c.args.repo.now c.args.branch.now true false (ap (λ (state : State). state.repositories) leads)
-    (tie_from c.args.repo.now c.as_slice.result.now FIRST_REPO.now c.ne.result true c.as_slice.ensures.bytes c.ne.ensures c.if-ne.false)
-    (tie_from c.args.branch.now c.as_slice-else-ne.result.now FIRST_BRANCH.now c.ne-else-ne.result false c.as_slice-else-ne.ensures.bytes c.ne-else-ne.ensures c.if-ne-2.true)
+    (tie_from c.args.repo.now c.as_slice.result.now fresh_repo c.ne.result true c.as_slice.ensures.bytes c.ne.ensures c.if-ne.false)
+    (tie_from c.args.branch.now c.as_slice-else-ne.result.now fresh_branch c.ne-else-ne.result false c.as_slice-else-ne.ensures.bytes c.ne-else-ne.ensures c.if-ne-2.true)
 
 pub returns-else-ne-2-clause-refusal : goal.returns-else-ne-2-clause-refusal
 returns-else-ne-2-clause-refusal c =
     let leads = ap (replay fresh) (sym c.self.view_is) ∙ c.self.invariant.1 in
     names_tell (replay fresh c.args.self.now) c.self.inside.staged c.args.repo.now c.args.branch.now true true (ap (λ (state : State). state.repositories) leads)
-    (tie_from c.args.repo.now c.as_slice.result.now FIRST_REPO.now c.ne.result true c.as_slice.ensures.bytes c.ne.ensures c.if-ne.false)
-    (tie_from c.args.branch.now c.as_slice-else-ne.result.now FIRST_BRANCH.now c.ne-else-ne.result true c.as_slice-else-ne.ensures.bytes c.ne-else-ne.ensures c.if-ne-2.false)
+    (tie_from c.args.repo.now c.as_slice.result.now fresh_repo c.ne.result true c.as_slice.ensures.bytes c.ne.ensures c.if-ne.false)
+    (tie_from c.args.branch.now c.as_slice-else-ne.result.now fresh_branch c.ne-else-ne.result true c.as_slice-else-ne.ensures.bytes c.ne-else-ne.ensures c.if-ne-2.false)
