@@ -60,7 +60,7 @@ def used(pid):
 def kind_of(words, folder):
     """What a process of the compiler does, and for which crate."""
     crate = words[words.index("--crate-name") + 1] if "--crate-name" in words else ""
-    if "rt-edits-" in folder or any("rt-edits-" in word for word in words):
+    if "/rt-edit" in folder:
         return crate, "edits"
     if "--test" in words:
         return crate, "tests"

@@ -1,7 +1,7 @@
 #!/usr/bin/env python3
-"""Checks the spelling of entries against an independent one: bench/entries.py [COUNT [SEED]]
+"""Checks the spelling of entries against an independent one: checks/entries.py [COUNT [SEED]]
 
-Makes COUNT random entries (10,000 by default). Spells each by the format as it is written down in the README, has
+Makes COUNT random entries (10,000 by default). Spells each by the format as it is written down in docs/FORMATS.md, has
 lake_base's `entry_read` read all of them back, and compares every field; then has `entry_bytes` spell the same
 entries from their fields, reads those bytes by a reader of its own, and compares every field again. Nothing is
 stored: a scratch repository in a temporary folder has lake_base and a program over it. It needs rt.
