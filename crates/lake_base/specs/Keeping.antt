@@ -1,8 +1,8 @@
--- Which commits the rules of retention keep.
-use Rattle.std.specs.Prelude.{◌≡◌, ◌≤◌, ◌-◌, ◌*◌, ◌⊎◌, ℕ, List, [], ◌∷◌, Option, Some, None, IsSome, if◌then◌else◌}
-use Rattle.std.specs.List.{Contains}
+-- Which commits the rules of retention keep: what it means, and then the list of them.
+use Rattle.std.specs.Prelude.{◌≡◌, ◌≤◌, ◌-◌, ◌*◌, ◌⊎◌, ◌&&◌, ◌||◌, not, nat_le, ℕ, Bool, true, false, List, [], ◌∷◌, Option, Some, None, IsSome, if◌then◌else◌}
+use Rattle.std.specs.List.{Contains, filter, list_any}
 use Rattle.std.specs.Str.{bytes_eq}
-use Rattle.lake_base.specs.Ancestry.{Graph, commit_of, back, date, first_parent, IsOnWalk}
+use Rattle.lake_base.specs.Ancestry.{Graph, commit_of, ids, same_id, back, date, first_parent, walk, IsOnWalk}
 use Rattle.lake_base.specs.Settings.{RulesValue}
 use Rattle.lake_base.specs.declared.digest.Digest.{Digest}
 use Rattle.lake_base.specs.declared.settings.BranchDays.{BranchDays}
@@ -52,3 +52,39 @@ IsKeptBy graph heads tags (Some rules) now id =
 -- it is a commit of the graph, and one of those that are kept
 abbrev pub IsKept : Graph → List (List ℕ × Digest) → List Digest → Option RulesValue → ℕ → Digest → Type 0
 IsKept graph heads tags rules now id = IsSome (commit_of graph id) × IsKeptBy graph heads tags rules now id
+
+-- whether this is the id
+abbrev pub is_id : Digest → Option Digest → Bool
+is_id id None = false
+is_id id (Some other) = same_id id other
+
+-- whether it is the head of a branch
+abbrev pub is_head : List (List ℕ × Digest) → Digest → Bool
+is_head heads id = list_any (λ head. same_id id head.1) heads
+
+-- whether the walk from a head has a commit dated at or after the limit with this first parent
+abbrev pub is_follower : Graph → Digest → ℕ → Digest → Bool
+is_follower graph head limit id =
+    list_any (λ later. is_id id (first_parent graph later) && nat_le limit (date graph later)) (walk graph head)
+
+-- whether some branch's walk has such a commit, by that branch's cutoff
+abbrev pub is_followed : Graph → List (List ℕ × Digest) → RulesValue → ℕ → Digest → Bool
+is_followed graph heads rules now id =
+    list_any (λ head. is_follower graph head.1 (cutoff now (days_of rules head.0)) id) heads
+
+-- whether it lies on no branch's walk, and is itself dated at or after the default cutoff
+abbrev pub is_young : Graph → List (List ℕ × Digest) → RulesValue → ℕ → Digest → Bool
+is_young graph heads rules now id =
+    not (list_any (λ head. list_any (same_id id) (walk graph head.1)) heads)
+    && nat_le (cutoff now rules.default_days) (date graph id)
+
+-- whether a commit is kept: by rules as a head, tagged, followed or young; without rules always
+abbrev pub is_kept : Graph → List (List ℕ × Digest) → List Digest → Option RulesValue → ℕ → Digest → Bool
+is_kept graph heads tags None now id = true
+is_kept graph heads tags (Some rules) now id =
+    is_head heads id
+    || (list_any (same_id id) tags || (is_followed graph heads rules now id || is_young graph heads rules now id))
+
+-- the kept commits, each once, in order of id
+unfoldable pub kept : Graph → List (List ℕ × Digest) → List Digest → Option RulesValue → ℕ → List Digest
+kept graph heads tags rules now = filter (is_kept graph heads tags rules now) (ids graph)

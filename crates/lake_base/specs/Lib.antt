@@ -3,9 +3,9 @@ pub mod Body
 pub mod Clocks
 pub mod Commit
 pub mod Cutting
-pub mod Deciding
 pub mod Digest
 pub mod Entry
+pub mod HookDecisions
 pub mod Keeping
 pub mod KeyMap
 pub mod Listing

@@ -1,13 +1,11 @@
 -- The three-way merge of key maps, path by path (lakeFS documentation, merge).
-use Rattle.std.specs.Prelude.{◌≡◌, ◌↔◌, ◌||◌, ℕ, List, [], ◌∷◌, ◌++◌, Option, Some, None, if◌then◌else◌}
-use Rattle.std.specs.FinMap.{empty, get, insert, remove, keys, contains_key}
-use Rattle.std.specs.List.{Contains}
+use Rattle.std.specs.Prelude.{◌≡◌, ◌↔◌, ℕ, Bool, true, false, List, [], ◌∷◌, ◌++◌, length, nat_lt, Option, Some, None, if◌then◌else◌}
+use Rattle.std.specs.FinMap.{empty, get, insert, remove, keys, entries, from_entries}
+use Rattle.std.specs.List.{Contains, filter}
 use Rattle.lake_base.specs.Entry.{EntryValue}
-use Rattle.lake_base.specs.KeyMap.{KeyMapValue, ChangesValue}
-use Rattle.lake_base.specs.Maps.{IsAscending}
+use Rattle.lake_base.specs.KeyMap.{KeyMapValue}
+use Rattle.lake_base.specs.Maps.{IsAscending, byte_order}
 use Rattle.lake_base.specs.Sameness.{same_value}
-use Rattle.lake_base.specs.declared.entry.Change.{Change}
-use Rattle.lake_base.specs.declared.entry.Change.TheVariants.{Put, Delete}
 use Rattle.lake_base.specs.declared.commit.Strategy.{Strategy}
 use Rattle.lake_base.specs.declared.commit.Strategy.TheVariants.{Refuse, SourceWins, DestWins}
 use Rattle.lake_base.specs.declared.merge.Side.{Side}
@@ -56,19 +54,6 @@ merged_map_at strategy base source dest (path ∷ paths) =
 unfoldable pub merged_map : Strategy → KeyMapValue → KeyMapValue → KeyMapValue → KeyMapValue
 merged_map strategy base source dest = merged_map_at strategy base source dest (keys base ++ keys source)
 
--- a change that leaves this value at its path
-abbrev pub Leaves : Change → Option EntryValue → Type 0
-Leaves (Put entry) value = value ≡ Some entry
-Leaves Delete value = value ≡ None
-
--- changes at just the paths that base or source has
-abbrev pub ArePathsOf : KeyMapValue → KeyMapValue → ChangesValue → Type 0
-ArePathsOf base source paths = (path : List ℕ) → contains_key paths path ≡ (contains_key base path || contains_key source path)
-
--- changes at the paths of these changes and of this map, and at no others
-abbrev pub HasPathsToo : ChangesValue → KeyMapValue → ChangesValue → Type 0
-HasPathsToo old map new = (path : List ℕ) → contains_key new path ≡ (contains_key old path || contains_key map path)
-
 -- a path at which the two sides changed the base differently
 abbrev pub IsConflict : KeyMapValue → KeyMapValue → KeyMapValue → List ℕ → Type 0
 IsConflict base source dest path = side_of (get base path) (get source path) (get dest path) ≡ Neither
@@ -78,12 +63,31 @@ pub record AreConflicts (base source dest : KeyMapValue) (paths : List (List ℕ
   pub ascending : IsAscending paths
   pub all : (path : List ℕ) → Contains paths path ↔ IsConflict base source dest path
 
--- a merge without a strategy is refused where a path conflicts
-abbrev pub IsRefused : Strategy → KeyMapValue → KeyMapValue → KeyMapValue → Type 0
-IsRefused strategy base source dest = (strategy ≡ Refuse) × ((path : List ℕ) × IsConflict base source dest path)
+-- whether it is neither side's
+abbrev pub is_neither : Side → Bool
+is_neither Source = false
+is_neither Destination = false
+is_neither Neither = true
+
+-- whether a path conflicts
+abbrev pub is_conflict : KeyMapValue → KeyMapValue → KeyMapValue → List ℕ → Bool
+is_conflict base source dest path = is_neither (side_of (get base path) (get source path) (get dest path))
+
+-- the paths of two maps, each once, in ascending order
+unfoldable pub paths_of : KeyMapValue → KeyMapValue → List (List ℕ)
+paths_of map other = keys (from_entries {R = byte_order} (entries map ++ entries other))
+
+-- the paths that conflict, in ascending order
+unfoldable pub conflicts : KeyMapValue → KeyMapValue → KeyMapValue → List (List ℕ)
+conflicts base source dest = filter (is_conflict base source dest) (paths_of base source)
+
+-- whether a merge is refused: it has no strategy, and a path conflicts
+abbrev pub is_refused : Strategy → KeyMapValue → KeyMapValue → KeyMapValue → Bool
+is_refused Refuse base source dest = nat_lt 0 (length (conflicts base source dest))
+is_refused SourceWins base source dest = false
+is_refused DestWins base source dest = false
 
 -- a merge's answer: none where it is refused, and else the merged map
-abbrev pub AnswersMerge : Strategy → KeyMapValue → KeyMapValue → KeyMapValue → Option KeyMapValue → Type 0
-AnswersMerge strategy base source dest None = IsRefused strategy base source dest
-AnswersMerge strategy base source dest (Some map) =
-    (IsRefused strategy base source dest → ⊥) × (map ≡ merged_map strategy base source dest)
+abbrev pub merge_answer : Strategy → KeyMapValue → KeyMapValue → KeyMapValue → Option KeyMapValue
+merge_answer strategy base source dest =
+    if is_refused strategy base source dest then None else Some (merged_map strategy base source dest)

@@ -8,8 +8,10 @@ use Rattle.std.proofs.lemmas.List.{get_or_default}
 use Rattle.std.proofs.lemmas.List.Elements.{Contains-get_or, AllWithin-more, at_read}
 use Rattle.std.proofs.lemmas.Slice.Eq.{bytes_eq-Decides}
 use Rattle.lake_base.specs.Commit.{CommitRecordValue}
-use Rattle.lake_base.specs.Ancestry.{Graph, graph_of, commit_of, parents, IsDue, IsGraph, Reaches, IsReachedWithin}
+use Rattle.lake_base.specs.Ancestry.{Graph, graph_of, commit_of, parents, IsDue, IsGraph, Reaches}
 use Rattle.lake_base.specs.declared.digest.Digest.{Digest}
+use Rattle.lake_reference.specs.AncestrySteps.{IsReachedWithin}
+use Rattle.lake_reference.proofs.OrderLemmas.{Contains-first, Contains-later}
 use Rattle.lake_reference.proofs.AncestryGraphLemmas.{first_is, first_not, no_commit}
 
 pub differ : true ≡ false → ⊥
@@ -20,12 +22,6 @@ pub same_id : (a b : Digest) → a.0 ≡ b.0 → a ≡ b
 same_id a b e = λ i. record { 0 = e i }
 
 -- ---- the commits of a list
-
-pub Contains-first : {X : Type 0} (x : X) (xs : List X) → Contains (x ∷ xs) x
-Contains-first x xs = (0, omega arith, refl)
-
-pub Contains-later : {X : Type 0} (y x : X) (xs : List X) → Contains xs x → Contains (y ∷ xs) x
-Contains-later y x xs (k, lt, e) = (suc k, omega arith, e)
 
 -- the first of two cases by a test of bytes
 by_bytes : {P : Type 0} (a b : List ℕ) → (a ≡ b → P) → ((a ≡ b → ⊥) → P) → P

@@ -1,12 +1,16 @@
 -- The walk of first parents: its next step, its end, and how long it can be.
-use Rattle.std.proofs.Common.{◌≡◌, ℕ, zero, suc, ◌+◌, ◌<◌, ◌≤◌, arith, List, [], ◌∷◌, Option, Some, None, option_map, Bor, true, false, sym, ap, subst, refl, ◌∙◌, inl, inr, add-one, below_more}
+use Rattle.std.proofs.Common.{◌≡◌, ℕ, zero, suc, ◌+◌, ◌<◌, ◌≤◌, arith, List, [], ◌∷◌, ◌++◌, Option, Some, None, option_map, Bor, true, false, sym, ap, subst, refl, ◌∙◌, inl, inr, add-one, below_more}
 use Rattle.std.proofs.lemmas.Bool.{cases_lt}
 use Rattle.std.specs.List.{slice_get}
-use Rattle.std.specs.Option.{option_and_then, option_copied, IsSome, is_some}
-use Rattle.lake_base.specs.Ancestry.{Graph, commit_of, parents_in, parents, generation, date, due_generation, IsGraph, first_parent, back, IsOnWalk}
+use Rattle.std.specs.List.{Contains}
+use Rattle.std.specs.Option.{option_and_then, option_copied, option_to_list, IsSome, is_some}
+use Rattle.std.proofs.lemmas.List.Elements.{Contains-append_cases, Contains-append_left, Contains-append_right}
+use Rattle.lake_base.specs.Ancestry.{Graph, commit_of, parents_in, parents, generation, date, due_generation, IsGraph, first_parent, back, IsOnWalk, walk_within, walk}
 use Rattle.lake_base.specs.Commit.{CommitRecordValue}
 use Rattle.lake_base.specs.Keeping.{IsFollower}
 use Rattle.lake_base.specs.declared.digest.Digest.{Digest}
+use Rattle.lake_reference.proofs.OrderLemmas.{Contains-nothing, Contains-first, first_or_later}
+use Rattle.lake_reference.proofs.AncestryGraphLemmas.{due_some}
 
 -- a commit that was found is there
 pub there_where_found : (found : Option (Bor CommitRecordValue)) (o : Option CommitRecordValue) → option_copied found ≡ o → is_some found ≡ true → IsSome o
@@ -183,3 +187,64 @@ no_follower_whole g n head limit id graph whole before f =
     let below = follows_below g f.steps head limit id graph at in
     let least : f.steps < n = omega (arith, below, whole) in
     before f.steps least at
+
+-- ---- the walk as a list
+
+first_stands : (ids : List Digest) (id : Digest) → slice_get ids 0 ≡ Some id → Contains ids id
+first_stands [] id e = cc
+first_stands (x ∷ ids) id e = let same : x ≡ id = cc in subst (Contains (x ∷ ids)) same (Contains-first x ids)
+
+-- what stands back from a commit of a graph is a commit
+pub back_there : (g : Graph) (n : ℕ) (id at : Digest) → IsGraph g → back g n id ≡ Some at → IsSome (commit_of g at)
+unfolding back
+back_there g zero id at graph stands = by (commit_of g id) refl stands
+  where
+    by : (o : Option CommitRecordValue) → commit_of g id ≡ o → option_map (λ commit. id) o ≡ Some at → IsSome (commit_of g at)
+    by None e stands = cc
+    by (Some commit) e stands = let same : id ≡ at = cc in subst (λ d. IsSome (commit_of g d)) same (ap is_some e)
+back_there g (suc n) id at graph stands = by (back g n id) stands
+  where
+    by : (o : Option Digest) → option_and_then (first_parent g) o ≡ Some at → IsSome (commit_of g at)
+    by None ends = cc
+    by (Some later) follows = (graph later (there g later at (commit_of g later) refl follows)).whole at (first_stands (parents g later) at follows)
+
+option_holds : (o : Option Digest) (id : Digest) → Contains (option_to_list o) id → o ≡ Some id
+option_holds None id within = absurd (Contains-nothing id within)
+option_holds (Some x) id within = elim (first_or_later x id [] within) [
+  | inl same ↦ ap Some same
+  | inr later ↦ absurd (Contains-nothing id later)
+]
+
+option_has : (o : Option Digest) (id : Digest) → o ≡ Some id → Contains (option_to_list o) id
+option_has None id e = cc
+option_has (Some x) id e = let same : x ≡ id = cc in subst (Contains (x ∷ [])) same (Contains-first x [])
+
+-- what stands on the walk stands so many steps back
+pub within_from : (g : Graph) (n : ℕ) (head id : Digest) → Contains (walk_within n g head) id → (k : ℕ) × (back g k head ≡ Some id)
+within_from g zero head id within = absurd (Contains-nothing id within)
+within_from g (suc n) head id within = elim (Contains-append_cases (walk_within n g head) (option_to_list (back g n head)) id within) [
+  | inl before ↦ within_from g n head id before
+  | inr last ↦ (n, option_holds (back g n head) id last)
+]
+
+pub within_to : (g : Graph) (n k : ℕ) (head id : Digest) → k < n → back g k head ≡ Some id → Contains (walk_within n g head) id
+within_to g zero k head id below stands = absurd (omega arith)
+within_to g (suc n) k head id below stands = elim (cases_lt k n) [
+  | inl less ↦ Contains-append_left (walk_within n g head) (option_to_list (back g n head)) id (within_to g n k head id less stands)
+  | inr least ↦
+      let same : k ≡ n = omega arith in
+      Contains-append_right (walk_within n g head) (option_to_list (back g n head)) id
+      (option_has (back g n head) id (subst (λ (m : ℕ). back g m head ≡ Some id) same stands))
+]
+
+pub walk_from : (g : Graph) (head id : Digest) → Contains (walk g head) id → IsOnWalk g head id
+unfolding walk
+walk_from g head id within = within_from g (generation g head) head id within
+
+pub walk_to : (g : Graph) → IsGraph g → (head id : Digest) → IsOnWalk g head id → Contains (walk g head) id
+unfolding walk
+walk_to g graph head id on =
+    let steps = back_within g on.0 head id graph on.1 in
+    let due = (graph id (back_there g on.0 head id graph on.1)).counted in
+    let some = due_some g (parents g id) in
+    within_to g (generation g head) on.0 head id (omega (arith, steps, due, some)) on.1

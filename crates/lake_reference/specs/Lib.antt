@@ -1,0 +1,3 @@
+pub mod AncestrySteps
+pub mod MergeSteps
+pub mod RetentionSteps

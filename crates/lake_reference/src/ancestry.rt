@@ -10,8 +10,11 @@
 //!          \   / \          base of R and M: R
 //!            Y --- N        first parents back from M: M, X, R
 //! ```
-ghost use Rattle.std.specs.Prelude.{◌≡◌, ◌↔◌, ◌≤◌, ◌^◌, IsSome, IsTrue, Some, None, MatchOption, option_copied};
-ghost use Rattle.lake_base.specs.Ancestry.{graph_of, commit_of, parents, generation, date, due_generation, IsGraph, IsDue, IsReachedWithin, IsAncestor, IsCommon, comes_first, first_of, IsBase, back, first_parent, IsOnWalk};
+ghost use Rattle.std.specs.Prelude.{◌≡◌, ◌↔◌, ◌+◌, ◌<◌, ◌≤◌, ◌^◌, ℕ, IsSome, IsTrue, Some, None, MatchOption, option_copied};
+ghost use Rattle.std.specs.List.{Contains};
+ghost use Rattle.std.specs.List.Sorted.{IsStrictlySortedBy};
+ghost use Rattle.lake_base.specs.Ancestry.{Graph, graph_of, commit_of, parents, generation, date, due_generation, IsGraph, IsDue, Reaches, IsAncestor, IsCommon, is_ancestor, log_order, comes_first, ancestors_in_order, base, IsBase, back, first_parent, IsOnWalk, walk};
+ghost use Rattle.lake_reference.specs.AncestrySteps.{IsReachedWithin, first_of};
 ghost use Rattle.lake_base.specs.declared.digest.Digest.{Digest as Id};
 
 use lake_base::commit::{CommitId, CommitRecord};
@@ -54,9 +57,7 @@ pub fn is_ancestor(commits: &[(CommitId, CommitRecord)], old: &CommitId, id: &Co
 /// a graph of many merges takes it very long. It takes no memory.
 pub fn base(commits: &[(CommitId, CommitRecord)], a: &CommitId, b: &CommitId) -> Option<CommitId>
     requires { IsGraph (graph_of commits.now) }
-    ensures { MatchOption result
-        ((id : Id) → IsCommon (graph_of commits.now) a.now b.now id → ⊥)
-        (IsBase (graph_of commits.now) a.now b.now) }
+    ensures { result ≡ base (graph_of commits.now) a.now b.now }
 {
     let mut best = None;
     for (id, _) in commits {
@@ -100,6 +101,44 @@ pub fn is_on_walk(commits: &[(CommitId, CommitRecord)], head: &CommitId, id: &Co
     }
     at.0.as_slice() == id.0.as_slice()
 }
+
+/// In a graph a parent is of lesser generation than its child; a commit that reaches another in so many steps
+/// stands at least so many generations above it; and what is reached in at least one step is of lesser
+/// generation. So none of greater generation is reached from one of less. (A law: it does nothing.)
+pub fn law_of_generations()
+    ensures parents { (graph : Graph) (id parent : Id) → IsGraph graph
+        → Contains (parents graph id) parent → generation graph parent < generation graph id }
+    ensures steps { (graph : Graph) (steps : ℕ) (id old : Id) → IsGraph graph
+        → Reaches graph steps id old → steps + generation graph old ≤ generation graph id }
+    ensures lesser { (graph : Graph) (steps : ℕ) (id old : Id) → IsGraph graph
+        → 1 ≤ steps → Reaches graph steps id old → generation graph old < generation graph id }
+{}
+
+/// In a graph the test of ancestors tells what an ancestor is, and the list of a commit's ancestors has just
+/// these; in any graph it strictly ascends in the order of the log. (A law: it does nothing.)
+pub fn law_of_ancestors()
+    ensures test { (graph : Graph) (old id : Id) → IsGraph graph
+        → IsTrue (is_ancestor graph old id) ↔ IsAncestor graph old id }
+    ensures all { (graph : Graph) (id old : Id) → IsGraph graph
+        → Contains (ancestors_in_order graph id) old ↔ IsAncestor graph old id }
+    ensures order { (graph : Graph) (id : Id) → IsStrictlySortedBy (log_order graph) (ancestors_in_order graph id) }
+{}
+
+/// In a graph the base of two commits is the one that is meant: the common ancestor that comes first in the
+/// log. There is none exactly where no commit is an ancestor of both. (A law: it does nothing.)
+pub fn law_of_bases()
+    ensures some { (graph : Graph) (a b c : Id) → IsGraph graph
+        → (base graph a b ≡ Some c) ↔ IsBase graph a b c }
+    ensures none { (graph : Graph) (a b : Id) → IsGraph graph
+        → (base graph a b ≡ None) ↔ ((id : Id) → IsCommon graph a b id → ⊥) }
+{}
+
+/// In a graph the walk of first parents from a head has just the commits that lie on it. (A law: it does
+/// nothing.)
+pub fn law_of_walks()
+    ensures { (graph : Graph) (head id : Id) → IsGraph graph
+        → Contains (walk graph head) id ↔ IsOnWalk graph head id }
+{}
 
 // Its parents; none where there is no such commit.
 pub(crate) fn parents<'a>(commits: &'a [(CommitId, CommitRecord)], id: &CommitId) -> &'a [CommitId]

@@ -2,7 +2,7 @@
 ghost use Rattle.std.specs.Prelude.{◌≡◌, is_none, nat_eq};
 ghost use Rattle.std.specs.FinMap.{entries, find};
 ghost use Rattle.std.specs.List.{list_any, starts_with};
-ghost use Rattle.lake_base.specs.Deciding.{matches, protecting_pattern, puts_more, forbids, denies, denying_rule};
+ghost use Rattle.lake_base.specs.HookDecisions.{matches, protecting_pattern, puts_more, forbids, denies, denying_rule};
 ghost use Rattle.lake_base.specs.Maps.{byte_order};
 
 use lake_base::changes::Changes;

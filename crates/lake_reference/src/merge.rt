@@ -3,7 +3,8 @@ ghost use Rattle.std.specs.Prelude.{◌≡◌, ◌↔◌, ℕ, List, IfOk, OnOk,
 ghost use Rattle.std.specs.FinMap.{get};
 ghost use Rattle.lake_base.specs.Entry.{EntryValue};
 ghost use Rattle.lake_base.specs.KeyMap.{KeyMapValue};
-ghost use Rattle.lake_base.specs.Merging.{base_map, side_of, merged_map, merged_value, Leaves, ArePathsOf, HasPathsToo, IsConflict, AreConflicts, AnswersMerge};
+ghost use Rattle.lake_base.specs.Merging.{base_map, side_of, merged_map, merged_value, IsConflict, AreConflicts, conflicts, is_refused, merge_answer};
+ghost use Rattle.lake_reference.specs.MergeSteps.{Leaves, ArePathsOf, HasPathsToo};
 ghost use Rattle.lake_base.specs.declared.commit.Strategy.{Strategy as Choice};
 
 use lake_base::changes::Changes;

@@ -1,6 +1,6 @@
 use Rattle.std.proofs.Common.{◌+◌, sym, subst, ◌∙◌, ap, Some}
 use Rattle.lake_base.specs.Ancestry.{graph_of}
-use Rattle.lake_reference.proofs.AncestryBaseLemmas.{BestOf, best_stays, best_more, best_of_all}
+use Rattle.lake_reference.proofs.AncestryBaseLemmas.{BestOf, best_stays, best_more, best_of_all, base_answered}
 use Rattle.lake_reference.proofs.AncestryReachLemmas.{differ}
 use Rattle.lake_reference.proofs.ancestry.base.Goals as goal
 use Rattle.lake_reference.proofs.ancestry.base.Goals.{then-is_common, else-is_common}
@@ -24,4 +24,5 @@ loop-id-preserved c =
 
 pub returns : goal.returns
 returns c =
-    best_of_all c.args.commits.now c.args.a.now c.args.b.now c.loop-id.id-index c.loop-id-test.false c.loop-id.best c.loop-id.invariant
+    base_answered (graph_of c.args.commits.now) c.requires c.args.a.now c.args.b.now c.loop-id.best
+    (best_of_all c.args.commits.now c.args.a.now c.args.b.now c.loop-id.id-index c.loop-id-test.false c.loop-id.best c.loop-id.invariant)
