@@ -1,22 +1,22 @@
 -- What a merged map has at each path, the paths of two maps, and the paths that conflict.
-use Rattle.std.proofs.Common.{arith, ◌≡◌, ℕ, ◌+◌, ◌<◌, ◌≤◌, ◌&&◌, ◌||◌, T, Bool, true, false, cond, List, [], ◌∷◌, ◌++◌, Some, None, Option, is_some, map, length, take, get_or, append-nil, refl, sym, ap, subst, ◌∙◌}
-use Rattle.std.specs.List.{Contains, list_any, filter, AllByRecursion}
-use Rattle.std.specs.List.Sorted.{IsStrictlySortedBy}
-use Rattle.std.specs.FinMap.Entries.{below_all}
+use Rattle.std.proofs.Common.{arith, ◌≡◌, ℕ, ◌+◌, ◌<◌, ◌≤◌, ◌||◌, Bool, true, false, cond, List, [], ◌∷◌, ◌++◌, Some, None, Option, is_some, map, length, ltb, take, get_or, append-nil, refl, sym, ap, subst, ◌∙◌}
+use Rattle.std.specs.List.{Contains, list_any, filter}
+use Rattle.std.specs.FinMap.Entries.{is_some-find}
+use Rattle.std.proofs.lemmas.Bool.{lt-ltb}
 use Rattle.std.proofs.lemmas.List.Elements.{filter-append}
 use Rattle.std.proofs.lemmas.List.Kept.{IsStrictlySortedBy-filter}
-use Rattle.std.proofs.lemmas.Map.Views.{any-filter_same, Contains-from_any, list_any-from_Contains}
+use Rattle.std.proofs.lemmas.Map.Views.{Contains-from_any, list_any-from_Contains}
 use Rattle.std.specs.Ordering.{is_eq, eq_by_cmp}
 use Rattle.std.specs.declared.cmp.Ordering.{Ordering}
 use Rattle.std.specs.declared.cmp.Ordering.TheVariants.{Less, Equal, Greater}
 use Rattle.std.proofs.lemmas.Cmp.{nat_list_cmp_total, eq_by_cmp_equiv}
 use Rattle.std.proofs.lemmas.List.Folds.{list_any-append, list_any_more}
 use Rattle.std.proofs.lemmas.List.{take_all, take_more, map-append}
-use Rattle.std.specs.FinMap.{find, get, entries, entries_sorted, insert, empty, get-empty, get-entries, get-insert, get-remove, keys, contains_key, contains_key-keys}
+use Rattle.std.specs.FinMap.{find, get, entries, from_entries, insert, empty, get-empty, get-entries, get-from_entries, get-insert, get-remove, keys, contains_key, contains_key-keys}
 use Rattle.lake_base.specs.Entry.{EntryValue}
-use Rattle.lake_base.specs.Maps.{byte_order, ByteMap, HasAscendingKeys}
+use Rattle.lake_base.specs.Maps.{byte_order, ByteMap, IsAscending}
 use Rattle.lake_base.specs.KeyMap.{KeyMapValue, ChangesValue, apply, value_after}
-use Rattle.lake_base.specs.Merging.{merged_map, merged_map_at, merged_value, map_with, side_of, Leaves, ArePathsOf, HasPathsToo, IsConflict, AreConflicts}
+use Rattle.lake_base.specs.Merging.{merged_map, merged_map_at, merged_value, map_with, side_of, is_neither, is_conflict, paths_of, conflicts, is_refused, IsConflict, AreConflicts}
 use Rattle.lake_base.specs.declared.entry.Change.{Change}
 use Rattle.lake_base.specs.declared.entry.Change.TheVariants.{Put, Delete}
 use denote.Enum.Bare.{sameb}
@@ -24,8 +24,11 @@ use Rattle.lake_base.specs.contracts.merge.Side.{the_type}
 use Rattle.lake_base.specs.declared.merge.Side.{Side}
 use Rattle.lake_base.specs.declared.merge.Side.TheVariants.{Source, Destination, Neither}
 use Rattle.lake_base.specs.declared.commit.Strategy.{Strategy}
-use Rattle.lake_base.proofs.MapsLemmas.{same_key, first, second, less}
+use Rattle.lake_base.specs.declared.commit.Strategy.TheVariants.{Refuse, SourceWins, DestWins}
+use Rattle.lake_base.proofs.MapsLemmas.{same_key}
 use Rattle.lake_base.proofs.KeyMapLemmas.{same, get_apply}
+use Rattle.lake_reference.specs.MergeSteps.{Leaves, ArePathsOf, HasPathsToo}
+use Rattle.lake_reference.proofs.OrderLemmas.{Contains-filter, Contains-from_filter, Contains-first, Contains-nothing, keys_ascend, same_ascending}
 
 or_swapped : (a b : Bool) → (a || b) ≡ (b || a)
 or_swapped true true = refl
@@ -71,6 +74,16 @@ pub at_one : {X : Type 0} (value : List ℕ → X) (q p : List ℕ) (among : Boo
 at_one value q p among other true e = ap value (sym (same_path q p e))
 at_one value q p among other false e = refl
 
+-- whether a path is one of the base's or the source's
+abbrev pub is_path : KeyMapValue → KeyMapValue → List ℕ → Bool
+is_path base source q = contains_key base q || contains_key source q
+
+paths_any : (base source : KeyMapValue) (q : List ℕ) → list_any (ties q) (keys base ++ keys source) ≡ is_path base source q
+paths_any base source q =
+    list_any-append (ties q) (keys base) (keys source)
+    ∙ ap (λ b. b || list_any (ties q) (keys source)) (sym (contains_key-keys base q))
+    ∙ ap (λ b. contains_key base q || b) (sym (contains_key-keys source q))
+
 module _ (strategy : Strategy) (base source dest : KeyMapValue) where
   -- the merged value at a path
   abbrev pub value_at : List ℕ → Option EntryValue
@@ -83,20 +96,10 @@ module _ (strategy : Strategy) (base source dest : KeyMapValue) where
       ∙ ap (cond (ties q p) (value_at p)) (get_merged_at paths q)
       ∙ at_one value_at q p (list_any (ties q) paths) (get dest q) (ties q p) refl
 
-  -- whether a path is one of the base's or the source's
-  abbrev pub is_path : List ℕ → Bool
-  is_path q = contains_key base q || contains_key source q
-
-  paths_any : (q : List ℕ) → list_any (ties q) (keys base ++ keys source) ≡ is_path q
-  paths_any q =
-      list_any-append (ties q) (keys base) (keys source)
-      ∙ ap (λ b. b || list_any (ties q) (keys source)) (sym (contains_key-keys base q))
-      ∙ ap (λ b. contains_key base q || b) (sym (contains_key-keys source q))
-
   -- the merged map by base's and source's paths
-  pub get_merged_by : (q : List ℕ) → get (merged_map strategy base source dest) q ≡ cond (is_path q) (value_at q) (get dest q)
+  pub get_merged_by : (q : List ℕ) → get (merged_map strategy base source dest) q ≡ cond (is_path base source q) (value_at q) (get dest q)
   unfolding merged_map
-  get_merged_by q = get_merged_at (keys base ++ keys source) q ∙ ap (λ b. cond b (value_at q) (get dest q)) (paths_any q)
+  get_merged_by q = get_merged_at (keys base ++ keys source) q ∙ ap (λ b. cond b (value_at q) (get dest q)) (paths_any base source q)
 
 -- where neither base nor source has anything, the destination's value is the merged one
 nothing_changed : (strategy : Strategy) (base source dest : Option EntryValue)
@@ -205,37 +208,36 @@ merges_all strategy base source dest changes paths items i past is of all = same
 
 -- ---- the paths that conflict
 
-and_left : (a b : Bool) → (a && b) ≡ true → a ≡ true
-and_left true b e = refl
-and_left false b e = e
-
-below_keys : {X : Type 0} (k : List ℕ) (es : List (List ℕ × X)) → T (below_all byte_order k es) → AllByRecursion (λ y. byte_order k y ≡ Less) (map (λ e. e.0) es)
-below_keys k [] h = tt
-below_keys k (e ∷ es) h = (less _ (first _ _ h), below_keys k es (second _ _ h))
-
-keys_ascend : {X : Type 0} (es : List (List ℕ × X)) → HasAscendingKeys es → IsStrictlySortedBy byte_order (map (λ e. e.0) es)
-unfolding IsStrictlySortedBy
-keys_ascend [] h = tt
-keys_ascend (e ∷ es) h = (below_keys e.0 es (first _ _ h), keys_ascend es (second _ _ h))
-
-abbrev pub is_neither : Side → Bool
-is_neither Source = false
-is_neither Destination = false
-is_neither Neither = true
-
 -- what a test against Neither tells
 pub told_neither : (side : Side) → sameb the_type side Neither ≡ is_neither side
 told_neither Source = refl
 told_neither Destination = refl
 told_neither Neither = refl
 
-module _ (base source dest : KeyMapValue) where
-  abbrev pub conflicts_at : List ℕ → Bool
-  conflicts_at path = is_neither (side_of (get base path) (get source path) (get dest path))
+pub neither : (side : Side) → is_neither side ≡ true → side ≡ Neither
+neither Source e = cc
+neither Destination e = cc
+neither Neither e = refl
 
+conflict_is_path : (was is other : Option EntryValue) → side_of was is other ≡ Neither → (is_some was || is_some is) ≡ true
+conflict_is_path None None other e = cc
+conflict_is_path (Some x) is other e = refl
+conflict_is_path None (Some y) other e = refl
+
+-- one of two maps' paths is one of the first's or the second's
+paths_has : (base source : KeyMapValue) (q : List ℕ) → list_any (ties q) (paths_of base source) ≡ is_path base source q
+unfolding paths_of
+paths_has base source q =
+    sym (contains_key-keys (from_entries {R = byte_order} (entries base ++ entries source)) q)
+    ∙ ap is_some (get-from_entries nat_list_cmp_total (entries base ++ entries source) q)
+    ∙ is_some-find byte_order q (entries base ++ entries source)
+    ∙ ap (list_any (ties q)) (map-append (λ (e : List ℕ × EntryValue). e.0) (entries base) (entries source))
+    ∙ paths_any base source q
+
+module _ (base source dest : KeyMapValue) where
   -- the conflicting paths of entries
   abbrev pub conflicting : {X : Type 0} → List (List ℕ × X) → List (List ℕ)
-  conflicting items = filter conflicts_at (map (λ item. item.0) items)
+  conflicting items = filter (is_conflict base source dest) (map (λ item. item.0) items)
 
   kept_one : (b : Bool) (p : List ℕ) (so_far : List (List ℕ)) → (pushed : List (List ℕ)) → (b ≡ true → pushed ≡ so_far ++ p ∷ []) → (b ≡ false → pushed ≡ so_far) → pushed ≡ so_far ++ cond b (p ∷ []) []
   kept_one true p so_far pushed kept dropped = kept refl
@@ -243,48 +245,74 @@ module _ (base source dest : KeyMapValue) where
 
   -- one more entry's path, where it conflicts
   pub conflicting_next : {X : Type 0} (items : List (List ℕ × X)) (i : ℕ) (item : List ℕ × X) → i < length items → item ≡ get_or items i item
-      → (found : List (List ℕ)) → (conflicts_at item.0 ≡ true → found ≡ conflicting (take i items) ++ item.0 ∷ []) → (conflicts_at item.0 ≡ false → found ≡ conflicting (take i items))
-      → found ≡ conflicting (take (i + 1) items)
-  conflicting_next {X = X} items i item lt is found kept dropped =
-      kept_one (conflicts_at item.0) item.0 (conflicting (take i items)) found kept dropped
+      → (paths : List (List ℕ)) → (is_conflict base source dest item.0 ≡ true → paths ≡ conflicting (take i items) ++ item.0 ∷ []) → (is_conflict base source dest item.0 ≡ false → paths ≡ conflicting (take i items))
+      → paths ≡ conflicting (take (i + 1) items)
+  conflicting_next {X = X} items i item lt is paths kept dropped =
+      kept_one (is_conflict base source dest item.0) item.0 (conflicting (take i items)) paths kept dropped
       ∙ sym (
       ap conflicting (take_more items i item lt ∙ ap (λ e. take i items ++ e ∷ []) (sym is))
-      ∙ ap (filter conflicts_at) (map-append (λ (e : List ℕ × X). e.0) (take i items) (item ∷ []))
-      ∙ filter-append conflicts_at (map (λ (e : List ℕ × X). e.0) (take i items)) (item.0 ∷ []))
+      ∙ ap (filter (is_conflict base source dest)) (map-append (λ (e : List ℕ × X). e.0) (take i items) (item ∷ []))
+      ∙ filter-append (is_conflict base source dest) (map (λ (e : List ℕ × X). e.0) (take i items)) (item.0 ∷ []))
 
-  pub neither : (side : Side) → is_neither side ≡ true → side ≡ Neither
-  neither Source e = cc
-  neither Destination e = cc
-  neither Neither e = refl
+  -- of paths that ascend, and that each path of base and source is among, those that conflict
+  conflicts_among : (paths : List (List ℕ)) → IsAscending paths → ((q : List ℕ) → (contains_key base q || contains_key source q) ≡ true → Contains paths q)
+      → AreConflicts base source dest (filter (is_conflict base source dest) paths)
+  conflicts_among paths ascend has = record {
+    ascending = IsStrictlySortedBy-filter byte_order (is_conflict base source dest) paths ascend;
+    all = λ q. (
+      λ within. neither _ (Contains-from_filter (is_conflict base source dest) paths q within).1,
+      λ conflict. Contains-filter (is_conflict base source dest) paths q (has q (conflict_is_path (get base q) (get source q) (get dest q) conflict)) (ap is_neither conflict),
+    );
+  }
 
-  conflict_is_path : (was is other : Option EntryValue) → side_of was is other ≡ Neither → (is_some was || is_some is) ≡ true
-  conflict_is_path None None other e = cc
-  conflict_is_path (Some x) is other e = refl
-  conflict_is_path None (Some y) other e = refl
+  -- the list of conflicts is what is meant
+  pub are_conflicts : AreConflicts base source dest (conflicts base source dest)
+  unfolding conflicts paths_of
+  are_conflicts =
+      conflicts_among (paths_of base source) (keys_ascend byte_order (from_entries (entries base ++ entries source)))
+      (λ q t. Contains-from_any same_path q (paths_of base source) (paths_has base source q ∙ t))
+
+  -- and no other list is
+  pub one_list : (paths : List (List ℕ)) → AreConflicts base source dest paths → paths ≡ conflicts base source dest
+  one_list paths are =
+      same_ascending nat_list_cmp_total paths (conflicts base source dest) are.ascending are_conflicts.ascending
+      (λ q within. (are_conflicts.all q).1 ((are.all q).0 within))
+      (λ q within. (are.all q).1 ((are_conflicts.all q).0 within))
 
   -- the conflicting paths among those of base and source are all that conflict
   pub conflicts_all : (paths : ChangesValue) (items : List (List ℕ × Change)) (i : ℕ) → length items ≤ i → items ≡ entries paths → ArePathsOf base source paths
-      → (found : List (List ℕ)) → found ≡ conflicting (take i items) → AreConflicts base source dest found
-  conflicts_all paths items i past is of found so_far =
-      let all : found ≡ filter conflicts_at (keys paths) = so_far ∙ ap conflicting (take_all i items past ∙ is) in
-      let any : (q : List ℕ) → list_any (ties q) (filter conflicts_at (keys paths)) ≡ (conflicts_at q && list_any (ties q) (keys paths)) = λ q.
-      any-filter_same (ties q) conflicts_at (conflicts_at q) (λ k t. ap conflicts_at (sym (same_path q k t))) (keys paths) in
-      subst (AreConflicts base source dest) (sym all) (record {
-        ascending = IsStrictlySortedBy-filter byte_order conflicts_at (keys paths) (keys_ascend (entries paths) (entries_sorted paths));
-        all = λ q. (
-          λ within.
-              let told : (conflicts_at q && list_any (ties q) (keys paths)) ≡ true = sym (any q) ∙ list_any-from_Contains (eq_by_cmp_equiv nat_list_cmp_total) q _ within in
-              neither _ (and_left _ _ told),
-          λ conflict.
-              let kept : conflicts_at q ≡ true = ap is_neither conflict in
-              let among : list_any (ties q) (keys paths) ≡ true = sym (contains_key-keys paths q) ∙ of q ∙ conflict_is_path (get base q) (get source q) (get dest q) conflict in
-              Contains-from_any same_path q _ (any q ∙ ap (λ b. b && list_any (ties q) (keys paths)) kept ∙ among),
-        );
-      })
+      → (at : List (List ℕ)) → at ≡ conflicting (take i items) → at ≡ conflicts base source dest
+  conflicts_all paths items i past is of at so_far =
+      let all : at ≡ filter (is_conflict base source dest) (keys paths) = so_far ∙ ap conflicting (take_all i items past ∙ is) in
+      all ∙ one_list (filter (is_conflict base source dest) (keys paths))
+      (conflicts_among (keys paths) (keys_ascend byte_order paths) (λ q t. Contains-from_any same_path q (keys paths) (sym (contains_key-keys paths q) ∙ of q ∙ t)))
 
   -- where none of the paths of base and source conflicts, no path does
   pub no_conflict : (paths : ChangesValue) (items : List (List ℕ × Change)) (i : ℕ) → length items ≤ i → items ≡ entries paths → ArePathsOf base source paths
-      → [] ≡ conflicting (take i items) → (path : List ℕ) × IsConflict base source dest path → ⊥
-  no_conflict paths items i past is of none conflict =
-      let within : Contains [] conflict.0 = ((conflicts_all paths items i past is of [] none).all conflict.0).1 conflict.1 in
-      absurd (omega (arith, within.1))
+      → [] ≡ conflicting (take i items) → false ≡ ltb 0 (length (conflicts base source dest))
+  no_conflict paths items i past is of none = ap (λ l. ltb 0 (length l)) (conflicts_all paths items i past is of [] none)
+
+  has_some : {X : Type 0} (xs : List X) (x : X) → Contains xs x → true ≡ ltb 0 (length xs)
+  has_some [] x within = absurd (Contains-nothing x within)
+  has_some (y ∷ xs) x within = sym (lt-ltb 0 (length (y ∷ xs)) (omega arith))
+
+  some_has : {X : Type 0} (xs : List X) → ltb 0 (length xs) ≡ true → (x : X) × Contains xs x
+  some_has [] t = cc
+  some_has (y ∷ xs) t = (y, Contains-first y xs)
+
+  -- where a path conflicts, the list has it
+  pub some_conflict : (path : List ℕ) → IsConflict base source dest path → true ≡ ltb 0 (length (conflicts base source dest))
+  some_conflict path conflict = has_some (conflicts base source dest) path ((are_conflicts.all path).1 conflict)
+
+  pub conflict_of_some : ltb 0 (length (conflicts base source dest)) ≡ true → (path : List ℕ) × IsConflict base source dest path
+  conflict_of_some t = let some = some_has (conflicts base source dest) t in (some.0, (are_conflicts.all some.0).0 some.1)
+
+  pub refused_from : (strategy : Strategy) → is_refused strategy base source dest ≡ true → (strategy ≡ Refuse) × ((path : List ℕ) × IsConflict base source dest path)
+  refused_from Refuse t = (refl, conflict_of_some t)
+  refused_from SourceWins t = cc
+  refused_from DestWins t = cc
+
+  pub refused_to : (strategy : Strategy) → (strategy ≡ Refuse) × ((path : List ℕ) × IsConflict base source dest path) → is_refused strategy base source dest ≡ true
+  refused_to Refuse (e, some) = sym (some_conflict some.0 some.1)
+  refused_to SourceWins (e, some) = cc
+  refused_to DestWins (e, some) = cc

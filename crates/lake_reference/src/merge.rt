@@ -1,5 +1,5 @@
 //! The three-way merge of key maps, plainly and slowly: what tests and readers hold a faster one against.
-ghost use Rattle.std.specs.Prelude.{◌≡◌, ◌↔◌, ℕ, List, IfOk, OnOk, IsTrue, option_copied};
+ghost use Rattle.std.specs.Prelude.{◌≡◌, ◌↔◌, nat_lt, length, ℕ, List, IfOk, OnOk, IsTrue, option_copied};
 ghost use Rattle.std.specs.FinMap.{get};
 ghost use Rattle.lake_base.specs.Entry.{EntryValue};
 ghost use Rattle.lake_base.specs.KeyMap.{KeyMapValue};
@@ -37,7 +37,7 @@ pub fn merged(
     dest: &KeyMap,
     strategy: Strategy,
 ) -> Result<Option<KeyMap>, NoMemory>
-    ensures { IfOk result (AnswersMerge strategy base.now source.now dest.now) }
+    ensures { IfOk result (λ answer. answer ≡ merge_answer strategy base.now source.now dest.now) }
 {
     let paths = paths_of(alloc, base, source)?;
     if strategy == Strategy::Refuse && has_conflict(base, source, dest, &paths) {
@@ -53,6 +53,15 @@ pub fn law_of_merging()
         → get (merged_map strategy base source dest) path ≡ merged_value strategy (get base path) (get source path) (get dest path) }
 {}
 
+/// The list of conflicts has just the paths that conflict, in ascending order. A merge is refused exactly where
+/// it has no strategy and a path conflicts. (A law: it does nothing.)
+pub fn law_of_conflicts()
+    ensures paths { (base source dest : KeyMapValue) → AreConflicts base source dest (conflicts base source dest) }
+    ensures refused { (strategy : Choice) (base source dest : KeyMapValue)
+        → IsTrue (is_refused strategy base source dest)
+            ↔ (strategy ≡ Strategy.Refuse) × ((path : List ℕ) × IsConflict base source dest path) }
+{}
+
 /// The paths that conflict, in ascending order.
 pub fn conflicts(
     alloc: Global,
@@ -60,7 +69,7 @@ pub fn conflicts(
     source: &KeyMap,
     dest: &KeyMap,
 ) -> Result<Sequence<Path>, NoMemory>
-    ensures { IfOk result (λ paths. AreConflicts base.now source.now dest.now paths) }
+    ensures { IfOk result (λ paths. paths ≡ conflicts base.now source.now dest.now) }
 {
     let mut paths = Vec::new(alloc);
     for (path, _) in paths_of(alloc, base, source)?.as_slice() {
@@ -108,7 +117,7 @@ fn change_at(
 // Whether one of the paths conflicts.
 fn has_conflict(base: &KeyMap, source: &KeyMap, dest: &KeyMap, paths: &Changes) -> bool
     requires { ArePathsOf base.now source.now paths.now }
-    ensures { IsTrue result ↔ (path : List ℕ) × IsConflict base.now source.now dest.now path }
+    ensures { result ≡ nat_lt 0 (length (conflicts base.now source.now dest.now)) }
 {
     for (path, _) in paths.as_slice() {
         if side_at(base, source, dest, path) == Side::Neither {

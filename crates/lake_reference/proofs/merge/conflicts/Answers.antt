@@ -1,7 +1,8 @@
 use Rattle.std.proofs.Common.{◌≡◌, ◌∙◌, ◌++◌, ◌∷◌, [], List, ℕ, take, sym, ap}
 use Rattle.std.proofs.lemmas.Bool.{false≢true}
 use Rattle.lake_reference.proofs.merge.conflicts.Goals.{then-eq+in_ok-copy+in_ok-push, else-eq}
-use Rattle.lake_reference.proofs.MergeLemmas.{told_neither, conflicting, conflicts_at, is_neither, conflicting_next, conflicts_all}
+use Rattle.lake_base.specs.Merging.{is_conflict, is_neither}
+use Rattle.lake_reference.proofs.MergeLemmas.{told_neither, conflicting, conflicting_next, conflicts_all}
 use Rattle.lake_reference.proofs.merge.conflicts.Goals as goal
 
 pub loop-path-init : goal.loop-path-init
@@ -11,7 +12,7 @@ pub loop-path-preserved : goal.loop-path-preserved
 loop-path-preserved c =
     let item = c.loop-path-item.result in
     let so_far : List (List ℕ) = conflicting c.args.base.now c.args.source.now c.args.dest.now (take c.loop-path.path-index c.as_slice-path-items.result.now) in
-    let answer : c.eq.result ≡ conflicts_at c.args.base.now c.args.source.now c.args.dest.now item.0 = c.eq.ensures ∙ told_neither c.side_at.result ∙ ap is_neither c.side_at.ensures in
+    let answer : c.eq.result ≡ is_conflict c.args.base.now c.args.source.now c.args.dest.now item.0 = c.eq.ensures ∙ told_neither c.side_at.result ∙ ap is_neither c.side_at.ensures in
     conflicting_next c.args.base.now c.args.source.now c.args.dest.now c.as_slice-path-items.result.now c.loop-path.path-index item c.loop-path-test.true c.loop-path-item.is
     c.if-eq.paths.items
     (λ conflict. elim c.if-eq.branch [

@@ -1,5 +1,5 @@
 use Rattle.std.proofs.Common.{subst}
-use Rattle.lake_base.specs.Merging.{HasPathsToo}
+use Rattle.lake_reference.specs.MergeSteps.{HasPathsToo}
 use Rattle.lake_reference.proofs.MergeLemmas.{paths_both}
 use Rattle.lake_reference.proofs.merge.paths_of.Goals as goal
 
