@@ -31,7 +31,11 @@ id_of bytes = record { 0 = bytes }
 abbrev pub same_id : Digest → Digest → Bool
 same_id id other = bytes_eq id.0 other.0
 
--- the ids of the commits, each once, in order of their bytes
+-- ids in order of their bytes
+abbrev pub id_order : Digest → Digest → Ordering
+id_order id other = byte_order id.0 other.0
+
+-- the ids of the commits, each once, in that order
 unfoldable pub ids : Graph → List Digest
 ids graph = map id_of (keys graph)
 
@@ -92,7 +96,7 @@ is_ancestor graph old id = is_some (commit_of graph old) && is_reached graph (ge
 -- the order of the log: greatest generation first, and of one generation the least id as bytes
 abbrev pub log_order : Graph → Digest → Digest → Ordering
 log_order graph id other =
-    ordering_then (nat_cmp (generation graph other) (generation graph id)) (byte_order id.0 other.0)
+    ordering_then (nat_cmp (generation graph other) (generation graph id)) (id_order id other)
 
 -- it stands before the other in the log
 abbrev pub comes_first : Graph → Digest → Digest → Bool

@@ -1,7 +1,7 @@
 -- The order of the log, and the commits of a graph in the order of their ids and in that of the log.
 use Rattle.std.proofs.Common.{◌≡◌, ℕ, Bool, true, false, List, [], ◌∷◌, ◌||◌, map, Some, None, refl, sym, ap, subst, ◌∙◌}
 use Rattle.std.specs.Cmp.{IsTotalOrder}
-use Rattle.std.specs.List.{Contains, list_any}
+use Rattle.std.specs.List.{Contains, AllByRecursion, list_any}
 use Rattle.std.specs.List.Sorted.{IsStrictlySortedBy}
 use Rattle.std.specs.Option.{IsSome, is_some}
 use Rattle.std.specs.Ordering.{is_lt, is_eq, eq_by_cmp, nat_cmp, ordering_then}
@@ -11,8 +11,8 @@ use Rattle.std.specs.FinMap.{IsAntisymmetric, get, keys, entries, from_entries, 
 use Rattle.std.specs.FinMap.Entries.{is_some-find}
 use Rattle.std.proofs.lemmas.Cmp.{nat_cmp_total, nat_list_cmp_total, on_total, then_total, back_total, tied_itself}
 use Rattle.lake_base.specs.Commit.{CommitRecordValue}
-use Rattle.lake_base.specs.Maps.{byte_order, IsAscending}
-use Rattle.lake_base.specs.Ancestry.{Graph, commit_of, id_of, ids, generation, log, log_order, comes_first}
+use Rattle.lake_base.specs.Maps.{byte_order}
+use Rattle.lake_base.specs.Ancestry.{Graph, commit_of, id_of, id_order, ids, generation, log, log_order, comes_first}
 use Rattle.lake_base.specs.declared.digest.Digest.{Digest}
 use Rattle.lake_base.proofs.MapsLemmas.{same_key}
 use Rattle.lake_reference.proofs.OrderLemmas.{Contains-map, Contains-from_map, keys_ascend, there_from_key, key_from_there}
@@ -32,6 +32,12 @@ then_equal Greater p e = cc
 -- byte lists of one place are one
 bytes_same : IsAntisymmetric byte_order
 bytes_same x y e = same_key x y e
+
+pub ids_total : IsTotalOrder id_order
+ids_total = on_total (λ (id : Digest). id.0) nat_list_cmp_total
+
+pub ids_same : IsAntisymmetric id_order
+ids_same x y e = same_id x y (bytes_same x.0 y.0 e)
 
 -- ids of one place in the log are one
 pub log_same : (g : Graph) → IsAntisymmetric (log_order g)
@@ -116,10 +122,15 @@ module _ (g : Graph) where
   unfolding ids
   ids_to id there = Contains-map id_of (keys g) id.0 (key_from_there nat_list_cmp_total bytes_same g id.0 there)
 
-bytes_of_ids : (ks : List (List ℕ)) → map (λ (id : Digest). id.0) (map id_of ks) ≡ ks
-bytes_of_ids [] = refl
-bytes_of_ids (k ∷ ks) = ap (λ l. k ∷ l) (bytes_of_ids ks)
+above_ids : (k : List ℕ) (ks : List (List ℕ)) → AllByRecursion (λ y. byte_order k y ≡ Less) ks → AllByRecursion (λ y. id_order (id_of k) y ≡ Less) (map id_of ks)
+above_ids k [] all = tt
+above_ids k (x ∷ ks) all = (all.0, above_ids k ks all.1)
 
-pub ids_ascend : (g : Graph) → IsAscending (map (λ (id : Digest). id.0) (ids g))
+sorted_ids : (ks : List (List ℕ)) → IsStrictlySortedBy byte_order ks → IsStrictlySortedBy id_order (map id_of ks)
+unfolding IsStrictlySortedBy
+sorted_ids [] ascend = tt
+sorted_ids (k ∷ ks) ascend = (above_ids k ks ascend.0, sorted_ids ks ascend.1)
+
+pub ids_ascend : (g : Graph) → IsStrictlySortedBy id_order (ids g)
 unfolding ids
-ids_ascend g = subst IsAscending (sym (bytes_of_ids (keys g))) (keys_ascend byte_order g)
+ids_ascend g = sorted_ids (keys g) (keys_ascend byte_order g)

@@ -5,16 +5,24 @@
 //! are dated 1,100,000, 1,000,000 and 0; the rule is one day, and now is 1,300,000, so that the cutoff is
 //! 1,213,600. C2 is kept as a head. C1 follows C2, which is dated before the cutoff, and isn't kept; nor is the
 //! first commit, which follows C1. Had C2 been dated 1,213,600, C1 would be kept, whatever its own date.
-ghost use Rattle.std.specs.Prelude.{◌≡◌, ◌↔◌, IsTrue, Some, option_copied};
-ghost use Rattle.std.specs.List.{Contains};
-ghost use Rattle.lake_base.specs.Ancestry.{graph_of, IsGraph};
-ghost use Rattle.lake_base.specs.Keeping.{cutoff, days_of, IsHead, IsFollower, IsFollowed, IsYoung, IsKept, IsKeptBy};
+ghost use Rattle.std.specs.Prelude.{◌≡◌, ◌↔◌, ◌≤◌, ℕ, List, Option, length, IsTrue, IfOk, OnOk, OnErr, MatchOption, Some, option_copied};
+ghost use Rattle.std.specs.List.{Contains, insert};
+ghost use Rattle.std.specs.List.Sorted.{IsStrictlySortedBy};
+ghost use Rattle.lake_base.specs.Ancestry.{Graph, graph_of, IsGraph, id_order};
+ghost use Rattle.lake_base.specs.Keeping.{cutoff, days_of, IsHead, IsFollower, IsFollowed, IsYoung, IsKept, IsKeptBy, kept};
+ghost use Rattle.lake_base.specs.Settings.{RulesValue};
+ghost use Rattle.lake_base.specs.declared.digest.Digest.{Digest as Id};
+ghost use Rattle.lake_reference.specs.RetentionSteps.{with_id};
 
 use crate::ancestry::{commit_of, date, first_parent, generation, is_on_walk};
 use lake_base::commit::{CommitId, CommitRecord};
 use lake_base::names::RefName;
+use lake_base::outside::NoMemory;
 use lake_base::retention::{cutoff, days_of};
+use lake_base::sequence::Sequence;
 use lake_base::settings::Rules;
+use std::alloc::Global;
+use std::cmp::Ordering;
 
 /// Whether a commit of the graph is kept: without rules always; by rules where it is the head of a branch, or
 /// tagged; or where on some branch's walk of first parents the commit that it follows has a date at or after
@@ -36,6 +44,63 @@ pub fn is_kept(
             Some(rules) => is_kept_by(commits, heads, tags, rules, now, id),
             None => true,
         }
+}
+
+/// The kept commits of the graph, in order of id: just those that `is_kept` tells.
+pub fn kept(
+    alloc: Global,
+    commits: &[(CommitId, CommitRecord)],
+    heads: &[(RefName, CommitId)],
+    tags: &[CommitId],
+    rules: Option<&Rules>,
+    now: u64,
+) -> Result<Sequence<CommitId>, NoMemory>
+    requires { IsGraph (graph_of commits.now) }
+    ensures { IfOk result (λ ids. ids ≡ kept (graph_of commits.now) heads.now tags.now (option_copied rules.entry) now) }
+{
+    let mut kept = Vec::new(alloc);
+    for (id, _) in commits {
+        if is_kept(commits, heads, tags, rules, now, id) {
+            put_in_order(&mut kept, id)?;
+        }
+    }
+    Ok(Sequence::of(kept))
+}
+
+/// In a graph the list of the kept commits has just those that are kept; in any graph its ids strictly ascend
+/// as bytes. (A law: it does nothing.)
+pub fn law_of_kept()
+    ensures all { (graph : Graph) (heads : List (List ℕ × Id)) (tags : List Id) (rules : Option RulesValue) (now : ℕ) (id : Id)
+        → IsGraph graph → Contains (kept graph heads tags rules now) id ↔ IsKept graph heads tags rules now id }
+    ensures order { (graph : Graph) (heads : List (List ℕ × Id)) (tags : List Id) (rules : Option RulesValue) (now : ℕ)
+        → IsStrictlySortedBy id_order (kept graph heads tags rules now) }
+{}
+
+// Puts an id in its place among ids in order, where it isn't among them.
+fn put_in_order(ids: &mut Vec<CommitId>, id: &CommitId) -> Result<(), NoMemory>
+    ensures put { OnOk result (ids.new.items ≡ with_id id.now ids.old.items) }
+    ensures unchanged { OnErr result (ids.new.items ≡ ids.old.items) }
+{
+    if let Some(at) = place(ids.as_slice(), id) {
+        ids.insert(at, *id)?;
+    }
+    Ok(())
+}
+
+// Where an id goes among ids in order; none where it is among them.
+fn place(ids: &[CommitId], id: &CommitId) -> Option<usize>
+    ensures { MatchOption result
+        (with_id id.now ids.now ≡ ids.now)
+        (λ at. (at ≤ length ids.now) × (with_id id.now ids.now ≡ insert ids.now at id.now)) }
+{
+    for (at, other) in ids.iter().enumerate() {
+        match id.0.as_slice().cmp(other.0.as_slice()) {
+            Ordering::Less => return Some(at),
+            Ordering::Equal => return None,
+            Ordering::Greater => {}
+        }
+    }
+    Some(ids.len())
 }
 
 // Whether the rules keep it, where it is a commit.
