@@ -9,9 +9,9 @@ pub mod FilesLineLemmas
 pub mod HooksLemmas
 pub mod MergeLemmas
 pub mod OrderLemmas
+pub mod OrderPlaceLemmas
 pub mod RetentionKeptLemmas
 pub mod RetentionLemmas
-pub mod RetentionPlaceLemmas
 pub mod SegmentLastLemmas
 pub mod SegmentRunLemmas
 pub mod SegmentsLemmas

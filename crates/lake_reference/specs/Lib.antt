@@ -1,3 +1,3 @@
 pub mod AncestrySteps
 pub mod MergeSteps
-pub mod RetentionSteps
+pub mod OrderSteps

@@ -10,14 +10,18 @@
 //!          \   / \          base of R and M: R
 //!            Y --- N        first parents back from M: M, X, R
 //! ```
-ghost use Rattle.std.specs.Prelude.{◌≡◌, ◌↔◌, ◌+◌, ◌<◌, ◌≤◌, ◌^◌, ℕ, IsSome, IsTrue, Some, None, MatchOption, option_copied};
-ghost use Rattle.std.specs.List.{Contains};
+ghost use Rattle.std.specs.Prelude.{◌≡◌, ◌↔◌, ◌+◌, ◌<◌, ◌≤◌, ◌^◌, ℕ, length, IsSome, IsTrue, Some, None, IfOk, OnOk, OnErr, MatchOption, option_copied};
+ghost use Rattle.std.specs.List.{Contains, insert};
 ghost use Rattle.std.specs.List.Sorted.{IsStrictlySortedBy};
 ghost use Rattle.lake_base.specs.Ancestry.{Graph, graph_of, commit_of, parents, generation, date, due_generation, IsGraph, IsDue, Reaches, IsAncestor, IsCommon, is_ancestor, log_order, comes_first, ancestors_in_order, base, IsBase, back, first_parent, IsOnWalk, walk};
 ghost use Rattle.lake_reference.specs.AncestrySteps.{IsReachedWithin, first_of};
+ghost use Rattle.lake_reference.specs.OrderSteps.{with_item};
 ghost use Rattle.lake_base.specs.declared.digest.Digest.{Digest as Id};
 
 use lake_base::commit::{CommitId, CommitRecord};
+use lake_base::outside::NoMemory;
+use lake_base::sequence::Sequence;
+use std::alloc::Global;
 use std::cmp::Ordering;
 
 /// The commit of an id; where the id stands twice, its first. It takes no memory.
@@ -50,6 +54,25 @@ pub fn is_ancestor(commits: &[(CommitId, CommitRecord)], old: &CommitId, id: &Co
     ensures { IsTrue result ↔ IsAncestor (graph_of commits.now) old.now id.now }
 {
     commit_of(commits, old).is_some() && is_reached(commits, old, id, generation(commits, id))
+}
+
+/// The ancestors of a commit, each once, in the order of the log: greatest generation first, ties by least id as
+/// bytes.
+pub fn ancestors(
+    alloc: Global,
+    commits: &[(CommitId, CommitRecord)],
+    id: &CommitId,
+) -> Result<Sequence<CommitId>, NoMemory>
+    requires { IsGraph (graph_of commits.now) }
+    ensures { IfOk result (λ ids. ids ≡ ancestors_in_order (graph_of commits.now) id.now) }
+{
+    let mut ancestors = Vec::new(alloc);
+    for (old, _) in commits {
+        if is_ancestor(commits, old, id) {
+            put_in_log(commits, &mut ancestors, old)?;
+        }
+    }
+    Ok(Sequence::of(ancestors))
 }
 
 /// The merge base of two commits: of the common ancestors the one of greatest generation, of these the least
@@ -245,11 +268,53 @@ fn first_of(commits: &[(CommitId, CommitRecord)], best: Option<CommitId>, id: &C
     }
 }
 
-// Whether a commit comes before another in the log: of greater generation, or of as great a one and the
-// lesser id.
+// Whether a commit comes before another in the log.
 fn comes_first(commits: &[(CommitId, CommitRecord)], id: &CommitId, other: &CommitId) -> bool
     ensures { result ≡ comes_first (graph_of commits.now) id.now other.now }
 {
-    let (mine, its) = (generation(commits, id), generation(commits, other));
-    its < mine || (mine == its && id.0.as_slice().cmp(other.0.as_slice()) == Ordering::Less)
+    log_order(commits, id, other) == Ordering::Less
+}
+
+// The order of the log: greatest generation first, and of as great ones the least id.
+fn log_order(commits: &[(CommitId, CommitRecord)], id: &CommitId, other: &CommitId) -> Ordering
+    ensures { result ≡ log_order (graph_of commits.now) id.now other.now }
+{
+    generation(commits, other)
+        .cmp(&generation(commits, id))
+        .then(id.0.as_slice().cmp(other.0.as_slice()))
+}
+
+// Puts a commit in its place among commits in the order of the log, where it isn't among them.
+fn put_in_log(
+    commits: &[(CommitId, CommitRecord)],
+    list: &mut Vec<CommitId>,
+    id: &CommitId,
+) -> Result<(), NoMemory>
+    ensures put { OnOk result (list.new.items ≡ with_item (log_order (graph_of commits.now)) id.now list.old.items) }
+    ensures unchanged { OnErr result (list.new.items ≡ list.old.items) }
+{
+    if let Some(at) = place_in_log(commits, list.as_slice(), id) {
+        list.insert(at, *id)?;
+    }
+    Ok(())
+}
+
+// Where a commit goes among commits in the order of the log; none where it is among them.
+fn place_in_log(
+    commits: &[(CommitId, CommitRecord)],
+    list: &[CommitId],
+    id: &CommitId,
+) -> Option<usize>
+    ensures { MatchOption result
+        (with_item (log_order (graph_of commits.now)) id.now list.now ≡ list.now)
+        (λ at. (at ≤ length list.now) × (with_item (log_order (graph_of commits.now)) id.now list.now ≡ insert list.now at id.now)) }
+{
+    for (at, other) in list.iter().enumerate() {
+        match log_order(commits, id, other) {
+            Ordering::Less => return Some(at),
+            Ordering::Equal => return None,
+            Ordering::Greater => {}
+        }
+    }
+    Some(list.len())
 }

@@ -17,3 +17,6 @@ pub mod hooks;
 pub mod merge;
 pub mod retention;
 pub mod segments;
+
+#[cfg(test)]
+mod tests;

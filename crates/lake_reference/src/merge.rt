@@ -18,10 +18,10 @@ use lake_base::sequence::Sequence;
 use std::alloc::Global;
 
 /// The map of the merge base of two commits: the empty map, where they have no common ancestor.
-pub fn base_map(alloc: Global, found: Option<&KeyMap>) -> Result<KeyMap, NoMemory>
-    ensures { IfOk result (λ map. map ≡ base_map (option_copied found.entry)) }
+pub fn base_map(alloc: Global, map: Option<&KeyMap>) -> Result<KeyMap, NoMemory>
+    ensures { IfOk result (λ map. map ≡ base_map (option_copied map.entry)) }
 {
-    match found {
+    match map {
         Some(map) => map.copy(alloc),
         None => Ok(KeyMap::new(alloc)),
     }
@@ -30,7 +30,7 @@ pub fn base_map(alloc: Global, found: Option<&KeyMap>) -> Result<KeyMap, NoMemor
 /// The merged map: at each path the value of its side, and where a path conflicts the source's or the
 /// destination's, as the strategy says. None exactly where the merge is refused: without a strategy, where a
 /// path conflicts.
-pub fn merged(
+pub fn merge(
     alloc: Global,
     base: &KeyMap,
     source: &KeyMap,
@@ -43,7 +43,7 @@ pub fn merged(
     if strategy == Strategy::Refuse && has_conflict(base, source, dest, &paths) {
         return Ok(None);
     }
-    let map = merged_along(alloc, base, source, dest, strategy, &paths)?;
+    let map = merge_along(alloc, base, source, dest, strategy, &paths)?;
     Ok(Some(map))
 }
 
@@ -128,7 +128,7 @@ fn has_conflict(base: &KeyMap, source: &KeyMap, dest: &KeyMap, paths: &Changes) 
 }
 
 // The map with the merged value at each of the paths.
-fn merged_along(
+fn merge_along(
     alloc: Global,
     base: &KeyMap,
     source: &KeyMap,

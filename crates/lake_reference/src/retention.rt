@@ -12,7 +12,7 @@ ghost use Rattle.lake_base.specs.Ancestry.{Graph, graph_of, IsGraph, id_order};
 ghost use Rattle.lake_base.specs.Keeping.{cutoff, days_of, IsHead, IsFollower, IsFollowed, IsYoung, IsKept, IsKeptBy, kept};
 ghost use Rattle.lake_base.specs.Settings.{RulesValue};
 ghost use Rattle.lake_base.specs.declared.digest.Digest.{Digest as Id};
-ghost use Rattle.lake_reference.specs.RetentionSteps.{with_id};
+ghost use Rattle.lake_reference.specs.OrderSteps.{with_item};
 
 use crate::ancestry::{commit_of, date, first_parent, generation, is_on_walk};
 use lake_base::commit::{CommitId, CommitRecord};
@@ -78,7 +78,7 @@ pub fn law_of_kept()
 
 // Puts an id in its place among ids in order, where it isn't among them.
 fn put_in_order(ids: &mut Vec<CommitId>, id: &CommitId) -> Result<(), NoMemory>
-    ensures put { OnOk result (ids.new.items ≡ with_id id.now ids.old.items) }
+    ensures put { OnOk result (ids.new.items ≡ with_item id_order id.now ids.old.items) }
     ensures unchanged { OnErr result (ids.new.items ≡ ids.old.items) }
 {
     if let Some(at) = place(ids.as_slice(), id) {
@@ -90,8 +90,8 @@ fn put_in_order(ids: &mut Vec<CommitId>, id: &CommitId) -> Result<(), NoMemory>
 // Where an id goes among ids in order; none where it is among them.
 fn place(ids: &[CommitId], id: &CommitId) -> Option<usize>
     ensures { MatchOption result
-        (with_id id.now ids.now ≡ ids.now)
-        (λ at. (at ≤ length ids.now) × (with_id id.now ids.now ≡ insert ids.now at id.now)) }
+        (with_item id_order id.now ids.now ≡ ids.now)
+        (λ at. (at ≤ length ids.now) × (with_item id_order id.now ids.now ≡ insert ids.now at id.now)) }
 {
     for (at, other) in ids.iter().enumerate() {
         match id.0.as_slice().cmp(other.0.as_slice()) {

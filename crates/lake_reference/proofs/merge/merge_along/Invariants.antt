@@ -1,6 +1,6 @@
 use Rattle.std.proofs.Common.{take}
 use Rattle.lake_reference.proofs.MergeLemmas.{Merges}
-use Rattle.lake_reference.proofs.merge.merged_along.Given as goal
+use Rattle.lake_reference.proofs.merge.merge_along.Given as goal
 
 -- at the paths so far, the changes say the merged values
 abbrev pub invariant-loop-path : goal.invariant-loop-path

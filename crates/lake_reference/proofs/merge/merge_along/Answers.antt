@@ -3,7 +3,7 @@ use Rattle.std.proofs.lemmas.Result.{IfOk-weaker}
 use Rattle.lake_base.specs.KeyMap.{apply}
 use Rattle.lake_base.specs.Merging.{merged_map}
 use Rattle.lake_reference.proofs.MergeLemmas.{nothing_said, merges_next, merges_all}
-use Rattle.lake_reference.proofs.merge.merged_along.Goals as goal
+use Rattle.lake_reference.proofs.merge.merge_along.Goals as goal
 
 pub loop-path-init : goal.loop-path-init
 loop-path-init c = nothing_said c.new-changes.result c.args.dest.now c.new-changes.ensures

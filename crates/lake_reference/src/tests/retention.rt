@@ -1,0 +1,109 @@
+// Which commits are kept, at their cutoffs.
+use super::*;
+use crate::ancestry::is_graph;
+use crate::retention::{is_kept, kept};
+use lake_base::names::RefName;
+use lake_base::settings::{BranchDays, Rules};
+use std::process::Abort;
+
+// X stands on R and Y on X.
+const CHAIN: &str = "Y3X R1 X2R";
+
+// Dates of Y, R and X, so that a branch keeps X by the date of Y, and so that it doesn't by that of X itself.
+const RISING: [u64; 3] = [1100000, 0, 1000000];
+
+const FALLING: [u64; 3] = [0, 0, 1300000];
+
+// The branch whose head is Y, where there is one; the tagged commits; now; and the kept ones. A branch keeps one
+// day, and `dev` three, and five by a later rule, which doesn't count.
+type Row = (&'static str, &'static str, u64, &'static str);
+
+const KEPT: [Row; 11] = [
+    ("main", "", 1300000, "Y"),
+    ("main", "R", 1300000, "RY"),
+    ("main", "ZX", 1300000, "XY"),
+    ("dev", "", 1300000, "XY"),
+    ("main", "", 1186400, "XY"),
+    ("main", "", 1186401, "Y"),
+    ("dev", "", 1359200, "XY"),
+    ("dev", "", 1359201, "Y"),
+    ("", "", 1186400, "Y"),
+    ("", "", 1186401, ""),
+    ("", "", 86400, "RXY"),
+];
+
+const KEPT_OF_FALLING: [Row; 2] = [("main", "", 1300000, "Y"), ("", "", 1300000, "X")];
+
+fn days(alloc: Global, branch: &[u8], days: u32) -> Result<BranchDays, Fail> {
+    let branch = RefName::read(alloc, branch)?;
+    Ok(BranchDays { branch, days })
+}
+
+fn rules(alloc: Global) -> Result<Rules, Fail> {
+    let mut branches = Vec::new(alloc);
+    let (first, second) = (days(alloc, b"dev", 3)?, days(alloc, b"dev", 5)?);
+    if first.days != 3 || second.days != 5 {
+        return Err("other days")?;
+    }
+    branches.push(first)?;
+    branches.push(second)?;
+    Ok(Rules {
+        default_days: 1,
+        branches: Sequence::of(branches),
+    })
+}
+
+fn heads(alloc: Global, branch: &str) -> Result<Vec<(RefName, CommitId)>, Fail> {
+    let mut heads = Vec::new(alloc);
+    if !branch.is_empty() {
+        heads.push((RefName::read(alloc, branch.as_bytes())?, id(b'Y')))?;
+    }
+    Ok(heads)
+}
+
+// Whether just the commits of these letters are kept, one by one and as a list.
+fn are_kept(
+    rt: &impl Abort,
+    alloc: Global,
+    commits: &[(CommitId, CommitRecord)],
+    rules: Option<&Rules>,
+    row: &Row,
+) -> Result<(), Fail> {
+    let (branch, tags, now, due) = *row;
+    let (heads, tags) = (heads(alloc, branch)?, ids(alloc, tags)?);
+    let (heads, tags) = (heads.as_slice(), tags.as_slice());
+    assert!(rt; is_graph(commits));
+    assert!(rt; are_ids(kept(alloc, commits, heads, tags, rules, now)?.as_slice(), due));
+    for letter in b"RXYZ" {
+        let is_due = due.as_bytes().contains(letter);
+        assert_eq!(rt; is_kept(commits, heads, tags, rules, now, &id(*letter)), is_due);
+    }
+    Ok(())
+}
+
+#[test]
+fn a_commit_is_kept_by_the_date_of_the_one_that_follows_it(rt: HostRuntime) -> Result<(), Fail> {
+    let alloc = rt.alloc();
+    let (commits, rules) = (commits(alloc, CHAIN, &RISING)?, rules(alloc)?);
+    for row in &KEPT {
+        are_kept(&rt, alloc, commits.as_slice(), Some(&rules), row)?;
+    }
+    Ok(())
+}
+
+#[test]
+fn a_commit_on_a_walk_is_not_kept_by_its_own_date(rt: HostRuntime) -> Result<(), Fail> {
+    let alloc = rt.alloc();
+    let (commits, rules) = (commits(alloc, CHAIN, &FALLING)?, rules(alloc)?);
+    for row in &KEPT_OF_FALLING {
+        are_kept(&rt, alloc, commits.as_slice(), Some(&rules), row)?;
+    }
+    Ok(())
+}
+
+#[test]
+fn each_commit_is_kept_once_where_there_are_no_rules(rt: HostRuntime) -> Result<(), Fail> {
+    let alloc = rt.alloc();
+    let commits = commits(alloc, "Y3X R1 X2R R1", &[])?;
+    are_kept(&rt, alloc, commits.as_slice(), None, &("", "Z", 1300000, "RXY"))
+}
