@@ -1,9 +1,10 @@
 -- The walk of first parents: its next step, its end, and how long it can be.
-use Rattle.std.proofs.Common.{◌≡◌, ℕ, zero, suc, ◌+◌, ◌<◌, ◌≤◌, arith, List, [], ◌∷◌, ◌++◌, Option, Some, None, option_map, Bor, true, false, sym, ap, subst, refl, ◌∙◌, inl, inr, add-one, below_more}
+use Rattle.std.proofs.Common.{◌≡◌, ℕ, zero, suc, ◌+◌, ◌<◌, ◌≤◌, arith, List, [], ◌∷◌, ◌++◌, Option, Some, None, option_map, Bor, true, false, length, length-append, append-nil, sym, ap, subst, refl, ◌∙◌, inl, inr, add-one, below_more}
 use Rattle.std.proofs.lemmas.Bool.{cases_lt}
 use Rattle.std.specs.List.{slice_get}
 use Rattle.std.specs.List.{Contains}
 use Rattle.std.specs.Option.{option_and_then, option_copied, option_to_list, IsSome, is_some}
+use Rattle.std.proofs.lemmas.Option.{slice_get_past}
 use Rattle.std.proofs.lemmas.List.Elements.{Contains-append_cases, Contains-append_left, Contains-append_right}
 use Rattle.lake_base.specs.Ancestry.{Graph, commit_of, parents_in, parents, generation, date, due_generation, IsGraph, first_parent, back, IsOnWalk, walk_within, walk}
 use Rattle.lake_base.specs.Commit.{CommitRecordValue}
@@ -248,3 +249,89 @@ walk_to g graph head id on =
     let due = (graph id (back_there g on.0 head id graph on.1)).counted in
     let some = due_some g (parents g id) in
     within_to g (generation g head) on.0 head id (omega (arith, steps, due, some)) on.1
+
+-- ---- its places
+
+-- no list of so many steps is longer
+walk_short : (g : Graph) (n : ℕ) (head : Digest) → length (walk_within n g head) ≤ n
+walk_short g zero head = omega arith
+walk_short g (suc n) head =
+    let rest = walk_short g n head in
+    let both = length-append (walk_within n g head) (option_to_list (back g n head)) in
+    let one = at_most_one (back g n head) in
+    omega (arith, rest, both, one)
+  where
+    at_most_one : (o : Option Digest) → length (option_to_list o) ≤ 1
+    at_most_one None = omega arith
+    at_most_one (Some x) = omega arith
+
+-- where the walk goes on, it has a commit for each step before
+walk_long : (g : Graph) (n : ℕ) (head at : Digest) → back g n head ≡ Some at → length (walk_within n g head) ≡ n
+unfolding back
+walk_long g zero head at stands = refl
+walk_long g (suc n) head at stands = by (back g n head) refl stands (λ later e. walk_long g n head later e)
+  where
+    by : (o : Option Digest) → back g n head ≡ o → option_and_then (first_parent g) o ≡ Some at → ((later : Digest) → back g n head ≡ Some later → length (walk_within n g head) ≡ n)
+        → length (walk_within n g head ++ option_to_list (back g n head)) ≡ suc n
+    by None e ends rest = cc
+    by (Some later) e follows rest =
+        let long = rest later e in
+        let both = length-append (walk_within n g head) (option_to_list (back g n head)) in
+        let one : length (option_to_list (back g n head)) ≡ 1 = ap (λ o. length (option_to_list o)) e in
+        omega (arith, long, both, one)
+
+get_before : (xs ys : List Digest) (k : ℕ) → k < length xs → slice_get (xs ++ ys) k ≡ slice_get xs k
+get_before [] ys k lt = absurd (omega arith)
+get_before (x ∷ xs) ys zero lt = refl
+get_before (x ∷ xs) ys (suc k) lt = get_before xs ys k (omega arith)
+
+get_last : (xs : List Digest) (x : Digest) (k : ℕ) → k ≡ length xs → slice_get (xs ++ x ∷ []) k ≡ Some x
+get_last [] x zero e = refl
+get_last [] x (suc k) e = absurd (omega arith)
+get_last (y ∷ xs) x zero e = absurd (omega arith)
+get_last (y ∷ xs) x (suc k) e = get_last xs x k (omega arith)
+
+-- at each place stands the commit so many first parents back
+walk_at : (g : Graph) (n k : ℕ) (head : Digest) → k < n → slice_get (walk_within n g head) k ≡ back g k head
+walk_at g zero k head below = absurd (omega arith)
+walk_at g (suc n) k head below = by (back g n head) refl (λ less. walk_at g n k head less)
+  where
+    by : (o : Option Digest) → back g n head ≡ o → (k < n → slice_get (walk_within n g head) k ≡ back g k head) → slice_get (walk_within n g head ++ option_to_list o) k ≡ back g k head
+    by None e rest =
+        ap (λ l. slice_get l k) (append-nil (walk_within n g head))
+        ∙ elim (cases_lt k n) [
+          | inl less ↦ rest less
+          | inr least ↦
+              let same : n ≡ k = omega arith in
+              let short = walk_short g n head in
+              slice_get_past (walk_within n g head) k (omega (arith, short, least)) ∙ sym e ∙ ap (λ m. back g m head) same
+        ]
+    by (Some at) e rest =
+        let long = walk_long g n head at e in
+        elim (cases_lt k n) [
+          | inl less ↦ get_before (walk_within n g head) (at ∷ []) k (omega (arith, long, less)) ∙ rest less
+          | inr least ↦
+              let same : n ≡ k = omega arith in
+              get_last (walk_within n g head) at k (omega (arith, long, same)) ∙ sym e ∙ ap (λ m. back g m head) same
+        ]
+
+-- nothing stands at as many steps back as the head's generation counts
+walk_over : (g : Graph) → IsGraph g → (head : Digest) (n : ℕ) → generation g head ≤ n → back g n head ≡ None
+walk_over g graph head n past = by (back g n head) refl
+  where
+    by : (o : Option Digest) → back g n head ≡ o → o ≡ None
+    by None e = refl
+    by (Some id) e =
+        let steps = back_within g n head id graph e in
+        let due = (graph id (back_there g n head id graph e)).counted in
+        let some = due_some g (parents g id) in
+        absurd (omega (arith, steps, due, some, past))
+
+pub walk_places : (g : Graph) → IsGraph g → (head : Digest) (n : ℕ) → slice_get (walk g head) n ≡ back g n head
+unfolding walk
+walk_places g graph head n = elim (cases_lt n (generation g head)) [
+  | inl less ↦ walk_at g (generation g head) n head less
+  | inr least ↦
+      let short = walk_short g (generation g head) head in
+      slice_get_past (walk_within (generation g head) g head) n (omega (arith, short, least)) ∙ sym (walk_over g graph head n least)
+]

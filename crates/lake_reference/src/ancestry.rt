@@ -10,10 +10,10 @@
 //!          \   / \          base of R and M: R
 //!            Y --- N        first parents back from M: M, X, R
 //! ```
-ghost use Rattle.std.specs.Prelude.{◌≡◌, ◌↔◌, ◌+◌, ◌<◌, ◌≤◌, ◌^◌, ℕ, length, IsSome, IsTrue, Some, None, IfOk, OnOk, OnErr, MatchOption, option_copied};
+ghost use Rattle.std.specs.Prelude.{◌≡◌, ◌↔◌, ◌+◌, ◌<◌, ◌≤◌, ◌^◌, ℕ, length, slice_get, IsSome, IsTrue, Some, None, IfOk, OnOk, OnErr, MatchOption, option_copied};
 ghost use Rattle.std.specs.List.{Contains, insert};
 ghost use Rattle.std.specs.List.Sorted.{IsStrictlySortedBy};
-ghost use Rattle.lake_base.specs.Ancestry.{Graph, graph_of, commit_of, parents, generation, date, due_generation, IsGraph, IsDue, Reaches, IsAncestor, IsCommon, is_ancestor, log_order, comes_first, ancestors_in_order, base, IsBase, back, first_parent, IsOnWalk, walk};
+ghost use Rattle.lake_base.specs.Ancestry.{Graph, graph_of, commit_of, id_order, ids, parents, generation, date, due_generation, IsGraph, IsDue, Reaches, IsAncestor, IsCommon, is_ancestor, log_order, comes_first, ancestors_in_order, base, IsBase, back, first_parent, IsOnWalk, walk};
 ghost use Rattle.lake_reference.specs.AncestrySteps.{IsReachedWithin, first_of};
 ghost use Rattle.lake_reference.specs.OrderSteps.{with_item};
 ghost use Rattle.lake_base.specs.declared.digest.Digest.{Digest as Id};
@@ -156,11 +156,19 @@ pub fn law_of_bases()
         → (base graph a b ≡ None) ↔ ((id : Id) → IsCommon graph a b id → ⊥) }
 {}
 
-/// In a graph the walk of first parents from a head has just the commits that lie on it. (A law: it does
-/// nothing.)
+/// In a graph the walk of first parents from a head has just the commits that lie on it, and at each place,
+/// counted from 0, the one that stands so many first parents back. (A law: it does nothing.)
 pub fn law_of_walks()
-    ensures { (graph : Graph) (head id : Id) → IsGraph graph
+    ensures all { (graph : Graph) (head id : Id) → IsGraph graph
         → Contains (walk graph head) id ↔ IsOnWalk graph head id }
+    ensures places { (graph : Graph) (head : Id) (steps : ℕ) → IsGraph graph
+        → slice_get (walk graph head) steps ≡ back graph steps head }
+{}
+
+/// The ids of a graph are just those of its commits, and strictly ascend as bytes. (A law: it does nothing.)
+pub fn law_of_ids()
+    ensures all { (graph : Graph) (id : Id) → Contains (ids graph) id ↔ IsSome (commit_of graph id) }
+    ensures order { (graph : Graph) → IsStrictlySortedBy id_order (ids graph) }
 {}
 
 // Its parents; none where there is no such commit.

@@ -17,6 +17,5 @@ pub mod hooks;
 pub mod merge;
 pub mod retention;
 pub mod segments;
-
 #[cfg(test)]
 mod tests;

@@ -19,7 +19,7 @@ use std::alloc::Global;
 
 /// The map of the merge base of two commits: the empty map, where they have no common ancestor.
 pub fn base_map(alloc: Global, map: Option<&KeyMap>) -> Result<KeyMap, NoMemory>
-    ensures { IfOk result (λ map. map ≡ base_map (option_copied map.entry)) }
+    ensures { IfOk result (λ copy. copy ≡ base_map (option_copied map.entry)) }
 {
     match map {
         Some(map) => map.copy(alloc),
@@ -59,7 +59,7 @@ pub fn law_of_conflicts()
     ensures paths { (base source dest : KeyMapValue) → AreConflicts base source dest (conflicts base source dest) }
     ensures refused { (strategy : Choice) (base source dest : KeyMapValue)
         → IsTrue (is_refused strategy base source dest)
-            ↔ (strategy ≡ Strategy.Refuse) × ((path : List ℕ) × IsConflict base source dest path) }
+        ↔ (strategy ≡ Strategy.Refuse) × ((path : List ℕ) × IsConflict base source dest path) }
 {}
 
 /// The paths that conflict, in ascending order.

@@ -41,7 +41,10 @@ fn ids(alloc: Global, letters: &str) -> Result<Vec<CommitId>, Fail> {
 fn are_ids(ids: &[CommitId], letters: &str) -> bool {
     let letters = letters.as_bytes();
     ids.len() == letters.len()
-        && ids.iter().zip(letters).all(|(id, letter)| id.0[0] == *letter)
+        && ids
+            .iter()
+            .zip(letters)
+            .all(|(id, letter)| id.0[0] == *letter)
 }
 
 // A commit by a letter for its id, a digit for its generation, and letters for its parents.
@@ -53,7 +56,10 @@ fn commit(alloc: Global, word: &str, date: u64) -> Result<(CommitId, CommitRecor
     for parent in parents.iter().take(2) {
         ids.push(id(*parent))?;
     }
-    Ok((id(*letter), record(alloc, u64::from(generation.saturating_sub(b'0')), ids, date)?))
+    Ok((
+        id(*letter),
+        record(alloc, u64::from(generation.saturating_sub(b'0')), ids, date)?,
+    ))
 }
 
 fn record(

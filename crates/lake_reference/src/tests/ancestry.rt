@@ -31,7 +31,11 @@ const CROSSED_BASES: [(u8, u8, u8); 5] = [
 // it stands first among the parents of one of them only.
 const UNEVEN: &str = "A4BY B2R N4YB M4BY Y3Z Z2R R1";
 
-const UNEVEN_BASES: [(u8, u8, u8); 3] = [(b'M', b'N', b'Y'), (b'M', b'B', b'B'), (b'Z', b'B', b'R')];
+const UNEVEN_BASES: [(u8, u8, u8); 3] = [
+    (b'M', b'N', b'Y'),
+    (b'M', b'B', b'B'),
+    (b'Z', b'B', b'R'),
+];
 
 // Two first commits with one upon each.
 const APART: &str = "R1 X1 Y2X";
@@ -41,11 +45,7 @@ const APART_BASES: [(u8, u8, u8); 3] = [(b'R', b'X', b'-'), (b'R', b'Y', b'-'), 
 // No graph: a parent is missing, or a generation isn't the one due.
 const BROKEN: [&str; 4] = ["X2R", "R2", "R1 X3R", "R1 X2R M2XR"];
 
-fn bases(
-    rt: &impl Abort,
-    commits: &[(CommitId, CommitRecord)],
-    rows: &[(u8, u8, u8)],
-) {
+fn bases(rt: &impl Abort, commits: &[(CommitId, CommitRecord)], rows: &[(u8, u8, u8)]) {
     assert!(rt; is_graph(commits));
     for (a, b, due) in rows {
         assert_eq!(rt; letter(base(commits, &id(*a), &id(*b))), *due);
@@ -55,7 +55,11 @@ fn bases(
 #[test]
 fn a_base_is_of_greatest_generation_and_then_of_least_id(rt: HostRuntime) -> Result<(), Fail> {
     let alloc = rt.alloc();
-    bases(&rt, commits(alloc, CROSSED, &[])?.as_slice(), &CROSSED_BASES);
+    bases(
+        &rt,
+        commits(alloc, CROSSED, &[])?.as_slice(),
+        &CROSSED_BASES,
+    );
     bases(&rt, commits(alloc, UNEVEN, &[])?.as_slice(), &UNEVEN_BASES);
     bases(&rt, commits(alloc, APART, &[])?.as_slice(), &APART_BASES);
     Ok(())
@@ -75,7 +79,11 @@ fn are_told(commits: &[(CommitId, CommitRecord)], at: u8, ancestors: &str, walk:
 // Whether so many first parents back stands the letter at that place of the walk.
 fn is_walk(commits: &[(CommitId, CommitRecord)], at: u8, walk: &str) -> bool {
     (0..5u64).all(|steps| {
-        back(commits, steps, &id(at)) == walk.as_bytes().get(steps as usize).map(|letter| id(*letter))
+        back(commits, steps, &id(at))
+            == walk
+                .as_bytes()
+                .get(steps as usize)
+                .map(|letter| id(*letter))
     })
 }
 
@@ -104,6 +112,8 @@ fn parents_are_there_and_generations_are_due(rt: HostRuntime) -> Result<(), Fail
 #[test]
 fn the_first_commit_of_an_id_counts(rt: HostRuntime) -> Result<(), Fail> {
     let commits = commits(rt.alloc(), "R1 R1", &[5, 6])?;
-    assert!(rt; matches!(commit_of(commits.as_slice(), &id(b'R')), Some(commit) if commit.date == 5));
+    assert!(rt;
+        matches!(commit_of(commits.as_slice(), &id(b'R')), Some(commit) if commit.date == 5)
+    );
     Ok(())
 }

@@ -43,8 +43,14 @@ fn the_first_pattern_counts(rt: HostRuntime) -> Result<(), Fail> {
     let protection = Protection {
         patterns: Sequence::of(patterns),
     };
-    assert_eq!(rt; protected_by(&protection, &RefName::read(alloc, b"main")?), Some(1));
-    assert_eq!(rt; protected_by(&protection, &RefName::read(alloc, b"test")?), None);
+    assert_eq!(rt;
+        protected_by(&protection, &RefName::read(alloc, b"main")?),
+        Some(1)
+    );
+    assert_eq!(rt;
+        protected_by(&protection, &RefName::read(alloc, b"test")?),
+        None
+    );
     Ok(())
 }
 
@@ -79,7 +85,10 @@ fn deny(alloc: Global, row: &Row) -> Result<Deny, Fail> {
 
 fn by_an_owner(alloc: Global) -> Result<Pairs, Fail> {
     let mut metadata = Pairs::new(alloc);
-    metadata.set(Text::read(alloc, b"owner", 128)?, Text::read(alloc, b"me", 1024)?)?;
+    metadata.set(
+        Text::read(alloc, b"owner", 128)?,
+        Text::read(alloc, b"me", 1024)?,
+    )?;
     Ok(metadata)
 }
 
@@ -117,7 +126,10 @@ fn the_first_rule_that_denies_counts(rt: HostRuntime) -> Result<(), Fail> {
     let alloc = rt.alloc();
     let (rules, changes) = (hooks(alloc)?, changes(alloc, "a1")?);
     let (owned, bare) = (by_an_owner(alloc)?, Pairs::new(alloc));
-    let (main, dev) = (RefName::read(alloc, b"main")?, RefName::read(alloc, b"dev")?);
+    let (main, dev) = (
+        RefName::read(alloc, b"main")?,
+        RefName::read(alloc, b"dev")?,
+    );
     assert_eq!(rt; denied_by(&rules, &main, &bare, &changes), Some(0));
     assert_eq!(rt; denied_by(&rules, &main, &owned, &changes), Some(1));
     assert_eq!(rt; denied_by(&rules, &dev, &owned, &changes), None);

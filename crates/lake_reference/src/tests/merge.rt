@@ -6,7 +6,14 @@ use std::process::Abort;
 
 // Base, source, destination, the merged map where the source wins and where the destination does, and the paths
 // that conflict. At `p` the three are equal, different and not there in all fifteen ways.
-type Row = (&'static str, &'static str, &'static str, &'static str, &'static str, &'static str);
+type Row = (
+    &'static str,
+    &'static str,
+    &'static str,
+    &'static str,
+    &'static str,
+    &'static str,
+);
 
 const MERGES: [Row; 17] = [
     ("", "", "", "", "", ""),
@@ -24,18 +31,23 @@ const MERGES: [Row; 17] = [
     ("p1", "p2", "p1", "p2", "p2", ""),
     ("p1", "p2", "p2", "p2", "p2", ""),
     ("p1", "p2", "p3", "p2", "p3", "p"),
-    ("a1 c1 Zz1", "a2 c2 Zz2", "a3 c1 Zz3", "a2 c2 Zz2", "a3 c2 Zz3", "Zz a"),
+    (
+        "a1 c1 Zz1",
+        "a2 c2 Zz2",
+        "a3 c1 Zz3",
+        "a2 c2 Zz2",
+        "a3 c2 Zz3",
+        "Zz a",
+    ),
     ("b1", "a1 b1", "b1 c1", "a1 b1 c1", "a1 b1 c1", ""),
 ];
 
 // Whether two maps have entries of the same sizes at the same paths.
 fn is_same(map: &KeyMap, other: &KeyMap) -> bool {
     map.len() == other.len()
-        && map
-            .as_slice()
-            .iter()
-            .zip(other.as_slice())
-            .all(|(row, other)| row.0.as_slice() == other.0.as_slice() && row.1.size == other.1.size)
+        && map.as_slice().iter().zip(other.as_slice()).all(|(row, other)| row.0.as_slice()
+            == other.0.as_slice()
+            && row.1.size == other.1.size)
 }
 
 fn is_merge(alloc: Global, row: &Row, strategy: Strategy, due: Option<&str>) -> Result<bool, Fail> {
@@ -54,7 +66,10 @@ fn are_conflicts(alloc: Global, row: &Row) -> Result<bool, Fail> {
     let paths = conflicts(alloc, &base, &source, &map(alloc, row.2)?)?;
     let mut rest = paths.as_slice().iter();
     for path in row.5.split_whitespace() {
-        if !rest.next().is_some_and(|at| at.as_slice() == path.as_bytes()) {
+        if !rest
+            .next()
+            .is_some_and(|at| at.as_slice() == path.as_bytes())
+        {
             return Ok(false);
         }
     }

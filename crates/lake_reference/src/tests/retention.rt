@@ -32,7 +32,7 @@ const KEPT: [Row; 11] = [
     ("", "", 86400, "RXY"),
 ];
 
-const KEPT_OF_FALLING: [Row; 2] = [("main", "", 1300000, "Y"), ("", "", 1300000, "X")];
+const KEPT_OF_FALLING: [Row; 2] = [("main", "", 1300000, "RY"), ("", "", 1300000, "X")];
 
 fn days(alloc: Global, branch: &[u8], days: u32) -> Result<BranchDays, Fail> {
     let branch = RefName::read(alloc, branch)?;
@@ -73,10 +73,18 @@ fn are_kept(
     let (heads, tags) = (heads(alloc, branch)?, ids(alloc, tags)?);
     let (heads, tags) = (heads.as_slice(), tags.as_slice());
     assert!(rt; is_graph(commits));
-    assert!(rt; are_ids(kept(alloc, commits, heads, tags, rules, now)?.as_slice(), due));
+    assert!(rt;
+        are_ids(
+            kept(alloc, commits, heads, tags, rules, now)?.as_slice(),
+            due
+        )
+    );
     for letter in b"RXYZ" {
         let is_due = due.as_bytes().contains(letter);
-        assert_eq!(rt; is_kept(commits, heads, tags, rules, now, &id(*letter)), is_due);
+        assert_eq!(rt;
+            is_kept(commits, heads, tags, rules, now, &id(*letter)),
+            is_due
+        );
     }
     Ok(())
 }
@@ -105,5 +113,11 @@ fn a_commit_on_a_walk_is_not_kept_by_its_own_date(rt: HostRuntime) -> Result<(),
 fn each_commit_is_kept_once_where_there_are_no_rules(rt: HostRuntime) -> Result<(), Fail> {
     let alloc = rt.alloc();
     let commits = commits(alloc, "Y3X R1 X2R R1", &[])?;
-    are_kept(&rt, alloc, commits.as_slice(), None, &("", "Z", 1300000, "RXY"))
+    are_kept(
+        &rt,
+        alloc,
+        commits.as_slice(),
+        None,
+        &("", "Z", 1300000, "RXY"),
+    )
 }

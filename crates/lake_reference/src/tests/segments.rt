@@ -52,7 +52,10 @@ fn ranges_of_equal_segments_are_carried_over(rt: HostRuntime) -> Result<(), Fail
     let alloc = rt.alloc();
     for (old, new, due) in &CHANGED {
         let (old, new) = (map(alloc, old)?, map(alloc, new)?);
-        assert_eq!(rt; changed_ranges(old.as_slice(), new.as_slice(), &USUAL_CUT), *due);
+        assert_eq!(rt;
+            changed_ranges(old.as_slice(), new.as_slice(), &USUAL_CUT),
+            *due
+        );
     }
     Ok(())
 }
