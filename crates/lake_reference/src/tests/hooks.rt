@@ -33,24 +33,29 @@ fn a_star_stands_for_any_bytes(rt: HostRuntime) {
     }
 }
 
-#[test]
-fn the_first_pattern_counts(rt: HostRuntime) -> Result<(), Fail> {
-    let alloc = rt.alloc();
+fn protection(alloc: Global) -> Result<Protection, Fail> {
     let mut patterns = Vec::new(alloc);
     patterns.push(Text::read(alloc, b"dev", 255)?)?;
     patterns.push(Text::read(alloc, b"ma*", 255)?)?;
     patterns.push(Text::read(alloc, b"main", 255)?)?;
-    let protection = Protection {
+    Ok(Protection {
         patterns: Sequence::of(patterns),
-    };
-    assert_eq!(rt;
-        protected_by(&protection, &RefName::read(alloc, b"main")?),
-        Some(1)
-    );
-    assert_eq!(rt;
-        protected_by(&protection, &RefName::read(alloc, b"test")?),
-        None
-    );
+    })
+}
+
+// A branch, and the place of its pattern.
+const PROTECTED: [(&str, Option<usize>); 3] = [("main", Some(1)), ("dev", Some(0)), ("test", None)];
+
+fn place(alloc: Global, branch: &str) -> Result<Option<usize>, Fail> {
+    let protection = protection(alloc)?;
+    Ok(protected_by(&protection, &RefName::read(alloc, branch.as_bytes())?))
+}
+
+#[test]
+fn the_first_pattern_counts(rt: HostRuntime) -> Result<(), Fail> {
+    for (branch, due) in &PROTECTED {
+        assert!(rt; place(rt.alloc(), branch)? == *due);
+    }
     Ok(())
 }
 
@@ -92,11 +97,24 @@ fn by_an_owner(alloc: Global) -> Result<Pairs, Fail> {
     Ok(metadata)
 }
 
-fn is_denied(alloc: Global, row: &Row) -> Result<bool, Fail> {
-    let (branch, deny) = (Text::read(alloc, b"ma*", 255)?, deny(alloc, row)?);
-    let (metadata, changes) = (by_an_owner(alloc)?, changes(alloc, row.4)?);
+fn rule(alloc: Global, row: &Row) -> Result<HookRule, Fail> {
+    let branch = Text::read(alloc, b"ma*", 255)?;
+    Ok(HookRule {
+        branch,
+        deny: deny(alloc, row)?,
+    })
+}
+
+// Whether the rule denies an owner's commit to the branch with these changes.
+fn denies_owner(alloc: Global, rule: &HookRule, row: &Row) -> Result<bool, Fail> {
+    let metadata = by_an_owner(alloc)?;
     let name = RefName::read(alloc, row.3.as_bytes())?;
-    Ok(denies(&HookRule { branch, deny }, &name, &metadata, &changes))
+    Ok(denies(rule, &name, &metadata, &changes(alloc, row.4)?))
+}
+
+fn is_denied(alloc: Global, row: &Row) -> Result<bool, Fail> {
+    let rule = rule(alloc, row)?;
+    denies_owner(alloc, &rule, row)
 }
 
 #[test]
@@ -121,17 +139,37 @@ fn hooks(alloc: Global) -> Result<HookRules, Fail> {
     })
 }
 
+// A branch, whether the commit has an owner, and the place of the rule that denies a commit of one change.
+const DENIED: [(&str, bool, Option<usize>); 3] = [
+    ("main", false, Some(0)),
+    ("main", true, Some(1)),
+    ("dev", true, None),
+];
+
+fn metadata(alloc: Global, is_owned: bool) -> Result<Pairs, Fail> {
+    if is_owned {
+        by_an_owner(alloc)
+    } else {
+        Ok(Pairs::new(alloc))
+    }
+}
+
+fn place_of_rule(
+    alloc: Global,
+    rules: &HookRules,
+    branch: &str,
+    is_owned: bool,
+) -> Result<Option<usize>, Fail> {
+    let metadata = metadata(alloc, is_owned)?;
+    let name = RefName::read(alloc, branch.as_bytes())?;
+    Ok(denied_by(rules, &name, &metadata, &changes(alloc, "a1")?))
+}
+
 #[test]
 fn the_first_rule_that_denies_counts(rt: HostRuntime) -> Result<(), Fail> {
-    let alloc = rt.alloc();
-    let (rules, changes) = (hooks(alloc)?, changes(alloc, "a1")?);
-    let (owned, bare) = (by_an_owner(alloc)?, Pairs::new(alloc));
-    let (main, dev) = (
-        RefName::read(alloc, b"main")?,
-        RefName::read(alloc, b"dev")?,
-    );
-    assert_eq!(rt; denied_by(&rules, &main, &bare, &changes), Some(0));
-    assert_eq!(rt; denied_by(&rules, &main, &owned, &changes), Some(1));
-    assert_eq!(rt; denied_by(&rules, &dev, &owned, &changes), None);
+    let rules = hooks(rt.alloc())?;
+    for (branch, is_owned, due) in &DENIED {
+        assert!(rt; place_of_rule(rt.alloc(), &rules, branch, *is_owned)? == *due);
+    }
     Ok(())
 }

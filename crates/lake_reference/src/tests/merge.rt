@@ -2,7 +2,6 @@
 use super::*;
 use crate::merge::{base_map, conflicts, merge};
 use lake_base::commit::Strategy;
-use std::process::Abort;
 
 // Base, source, destination, the merged map where the source wins and where the destination does, and the paths
 // that conflict. At `p` the three are equal, different and not there in all fifteen ways.
@@ -50,50 +49,84 @@ fn is_same(map: &KeyMap, other: &KeyMap) -> bool {
             && row.1.size == other.1.size)
 }
 
-fn is_merge(alloc: Global, row: &Row, strategy: Strategy, due: Option<&str>) -> Result<bool, Fail> {
+#[derive(Drop)]
+struct Three {
+    base: KeyMap,
+    source: KeyMap,
+    dest: KeyMap,
+}
+
+fn three_of(alloc: Global, row: &Row) -> Result<Three, Fail> {
     let (base, source) = (map(alloc, row.0)?, map(alloc, row.1)?);
     let dest = map(alloc, row.2)?;
-    match (merge(alloc, &base, &source, &dest, strategy)?, due) {
+    Ok(Three { base, source, dest })
+}
+
+// Whether the merged map is this one; with none, whether the merge is refused.
+fn is_merge(
+    alloc: Global,
+    of: &Three,
+    strategy: Strategy,
+    due: Option<&str>,
+) -> Result<bool, Fail> {
+    let merged = merge(alloc, &of.base, &of.source, &of.dest, strategy)?;
+    match (merged, due) {
         (Some(merged), Some(due)) => Ok(is_same(&merged, &map(alloc, due)?)),
         (None, None) => Ok(true),
         _ => Ok(false),
     }
 }
 
-// Whether the paths that conflict are these, in this order.
-fn are_conflicts(alloc: Global, row: &Row) -> Result<bool, Fail> {
-    let (base, source) = (map(alloc, row.0)?, map(alloc, row.1)?);
-    let paths = conflicts(alloc, &base, &source, &map(alloc, row.2)?)?;
-    let mut rest = paths.as_slice().iter();
-    for path in row.5.split_whitespace() {
+// Whether the paths are these, in this order.
+fn are_paths(paths: &[Path], words: &str) -> bool {
+    let mut rest = paths.iter();
+    for word in words.split_whitespace() {
         if !rest
             .next()
-            .is_some_and(|at| at.as_slice() == path.as_bytes())
+            .is_some_and(|path| path.as_slice() == word.as_bytes())
         {
-            return Ok(false);
+            return false;
         }
     }
-    Ok(rest.next().is_none())
+    rest.next().is_none()
+}
+
+fn are_conflicts(alloc: Global, of: &Three, words: &str) -> Result<bool, Fail> {
+    let paths = conflicts(alloc, &of.base, &of.source, &of.dest)?;
+    Ok(are_paths(paths.as_slice(), words))
+}
+
+// Whether the three are merged as the row says.
+fn is_as_told(alloc: Global, row: &Row) -> Result<bool, Fail> {
+    let three = three_of(alloc, row)?;
+    let clean = if row.5.is_empty() { Some(row.3) } else { None };
+    Ok(
+        are_conflicts(alloc, &three, row.5)?
+            && is_merge(alloc, &three, Strategy::Refuse, clean)?
+            && is_merge(alloc, &three, Strategy::SourceWins, Some(row.3))?
+            && is_merge(alloc, &three, Strategy::DestWins, Some(row.4))?,
+    )
 }
 
 #[test]
 fn merges_are_those_of_the_table(rt: HostRuntime) -> Result<(), Fail> {
-    let alloc = rt.alloc();
     for row in &MERGES {
-        let clean = if row.5.is_empty() { Some(row.3) } else { None };
-        assert!(rt; are_conflicts(alloc, row)?);
-        assert!(rt; is_merge(alloc, row, Strategy::Refuse, clean)?);
-        assert!(rt; is_merge(alloc, row, Strategy::SourceWins, Some(row.3))?);
-        assert!(rt; is_merge(alloc, row, Strategy::DestWins, Some(row.4))?);
+        assert!(rt; is_as_told(rt.alloc(), row)?);
     }
     Ok(())
+}
+
+// Whether the base's map is this one.
+fn is_base(alloc: Global, base: Option<&KeyMap>, words: &str) -> Result<bool, Fail> {
+    let due = map(alloc, words)?;
+    Ok(is_same(&base_map(alloc, base)?, &due))
 }
 
 #[test]
 fn no_common_ancestor_is_an_empty_base(rt: HostRuntime) -> Result<(), Fail> {
     let alloc = rt.alloc();
     let map = map(alloc, "a1 b2")?;
-    assert_eq!(rt; base_map(alloc, None)?.len(), 0);
-    assert!(rt; is_same(&base_map(alloc, Some(&map))?, &map));
+    assert!(rt; is_base(alloc, None, "")?);
+    assert!(rt; is_base(alloc, Some(&map), "a1 b2")?);
     Ok(())
 }

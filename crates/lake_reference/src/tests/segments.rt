@@ -2,7 +2,6 @@
 use super::*;
 use crate::segments::{changed_ranges, first_segment};
 use lake_base::cut::USUAL_CUT;
-use std::process::Abort;
 
 // A map, and how many rows its segments have.
 const SEGMENTS: [(&str, &[usize]); 5] = [
