@@ -4,9 +4,10 @@
 //! of the definition. Tests run it on worked values, which shows that the definitions say what was meant; a reader
 //! holds a faster function of the crates above against it. No program stands on this crate.
 //!
-//! - `ancestry`: ancestors, the merge base and the walk of first parents, over a list of commits.
-//! - `merge`: the merged map, and the paths that conflict.
-//! - `retention`: which commits the rules keep.
+//! - `ancestry`: ancestors, the merge base and the walk of first parents, over a list of commits. Laws say what the
+//!   functions of the definition mean in a graph, and that generations fall along every way back.
+//! - `merge`: the answer of a merge, and the paths that conflict, with the laws of both.
+//! - `retention`: which commits the rules keep, one by one and as a list, with its law.
 //! - `segments`, `files`: the runs of rows between break keys, and the files of a tree.
 //! - `hooks`: patterns, protected branches and what hooks deny.
 #![tactic(auto)]

@@ -62,29 +62,57 @@ fn heads(alloc: Global, branch: &str) -> Result<Vec<(RefName, CommitId)>, Fail> 
 }
 
 // Whether just the commits of these letters are kept, one by one and as a list.
-fn are_kept(
+fn are_those_kept(
     rt: &impl Abort,
     alloc: Global,
     commits: &[(CommitId, CommitRecord)],
+    refs: (&[(RefName, CommitId)], &[CommitId]),
     rules: Option<&Rules>,
     row: &Row,
 ) -> Result<(), Fail> {
-    let (branch, tags, now, due) = *row;
-    let (heads, tags) = (heads(alloc, branch)?, ids(alloc, tags)?);
-    let (heads, tags) = (heads.as_slice(), tags.as_slice());
+    let (heads, tags) = refs;
+    let (_, _, now, due) = *row;
     assert!(rt; is_graph(commits));
+    for letter in b"RXYZ" {
+        let is_due = due.as_bytes().contains(letter);
+        assert!(rt; is_kept(commits, heads, tags, rules, now, &id(*letter)) == is_due);
+    }
     assert!(rt;
         are_ids(
             kept(alloc, commits, heads, tags, rules, now)?.as_slice(),
             due
         )
     );
-    for letter in b"RXYZ" {
-        let is_due = due.as_bytes().contains(letter);
-        assert_eq!(rt;
-            is_kept(commits, heads, tags, rules, now, &id(*letter)),
-            is_due
-        );
+    Ok(())
+}
+
+fn is_row(
+    rt: &impl Abort,
+    alloc: Global,
+    commits: &[(CommitId, CommitRecord)],
+    rules: Option<&Rules>,
+    row: &Row,
+) -> Result<(), Fail> {
+    let (heads, tags) = (heads(alloc, row.0)?, ids(alloc, row.1)?);
+    are_those_kept(
+        rt,
+        alloc,
+        commits,
+        (heads.as_slice(), tags.as_slice()),
+        rules,
+        row,
+    )
+}
+
+fn are_rows(
+    rt: &impl Abort,
+    alloc: Global,
+    commits: &[(CommitId, CommitRecord)],
+    rules: Option<&Rules>,
+    rows: &[Row],
+) -> Result<(), Fail> {
+    for row in rows {
+        is_row(rt, alloc, commits, rules, row)?;
     }
     Ok(())
 }
@@ -93,31 +121,31 @@ fn are_kept(
 fn a_commit_is_kept_by_the_date_of_the_one_that_follows_it(rt: HostRuntime) -> Result<(), Fail> {
     let alloc = rt.alloc();
     let (commits, rules) = (commits(alloc, CHAIN, &RISING)?, rules(alloc)?);
-    for row in &KEPT {
-        are_kept(&rt, alloc, commits.as_slice(), Some(&rules), row)?;
-    }
-    Ok(())
+    are_rows(&rt, alloc, commits.as_slice(), Some(&rules), &KEPT)
 }
 
 #[test]
 fn a_commit_on_a_walk_is_not_kept_by_its_own_date(rt: HostRuntime) -> Result<(), Fail> {
     let alloc = rt.alloc();
     let (commits, rules) = (commits(alloc, CHAIN, &FALLING)?, rules(alloc)?);
-    for row in &KEPT_OF_FALLING {
-        are_kept(&rt, alloc, commits.as_slice(), Some(&rules), row)?;
-    }
-    Ok(())
+    are_rows(
+        &rt,
+        alloc,
+        commits.as_slice(),
+        Some(&rules),
+        &KEPT_OF_FALLING,
+    )
 }
 
 #[test]
 fn each_commit_is_kept_once_where_there_are_no_rules(rt: HostRuntime) -> Result<(), Fail> {
     let alloc = rt.alloc();
     let commits = commits(alloc, "Y3X R1 X2R R1", &[])?;
-    are_kept(
+    are_rows(
         &rt,
         alloc,
         commits.as_slice(),
         None,
-        &("", "Z", 1300000, "RXY"),
+        &[("", "Z", 1300000, "RXY")],
     )
 }
