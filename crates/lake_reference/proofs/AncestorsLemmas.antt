@@ -1,5 +1,5 @@
 -- Generations along ways back, and ancestors as functions tell them.
-use Rattle.std.proofs.Common.{◌≡◌, ℕ, zero, suc, ◌+◌, ◌<◌, ◌≤◌, ◌↔◌, ◌&&◌, ◌||◌, Bool, true, false, List, [], ◌∷◌, length, Some, None, Option, refl, sym, ap, subst, ◌∙◌, arith}
+use Rattle.std.proofs.Common.{◌≡◌, ℕ, zero, suc, ◌+◌, ◌<◌, ◌≤◌, ◌↔◌, ◌&&◌, ◌||◌, Bool, true, false, List, [], ◌∷◌, Some, None, Option, refl, sym, ap, subst, ◌∙◌, arith}
 use Rattle.std.specs.Bool.{IsTrue}
 use Rattle.std.specs.Option.{IsSome, is_some}
 use Rattle.std.specs.List.{Contains, list_any}
@@ -11,7 +11,7 @@ use Rattle.lake_base.specs.Ancestry.{Graph, commit_of, same_id, parents, generat
 use Rattle.lake_base.specs.declared.digest.Digest.{Digest}
 use Rattle.lake_reference.specs.AncestrySteps.{IsReachedWithin}
 use Rattle.lake_reference.proofs.AncestryGraphLemmas.{parents_none}
-use Rattle.lake_reference.proofs.AncestryOrderLemmas.{log_from, log_to, log_ascends}
+use Rattle.lake_reference.proofs.AncestryOrderLemmas.{log_to, log_ascends}
 use Rattle.lake_reference.proofs.AncestryReachLemmas.{differ, reached_here, reached_not, reached_through, reached_never}
 use Rattle.lake_reference.proofs.OrderLemmas.{Contains-nothing, Contains-filter, Contains-from_filter, any_from, any_to}
 

@@ -1,13 +1,13 @@
 -- The first common ancestor of a list, in the order of the log, and the base as a function.
-use Rattle.std.proofs.Common.{◌≡◌, ℕ, ◌+◌, ◌<◌, ◌≤◌, Bool, true, false, cond, List, length, get_or, Some, None, Option, refl, sym, ap, subst, arith}
+use Rattle.std.proofs.Common.{◌≡◌, ℕ, ◌+◌, ◌<◌, ◌≤◌, Bool, true, false, cond, List, length, get_or, Some, None, Option, refl, sym, ap, subst}
 use Rattle.std.specs.Option.{MatchOption}
-use Rattle.std.specs.List.{AllWithin, Contains, find, filter}
+use Rattle.std.specs.List.{AllWithin}
 use Rattle.std.proofs.lemmas.List.Elements.{AllWithin-more, at_read}
 use Rattle.lake_base.specs.Commit.{CommitRecordValue}
-use Rattle.lake_base.specs.Ancestry.{Graph, graph_of, IsGraph, IsAncestor, IsCommon, is_ancestor, log, log_order, comes_first, ancestors_in_order, base, IsBase}
+use Rattle.lake_base.specs.Ancestry.{Graph, graph_of, IsGraph, IsCommon, is_ancestor, comes_first, ancestors_in_order, base, IsBase}
 use Rattle.lake_base.specs.declared.digest.Digest.{Digest}
 use Rattle.lake_reference.specs.AncestrySteps.{first_of}
-use Rattle.lake_reference.proofs.OrderLemmas.{Contains-filter, Contains-from_filter, find_first, find_none, same_place}
+use Rattle.lake_reference.proofs.OrderLemmas.{find_first, find_none, same_place}
 use Rattle.lake_reference.proofs.AncestryOrderLemmas.{log_total, log_same, not_before_itself, still_after}
 use Rattle.lake_reference.proofs.AncestryReachLemmas.{listed, within_contains}
 use Rattle.lake_reference.proofs.AncestorsLemmas.{ancestor_from, ancestor_to, ancestors_from, ancestors_to, ancestors_ascend}

@@ -1,12 +1,11 @@
 -- Kept commits as functions tell them, and the list of them.
-use Rattle.std.proofs.Common.{◌≡◌, ℕ, ◌≤◌, ◌⊎◌, inl, inr, ◌&&◌, ◌||◌, not, leb, Bool, true, false, List, Option, Some, None, refl, sym, ap, subst, ◌∙◌}
-use Rattle.std.specs.Option.{IsSome}
+use Rattle.std.proofs.Common.{◌≡◌, ℕ, ◌⊎◌, inl, inr, ◌&&◌, ◌||◌, not, leb, Bool, true, false, List, Option, Some, None, refl, sym, ap, subst, ◌∙◌}
 use Rattle.std.specs.List.{Contains, list_any}
 use Rattle.std.specs.List.Sorted.{IsStrictlySortedBy}
 use Rattle.std.proofs.lemmas.Bool.{leb-true, le-leb}
 use Rattle.std.proofs.lemmas.List.Kept.{IsStrictlySortedBy-filter}
 use Rattle.std.proofs.lemmas.Slice.Eq.{bytes_eq-Decides}
-use Rattle.lake_base.specs.Ancestry.{Graph, IsGraph, commit_of, id_order, ids, same_id, date, first_parent, walk, IsOnWalk}
+use Rattle.lake_base.specs.Ancestry.{Graph, IsGraph, id_order, ids, same_id, date, first_parent, walk}
 use Rattle.lake_base.specs.Keeping.{cutoff, days_of, IsHead, IsFollower, IsFollowed, IsYoung, IsKeptBy, IsKept, is_id, is_head, is_follower, is_followed, is_young, is_kept, kept}
 use Rattle.lake_base.specs.Settings.{RulesValue}
 use Rattle.lake_base.specs.declared.digest.Digest.{Digest}

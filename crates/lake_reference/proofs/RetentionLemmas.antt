@@ -1,14 +1,12 @@
 -- What tests of ids tell, items that are found or not in a list, heads, and the days of the first rule of a name.
-use Rattle.std.proofs.Common.{◌≡◌, ℕ, ◌+◌, ◌<◌, ◌≤◌, arith, Bool, true, false, List, ◌∷◌, [], length, get_or, sym, ap, subst, refl, ◌∙◌}
+use Rattle.std.proofs.Common.{◌≡◌, ℕ, ◌+◌, ◌<◌, ◌≤◌, arith, Bool, true, false, List, length, get_or, sym, ap, subst, refl, ◌∙◌}
 use Rattle.std.specs.List.{Contains, AllWithin}
 use Rattle.std.specs.Str.{bytes_eq}
 use Rattle.std.specs.Bool.{Decides}
 use Rattle.std.proofs.lemmas.List.Elements.{at_read, AllWithin-more}
 use Rattle.std.proofs.lemmas.Slice.Eq.{bytes_eq-Decides}
-use Rattle.std.proofs.lemmas.List.Recursion.{found_at, found_nowhere}
-use Rattle.lake_base.specs.Keeping.{days_in, IsHead}
+use Rattle.lake_base.specs.Keeping.{IsHead}
 use Rattle.lake_base.specs.declared.digest.Digest.{Digest}
-use Rattle.lake_base.specs.declared.settings.BranchDays.{BranchDays}
 
 -- no number is below 0
 zero_least : (k : ℕ) → 0 ≤ k
