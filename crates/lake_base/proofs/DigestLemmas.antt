@@ -7,6 +7,7 @@ use Rattle.std.proofs.lemmas.Bool.Decides.{nat_tests}
 use Rattle.std.proofs.lemmas.List.{take_min, length-take}
 use Rattle.hex.specs.Hex.{decode_pairs, decode_sized, hex_digit_value, encode_lower, encode_with, lower_digits}
 use Rattle.hex.proofs.Pairs.{decode_sized-pairs}
+use Rattle.lake_base.proofs.NamesLemmas.{all_pass}
 use Rattle.lake_base.specs.Names.{is_hex, stray_hex, digest_fault}
 
 -- the test of one digit, which computes
@@ -67,21 +68,8 @@ pairs_back i (suc n) (h ∷ l ∷ rest) len all =
       λ j. first j ∷ second j ∷ more.2 j,
     )
 
-stray_step : (c : ℕ) (s : List ℕ) → (length s ≤ position_or_len (λ byte. not (is_hex byte)) s → AllByRecursion (λ k. is_hex k ≡ true) s) → (b : Bool) → is_hex c ≡ b
-    → suc (length s) ≤ cond (not (not b)) (1 + position_or_len (λ byte. not (is_hex byte)) s) 0 → AllByRecursion (λ k. is_hex k ≡ true) (c ∷ s)
-stray_step c s rest true e le = (e, rest (omega (arith, le)))
-stray_step c s rest false e le = absurd (omega (arith, le))
-
-no_stray : (s : List ℕ) → length s ≤ position_or_len (λ byte. not (is_hex byte)) s → AllByRecursion (λ c. is_hex c ≡ true) s
-no_stray [] h = tt
-no_stray (c ∷ s) h = stray_step c s (no_stray s) (is_hex c) refl h
-
-none_found : (b : Bool) (n : ℕ) → cond b (Some n) None ≡ None → b ≡ false
-none_found true n e = absurd cc
-none_found false n e = refl
-
 pub all_hex : (s : List ℕ) → stray_hex s ≡ None → AllByRecursion (λ c. is_hex c ≡ true) s
-all_hex s h = no_stray s (ltb-false _ _ (none_found _ (position_or_len (λ byte. not (is_hex byte)) s) h))
+all_hex s h = all_pass is_hex s h
 
 pub decoded : (s : List ℕ) → length s ≡ 64 → stray_hex s ≡ None → (bytes : List ℕ) × (decode_sized s 32 ≡ Ok bytes) × (s ≡ encode_lower bytes)
 decoded s len none =

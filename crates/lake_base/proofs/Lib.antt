@@ -3,6 +3,7 @@ pub mod CutLemmas
 pub mod DigestLemmas
 pub mod EncodingLemmas
 pub mod FieldsLemmas
+pub mod JoinLemmas
 pub mod KeyMapLemmas
 pub mod ListLemmas
 pub mod ListingAllLemmas
@@ -12,7 +13,9 @@ pub mod ListingPrefixLemmas
 pub mod ListingStepLemmas
 pub mod MapsLemmas
 pub mod MetadataLemmas
+pub mod NamesLemmas
 pub mod PairsLemmas
 pub mod ReadingLemmas
+pub mod ResetLemmas
 pub mod RetentionLemmas
 pub mod SamenessLemmas

@@ -243,3 +243,18 @@ module _ {X : Type 0} where
   -- a map is that of its own list
   pub same_again : (m : ByteMap X) → from_sorted {R = byte_order} (entries m) ≡ m
   same_again m = same_entries_map _ _ (entries-from_sorted byte_order (entries m) (entries_sorted m))
+
+-- a key below another is below all that this one is below
+pub less_more : {X : Type 0} (a p : List ℕ) (es : List (List ℕ × X)) → byte_order a p ≡ Less → T (below_all byte_order p es) → T (below_all byte_order a es)
+less_more a p [] lt h = tt
+less_more a p (e ∷ es) lt h =
+    both _ _ (subst (λ r. T (is_lt r)) (sym (nat_list_cmp_total.trans a p e.0 lt (less _ (first _ _ h)))) tt) (less_more a p es lt (second _ _ h))
+
+pub find_none : {X : Type 0} (q : List ℕ) (es : List (List ℕ × X)) → T (below_all byte_order q es) → find byte_order q es ≡ None
+find_none q [] h = refl
+find_none q (e ∷ es) h = ap (λ r. cond (is_eq r) (Some e.1) (find byte_order q es)) (less _ (first _ _ h)) ∙ find_none q es (second _ _ h)
+
+pub tied : (o : Ordering) → is_eq o ≡ true → o ≡ Equal
+tied Less e = cc
+tied Equal e = refl
+tied Greater e = cc

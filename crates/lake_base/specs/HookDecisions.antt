@@ -1,5 +1,5 @@
 -- What the settings of a repository refuse: protected branches, and hooks (this project's profile). The changes of
--- a commit are meant to be the paths at which its map differs from the head's, each put or deleted.
+-- a commit are the paths at which its map differs from the head's, each put or deleted (`differences` of `KeyMap`).
 use Rattle.std.specs.Prelude.{◌==◌, ◌&&◌, false, true, ℕ, Bool, List, [], ◌∷◌, nat_eq, nat_lt, is_none, position, Option, if◌then◌else◌}
 use Rattle.std.specs.List.{list_any, starts_with}
 use Rattle.std.specs.FinMap.{find, entries, len}

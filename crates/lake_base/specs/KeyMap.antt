@@ -1,10 +1,11 @@
 -- Key maps, and what changes make of them.
-use Rattle.std.specs.Prelude.{◌≡◌, ℕ, Option, Some, None, List, [], ◌∷◌}
+use Rattle.std.specs.Prelude.{◌≡◌, ℕ, Option, Some, None, List, [], ◌∷◌, ◌++◌, if◌then◌else◌}
 use Rattle.std.specs.List.{AllByRecursion}
-use Rattle.std.specs.FinMap.{entries, insert, remove}
+use Rattle.std.specs.FinMap.{empty, entries, get, insert, keys, remove}
 use Rattle.lake_base.specs.Entry.{EntryValue}
 use Rattle.lake_base.specs.Maps.{ByteMap}
 use Rattle.lake_base.specs.Names.{path_fault}
+use Rattle.lake_base.specs.Sameness.{same_value}
 use Rattle.lake_base.specs.declared.entry.Change.{Change}
 use Rattle.lake_base.specs.declared.entry.Change.TheVariants.{Put, Delete}
 
@@ -17,7 +18,7 @@ abbrev pub ChangesValue : Type 0
 ChangesValue = ByteMap Change
 
 -- each key is a path
-abbrev pub HasPathKeys : List (List ℕ × EntryValue) → Type 0
+abbrev pub HasPathKeys : {X : Type 0} → List (List ℕ × X) → Type 0
 HasPathKeys rows = AllByRecursion (λ row. path_fault row.0 ≡ None) rows
 
 -- the map after one change at a path
@@ -43,13 +44,32 @@ changes_after (c ∷ cs) old = changes_after cs (insert old c.0 c.1)
 unfoldable pub over : ChangesValue → ChangesValue → ChangesValue
 over new old = changes_after (entries new) old
 
--- what a change leaves at its path
-abbrev pub rows_left : List ℕ → Change → List (List ℕ × EntryValue)
-rows_left path (Put entry) = (path, entry) ∷ []
-rows_left path Delete = []
-
 -- what stands at a path where the changes say this of it and the map has that
 abbrev pub value_after : Option Change → Option EntryValue → Option EntryValue
 value_after (Some (Put entry)) had = Some entry
 value_after (Some Delete) had = None
 value_after None had = had
+
+-- the change that leaves this value at its path
+abbrev pub change_to : Option EntryValue → Change
+change_to (Some entry) = Put entry
+change_to None = Delete
+
+-- the change of a path that has this new value and had that old one: none where they are the same
+abbrev pub change_between : Option EntryValue → Option EntryValue → Option Change
+change_between new old = if same_value new old then None else Some (change_to new)
+
+-- the changes with this one too, where there is one
+abbrev pub changes_with : List ℕ → Option Change → ChangesValue → ChangesValue
+changes_with path None changes = changes
+changes_with path (Some change) changes = insert changes path change
+
+-- the changes of these paths from the old map to the new one
+abbrev pub differences_at : KeyMapValue → KeyMapValue → List (List ℕ) → ChangesValue
+differences_at new old [] = empty
+differences_at new old (path ∷ paths) =
+    changes_with path (change_between (get new path) (get old path)) (differences_at new old paths)
+
+-- The changes from the old map to the new one: at each path at which they differ, a put of the new entry or a deletion.
+unfoldable pub differences : KeyMapValue → KeyMapValue → ChangesValue
+differences new old = differences_at new old (keys new ++ keys old)

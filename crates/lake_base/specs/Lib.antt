@@ -7,6 +7,7 @@ pub mod Digest
 pub mod Entry
 pub mod HookDecisions
 pub mod Keeping
+pub mod Join
 pub mod KeyMap
 pub mod Listing
 pub mod Maps
@@ -17,6 +18,7 @@ pub mod Outside
 pub mod PageSteps
 pub mod Pairs
 pub mod Reading
+pub mod Reset
 pub mod Sameness
 pub mod Settings
 pub mod Spelling

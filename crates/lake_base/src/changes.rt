@@ -1,12 +1,20 @@
 //! Changes: what is put or deleted at which paths.
-ghost use Rattle.std.specs.Prelude.{◌≡◌, OnOk, OnErr, IfOk, option_copied};
+ghost use Rattle.std.specs.Prelude.{◌≡◌, ℕ, List, [], OnOk, OnErr, IfOk, option_copied, None, refl, if◌then◌else◌};
+ghost use Rattle.std.specs.Option.{option_or};
 ghost use Rattle.std.specs.FinMap as map;
-ghost use Rattle.lake_base.specs.KeyMap.{over};
+ghost use Rattle.lake_base.specs.KeyMap.{ChangesValue, HasPathKeys, over};
+ghost use Rattle.lake_base.specs.Maps.{HasAscendingKeys};
+ghost use Rattle.lake_base.specs.Reset.{changes_after_reset, drops_path};
+ghost use Rattle.lake_base.specs.declared.commit.ResetWhat.{ResetWhat as AnyReset};
+ghost use Rattle.lake_base.specs.declared.commit.ResetWhat.TheVariants.{All, Object, Prefix};
 
+use crate::commit::ResetWhat;
+use crate::copying::{TryCopy, copied};
 use crate::entry::Change;
+use crate::join::{Join, copy_of, joined};
 use crate::names::Path;
 use crate::outside::NoMemory;
-use crate::sorted::{put_at, value_at};
+use crate::sorted::{are_paths, put_at, value_at};
 use std::alloc::Global;
 use std::marker::Model;
 
@@ -21,6 +29,7 @@ impl Model for Changes {
     ghost use Rattle.std.specs.FinMap as map;
     ghost use Rattle.std.specs.Coded.{coded_list, coded_ℕ};
     ghost use Rattle.lake_base.specs.Maps.{ByteMap, HasAscendingKeys};
+    ghost use Rattle.lake_base.specs.KeyMap.{HasPathKeys};
     ghost use Rattle.lake_base.specs.declared.entry.Change.{Change as AnyChange};
     ghost use Rattle.lake_base.specs.contracts.entry.Change.{the_row};
 
@@ -30,7 +39,7 @@ impl Model for Changes {
 
     ghost view = { λ a. map.from_sorted a.changes.items };
 
-    ghost invariant = { λ a. HasAscendingKeys a.changes.items };
+    ghost invariant = { λ a. HasAscendingKeys a.changes.items × HasPathKeys a.changes.items };
 }
 
 impl Changes {
@@ -59,9 +68,28 @@ impl Changes {
 
     /// The changes in order of path. It takes no memory.
     pub fn as_slice(&self) -> &[(Path, Change)]
-        ensures { result.now ≡ map.entries self.now }
+        ensures changes { result.now ≡ map.entries self.now }
+        ensures paths { HasPathKeys result.now }
     {
         self.changes.as_slice()
+    }
+
+    /// The changes of a vector whose paths strictly ascend: `has_ascending_keys` tells. It takes no memory.
+    pub fn from_vec(changes: Vec<(Path, Change)>) -> Changes
+        requires { HasAscendingKeys changes.items }
+        ensures { result ≡ map.from_sorted changes.items }
+    {
+        are_paths(changes.as_slice());
+        Changes { changes }
+    }
+
+    /// The vector of the changes in order of path. It takes no memory.
+    pub fn into_vec(self) -> Vec<(Path, Change)>
+        ensures changes { result.items ≡ map.entries self }
+        ensures ascend { HasAscendingKeys result.items }
+        ensures paths { HasPathKeys result.items }
+    {
+        self.changes
     }
 
     /// These changes with this one over them. Where paths come in ascending order, each is appended.
@@ -72,33 +100,58 @@ impl Changes {
         put_at(&mut self.changes, path, change)
     }
 
-    /// These changes over older ones: what these say at their paths, and the older ones elsewhere.
+    /// These changes over older ones: what these say at their paths, and the older ones elsewhere. It is one
+    /// walk over both, which copies each change of the result once.
     pub fn over(&self, alloc: Global, old: &Changes) -> Result<Changes, NoMemory>
         ensures { IfOk result (λ changes. changes ≡ over self.now old.now) }
     {
-        let mut changes = old.copy(alloc)?;
-        for (path, change) in self.as_slice() {
-            changes.set(path.copy(alloc)?, change.copy(alloc)?)?;
-        }
-        Ok(changes)
+        let changes = joined::<Overlay>(alloc, self.as_slice(), old.as_slice())?;
+        Ok(Changes { changes })
     }
 
-    /// Equal changes.
-    pub fn copy(&self, alloc: Global) -> Result<Changes, NoMemory>
-        ensures { IfOk result (λ copy. copy ≡ self.now) }
+    /// Drops the changes that the reset names. It takes no memory.
+    pub fn reset(&mut self, what: &ResetWhat)
+        ensures { self.new ≡ changes_after_reset what.now self.old }
     {
+        self.changes.retain(|change| !what.drops_path(&change.0));
+    }
+}
+
+impl TryCopy for Changes {
+    fn copy(&self, alloc: Global) -> Result<Changes, NoMemory> {
         let changes = copied(alloc, self.changes.as_slice())?;
         Ok(Changes { changes })
     }
 }
 
-// The same changes.
-fn copied(alloc: Global, changes: &[(Path, Change)]) -> Result<Vec<(Path, Change)>, NoMemory>
-    ensures { IfOk result (λ copy. copy.items ≡ changes.now) }
-{
-    let mut copy = Vec::with_capacity(alloc, changes.len())?;
-    for (path, change) in changes {
-        copy.push((path.copy(alloc)?, change.copy(alloc)?))?;
+// New changes over old ones.
+struct Overlay;
+
+impl Join for Overlay {
+    type Left = Change;
+    type Right = Change;
+    type Value = Change;
+
+    ghost value = { option_or };
+
+    fn join(
+        alloc: Global,
+        new: Option<&Change>,
+        old: Option<&Change>,
+    ) -> Result<Option<Change>, NoMemory> {
+        copy_of(alloc, new.or(old))
     }
-    Ok(copy)
+
+    ghost nothing = { refl };
 }
+
+/// What a reset leaves at each path: nothing where it drops the path's change, and else that change. All and the
+/// empty prefix leave nothing, one path loses its change alone, and a prefix those of the paths that begin with
+/// it. (A law: it does nothing.)
+pub fn law_of_reset()
+    ensures left { (what : AnyReset) (changes : ChangesValue) (path : List ℕ)
+        → map.get (changes_after_reset what changes) path ≡ (if drops_path what path then None else map.get changes path) }
+    ensures all { (changes : ChangesValue) → changes_after_reset All changes ≡ map.empty }
+    ensures empty { (changes : ChangesValue) → changes_after_reset (Prefix []) changes ≡ map.empty }
+    ensures object { (path : List ℕ) (changes : ChangesValue) → changes_after_reset (Object path) changes ≡ map.remove changes path }
+{}

@@ -1,6 +1,8 @@
 //! Commits, what is said of one, and the plain choices of merges and resets.
-ghost use Rattle.std.specs.Prelude.{◌≡◌, IfOk};
+ghost use Rattle.std.specs.Prelude.{◌≡◌};
+ghost use Rattle.lake_base.specs.Reset.{drops_path};
 
+use crate::copying::TryCopy;
 use crate::digest::Digest;
 use crate::names::Path;
 use crate::outside::NoMemory;
@@ -69,7 +71,8 @@ pub enum Strategy {
     DestWins,
 }
 
-/// Which changes of a branch a reset drops, staged and sealed.
+/// Which changes of a branch a reset drops, staged and sealed. With the changes of `a`, `b/1` and `ab`, the path
+/// `a` drops that of `a`, the prefix `a` those of `a` and `ab`, and the empty prefix all.
 #[derive(Debug, Drop)]
 pub enum ResetWhat {
     All,
@@ -79,17 +82,26 @@ pub enum ResetWhat {
     Prefix(Text),
 }
 
-impl CommitRecord {
-    /// An equal commit.
-    pub fn copy(&self, alloc: Global) -> Result<CommitRecord, NoMemory>
-        ensures { IfOk result (λ copy. copy ≡ self.now) }
+impl ResetWhat {
+    /// Whether the reset drops the change of the path. It takes no memory.
+    pub fn drops_path(&self, path: &Path) -> bool
+        ensures { result ≡ drops_path self.now path.now }
     {
-        let parents = Vec::from_slice(alloc, self.parents.as_slice())?;
+        match self {
+            ResetWhat::All => true,
+            ResetWhat::Object(one) => path == one,
+            ResetWhat::Prefix(prefix) => path.as_slice().starts_with(prefix.as_slice()),
+        }
+    }
+}
+
+impl TryCopy for CommitRecord {
+    fn copy(&self, alloc: Global) -> Result<CommitRecord, NoMemory> {
         Ok(CommitRecord {
             meta_range: self.meta_range,
             generation: self.generation,
             date: self.date,
-            parents: Sequence::of(parents),
+            parents: self.parents.copy(alloc)?,
             committer: self.committer.copy(alloc)?,
             message: self.message.copy(alloc)?,
             metadata: self.metadata.copy(alloc)?,
@@ -97,11 +109,8 @@ impl CommitRecord {
     }
 }
 
-impl About {
-    /// An equal one.
-    pub fn copy(&self, alloc: Global) -> Result<About, NoMemory>
-        ensures { IfOk result (λ copy. copy ≡ self.now) }
-    {
+impl TryCopy for About {
+    fn copy(&self, alloc: Global) -> Result<About, NoMemory> {
         Ok(About {
             committer: self.committer.copy(alloc)?,
             message: self.message.copy(alloc)?,
@@ -111,11 +120,8 @@ impl About {
     }
 }
 
-impl ResetWhat {
-    /// An equal one.
-    pub fn copy(&self, alloc: Global) -> Result<ResetWhat, NoMemory>
-        ensures { IfOk result (λ copy. copy ≡ self.now) }
-    {
+impl TryCopy for ResetWhat {
+    fn copy(&self, alloc: Global) -> Result<ResetWhat, NoMemory> {
         match self {
             ResetWhat::All => Ok(ResetWhat::All),
             ResetWhat::Object(path) => Ok(ResetWhat::Object(path.copy(alloc)?)),

@@ -4,6 +4,7 @@ ghost use Rattle.hex.specs.Hex.{encode_lower};
 ghost use Rattle.lake_base.specs.Names.{digest_fault, stray_hex};
 ghost use Rattle.sha2.specs.Sha256.{sha256};
 
+use crate::copying::TryCopy;
 use crate::names::stray_hex_byte;
 use crate::outside::NoMemory;
 use crate::text::Text;
@@ -11,7 +12,7 @@ use sha2::Sha256;
 use std::alloc::Global;
 
 /// The SHA-256 of some bytes (FIPS 180-4).
-#[derive(Clone, Copy, Debug, PartialEq, Eq)]
+#[derive(Clone, Copy, Debug, PartialEq, Eq, PartialOrd, Ord)]
 pub struct Digest(pub [u8; 32]);
 
 impl Digest {
@@ -45,6 +46,12 @@ impl Digest {
     {
         let text = hex::encode(alloc, self.0.as_slice())?;
         Ok(Text::of(text))
+    }
+}
+
+impl TryCopy for Digest {
+    fn copy(&self, _alloc: Global) -> Result<Digest, NoMemory> {
+        Ok(*self)
     }
 }
 

@@ -1,10 +1,11 @@
 //! What stands at a path: an entry, and a change of one.
-ghost use Rattle.std.specs.Prelude.{◌≡◌, ◌↔◌, IfOk, IsTrue};
+ghost use Rattle.std.specs.Prelude.{◌≡◌, ◌↔◌, IsTrue, option_copied};
 ghost use Rattle.std.specs.Cmp.Lexicographic.{pointwise};
 ghost use Rattle.lake_base.specs.Body.{Fits};
 ghost use Rattle.lake_base.specs.Entry.{EntryValue as AnyEntry};
-ghost use Rattle.lake_base.specs.Sameness.{same_place, same_pair, same_entry};
+ghost use Rattle.lake_base.specs.Sameness.{same_place, same_pair, same_entry, same_value};
 
+use crate::copying::TryCopy;
 use crate::digest::Digest;
 use crate::outside::NoMemory;
 use crate::pairs::Pairs;
@@ -54,11 +55,8 @@ pub enum Change {
     Delete,
 }
 
-impl Place {
-    /// An equal place.
-    pub fn copy(&self, alloc: Global) -> Result<Place, NoMemory>
-        ensures { IfOk result (λ copy. copy ≡ self.now) }
-    {
+impl TryCopy for Place {
+    fn copy(&self, alloc: Global) -> Result<Place, NoMemory> {
         match self {
             Place::Own { number, digest } => Ok(Place::Own {
                 number: *number,
@@ -83,11 +81,10 @@ impl Entry {
             Place::External { .. } => false,
         }
     }
+}
 
-    /// An equal entry.
-    pub fn copy(&self, alloc: Global) -> Result<Entry, NoMemory>
-        ensures { IfOk result (λ copy. copy ≡ self.now) }
-    {
+impl TryCopy for Entry {
+    fn copy(&self, alloc: Global) -> Result<Entry, NoMemory> {
         Ok(Entry {
             place: self.place.copy(alloc)?,
             size: self.size,
@@ -98,11 +95,8 @@ impl Entry {
     }
 }
 
-impl Change {
-    /// An equal change.
-    pub fn copy(&self, alloc: Global) -> Result<Change, NoMemory>
-        ensures { IfOk result (λ copy. copy ≡ self.now) }
-    {
+impl TryCopy for Change {
+    fn copy(&self, alloc: Global) -> Result<Change, NoMemory> {
         match self {
             Change::Put(entry) => Ok(Change::Put(entry.copy(alloc)?)),
             Change::Delete => Ok(Change::Delete),
@@ -125,6 +119,17 @@ pub fn same_entry(entry: &Entry, other: &Entry) -> bool
 pub fn law_of_sameness()
     ensures { (entry other : AnyEntry) → IsTrue (same_entry entry other) ↔ (entry ≡ other) }
 {}
+
+// Whether two values of a path are equal.
+pub(crate) fn same_value(value: Option<&Entry>, other: Option<&Entry>) -> bool
+    ensures { result ≡ same_value (option_copied value.entry) (option_copied other.entry) }
+{
+    match (value, other) {
+        (None, None) => true,
+        (Some(value), Some(other)) => same_entry(value, other),
+        _ => false,
+    }
+}
 
 // Whether two places are equal.
 fn same_place(place: &Place, other: &Place) -> bool

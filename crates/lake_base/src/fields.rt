@@ -182,7 +182,7 @@ pub(crate) fn metadata_at(alloc: Global, bytes: &[u8]) -> Result<(Pairs, &[u8]),
         return Err(EntryFault::Bad);
     }
     let (pairs, rest) = pairs_at(alloc, rest, count)?;
-    Ok((Pairs::of(pairs), rest))
+    Ok((Pairs::from_vec(pairs), rest))
 }
 
 // Appends a text behind two bytes of length. Where it is refused, part of it may have been appended.

@@ -1,16 +1,19 @@
 //! Key maps: what stands at which path.
-ghost use Rattle.std.specs.Prelude.{◌≡◌, ◌++◌, ℕ, List, OnOk, IfOk, option_copied};
+ghost use Rattle.std.specs.Prelude.{◌≡◌, ◌↔◌, ◌∷◌, ℕ, List, None, IfOk, option_copied, refl};
 ghost use Rattle.std.specs.Option.{option_or};
 ghost use Rattle.std.specs.FinMap as map;
-ghost use Rattle.lake_base.specs.Maps.{HasAscendingKeys, IsParted};
-ghost use Rattle.lake_base.specs.KeyMap.{KeyMapValue, ChangesValue, HasPathKeys, apply, over, value_after, rows_left};
+ghost use Rattle.std.specs.declared.cmp.Ordering.TheVariants.{Less};
+ghost use Rattle.lake_base.specs.Maps.{HasAscendingKeys, byte_order};
+ghost use Rattle.lake_base.specs.KeyMap.{KeyMapValue, ChangesValue, HasPathKeys, apply, over, value_after, change_between, differences};
 ghost use Rattle.lake_base.specs.declared.entry.Change.{Change as AnyChange};
 
 use crate::changes::Changes;
-use crate::entry::{Change, Entry};
+use crate::copying::{TryCopy, copied};
+use crate::entry::{Change, Entry, same_value};
+use crate::join::{Join, copy_of, joined};
 use crate::names::Path;
 use crate::outside::NoMemory;
-use crate::sorted::{value_at, walk_to};
+use crate::sorted::{are_paths, value_at};
 use std::alloc::Global;
 use std::marker::Model;
 
@@ -70,20 +73,53 @@ impl KeyMap {
         self.entries.as_slice()
     }
 
-    /// What the changes say at their paths, and this map elsewhere.
+    /// The map of a vector whose paths strictly ascend: `has_ascending_keys` tells. It takes no memory.
+    pub fn from_vec(entries: Vec<(Path, Entry)>) -> KeyMap
+        requires { HasAscendingKeys entries.items }
+        ensures { result ≡ map.from_sorted entries.items }
+    {
+        are_paths(entries.as_slice());
+        KeyMap { entries }
+    }
+
+    /// The vector of the entries in order of path. It takes no memory.
+    pub fn into_vec(self) -> Vec<(Path, Entry)>
+        ensures entries { result.items ≡ map.entries self }
+        ensures ascend { HasAscendingKeys result.items }
+        ensures paths { HasPathKeys result.items }
+    {
+        self.entries
+    }
+
+    /// What the changes say at their paths, and this map elsewhere. It is one walk over both, which copies each
+    /// entry of the result once.
     pub fn apply(&self, alloc: Global, changes: &Changes) -> Result<KeyMap, NoMemory>
         ensures { IfOk result (λ map. map ≡ apply changes.now self.now) }
     {
-        let entries = merged(alloc, self.entries.as_slice(), changes.as_slice())?;
+        let entries = joined::<Applied>(alloc, self.as_slice(), changes.as_slice())?;
         Ok(KeyMap { entries })
     }
 
-    /// An equal map.
-    pub fn copy(&self, alloc: Global) -> Result<KeyMap, NoMemory>
-        ensures { IfOk result (λ copy. copy ≡ self.now) }
+    /// The changes that make an old map this one, at just the paths at which the two differ: a put of this map's
+    /// entry, or a deletion. It is one walk over both.
+    ///
+    /// | path | old | this | change |
+    /// |---|---|---|---|
+    /// | `a` | 1 | 1 | none |
+    /// | `b` | 1 | 2 | Put 2 |
+    /// | `c` | 1 | nothing | Delete |
+    /// | `d` | nothing | 2 | Put 2 |
+    pub fn differences(&self, alloc: Global, old: &KeyMap) -> Result<Changes, NoMemory>
+        ensures { IfOk result (λ changes. changes ≡ differences self.now old.now) }
     {
-        let mut entries = Vec::new(alloc);
-        append(alloc, &mut entries, self.entries.as_slice())?;
+        let changes = joined::<Difference>(alloc, self.as_slice(), old.as_slice())?;
+        Ok(Changes::from_vec(changes))
+    }
+}
+
+impl TryCopy for KeyMap {
+    fn copy(&self, alloc: Global) -> Result<KeyMap, NoMemory> {
+        let entries = copied(alloc, self.entries.as_slice())?;
         Ok(KeyMap { entries })
     }
 }
@@ -103,71 +139,69 @@ pub fn laws_of_changes()
     ensures together { (a b c : ChangesValue) → over (over a b) c ≡ over a (over b c) }
 {}
 
-// The entries after the changes: one merge of the two lists.
-fn merged(
-    alloc: Global,
-    entries: &[(Path, Entry)],
-    changes: &[(Path, Change)],
-) -> Result<Vec<(Path, Entry)>, NoMemory>
-    requires entries { HasAscendingKeys entries.now }
-    requires changes { HasAscendingKeys changes.now }
-    ensures ascend { IfOk result (λ merged. HasAscendingKeys merged.items) }
-    ensures paths { IfOk result (λ merged. HasPathKeys merged.items) }
-    ensures applied { IfOk result (λ merged. map.from_sorted merged.items ≡ apply (map.from_sorted changes.now) (map.from_sorted entries.now)) }
-{
-    let mut merged = Vec::new(alloc);
-    let mut rest = entries;
-    for (path, change) in changes {
-        let (low, high) = parts(rest, path);
-        append(alloc, &mut merged, low)?;
-        add(alloc, &mut merged, path, change)?;
-        rest = high;
+/// The change at each path from an old map to a new one: where the two look-ups are equal none, else a put of the
+/// new entry, or a deletion. Applied to the old map the changes give the new one; they are at just the paths at
+/// which the look-ups differ, in ascending order, and so the first of them is the least such path. (A law: it does
+/// nothing.)
+pub fn law_of_differences()
+    ensures changes { (new old : KeyMapValue) (path : List ℕ)
+        → map.get (differences new old) path ≡ change_between (map.get new path) (map.get old path) }
+    ensures applied { (new old : KeyMapValue) → apply (differences new old) old ≡ new }
+    ensures none { (new old : KeyMapValue) (path : List ℕ)
+        → (map.get (differences new old) path ≡ None) ↔ (map.get new path ≡ map.get old path) }
+    ensures ascend { (new old : KeyMapValue) → HasAscendingKeys (map.entries (differences new old)) }
+    ensures least { (new old : KeyMapValue) (first : List ℕ × AnyChange) (rest : List (List ℕ × AnyChange)) (path : List ℕ)
+        → map.entries (differences new old) ≡ first ∷ rest → byte_order path first.0 ≡ Less → map.get new path ≡ map.get old path }
+{}
+
+// What changes leave of a map.
+struct Applied;
+
+impl Join for Applied {
+    type Left = Entry;
+    type Right = Change;
+    type Value = Entry;
+
+    ghost value = { λ had change. value_after change had };
+
+    fn join(
+        alloc: Global,
+        had: Option<&Entry>,
+        change: Option<&Change>,
+    ) -> Result<Option<Entry>, NoMemory> {
+        match change {
+            Some(Change::Put(entry)) => Ok(Some(entry.copy(alloc)?)),
+            Some(Change::Delete) => Ok(None),
+            None => copy_of(alloc, had),
+        }
     }
-    append(alloc, &mut merged, rest)?;
-    Ok(merged)
+
+    ghost nothing = { refl };
 }
 
-// The entries below the path, and those above it.
-fn parts<'a>(
-    entries: &'a [(Path, Entry)],
-    path: &Path,
-) -> (&'a [(Path, Entry)], &'a [(Path, Entry)])
-    requires { HasAscendingKeys entries.now }
-    ensures { IsParted entries.now path.now result.0.now result.1.now }
-{
-    match walk_to(entries, path) {
-        Ok(at) => (entries.split_at(at).0, entries.split_at(at + 1).1),
-        Err(at) => entries.split_at(at),
-    }
-}
+// The changes that make an old map a new one.
+struct Difference;
 
-// Appends equal entries.
-fn append(
-    alloc: Global,
-    merged: &mut Vec<(Path, Entry)>,
-    entries: &[(Path, Entry)],
-) -> Result<(), NoMemory>
-    ensures appended { OnOk result (merged.new.items ≡ merged.old.items ++ entries.now) }
-    ensures paths { OnOk result (HasPathKeys entries.now) }
-{
-    for (path, entry) in entries {
-        merged.push((path.copy(alloc)?, entry.copy(alloc)?))?;
-    }
-    Ok(())
-}
+impl Join for Difference {
+    type Left = Entry;
+    type Right = Entry;
+    type Value = Change;
 
-// Appends what the change puts at the path.
-fn add(
-    alloc: Global,
-    merged: &mut Vec<(Path, Entry)>,
-    path: &Path,
-    change: &Change,
-) -> Result<(), NoMemory>
-    ensures appended { OnOk result (merged.new.items ≡ merged.old.items ++ rows_left path.now change.now) }
-    ensures paths { OnOk result (HasPathKeys (rows_left path.now change.now)) }
-{
-    if let Change::Put(entry) = change {
-        merged.push((path.copy(alloc)?, entry.copy(alloc)?))?;
+    ghost value = { change_between };
+
+    fn join(
+        alloc: Global,
+        new: Option<&Entry>,
+        old: Option<&Entry>,
+    ) -> Result<Option<Change>, NoMemory> {
+        if same_value(new, old) {
+            return Ok(None);
+        }
+        match new {
+            Some(entry) => Ok(Some(Change::Put(entry.copy(alloc)?))),
+            None => Ok(Some(Change::Delete)),
+        }
     }
-    Ok(())
+
+    ghost nothing = { refl };
 }

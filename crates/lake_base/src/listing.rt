@@ -17,6 +17,7 @@ ghost use Rattle.lake_base.specs.declared.listing.Item.{Item as Line};
 ghost use Rattle.lake_base.specs.Listing.{front_through, common_prefix, IsItem, item_name, items_of, items_left, items_above, page_items, has_more, pages};
 ghost use Rattle.lake_base.specs.PageSteps.{is_before, IsRest, IsFull, IsPast, BeginsWith, Visits};
 
+use crate::copying::TryCopy;
 use crate::entry::Entry;
 use crate::key_map::KeyMap;
 use crate::names::{NameFault, Path};

@@ -1,9 +1,8 @@
 //! The three-way merge at one path: whose value it takes.
 ghost use Rattle.std.specs.Prelude.{◌≡◌, option_copied};
 ghost use Rattle.lake_base.specs.Merging.{side_of};
-ghost use Rattle.lake_base.specs.Sameness.{same_value};
 
-use crate::entry::{Entry, same_entry};
+use crate::entry::{Entry, same_value};
 
 /// Whose value a path takes in a merge.
 #[derive(Clone, Copy, Debug, PartialEq, Eq)]
@@ -36,16 +35,5 @@ pub fn side_of(base: Option<&Entry>, source: Option<&Entry>, dest: Option<&Entry
         Side::Source
     } else {
         Side::Neither
-    }
-}
-
-// Whether two values of a path are equal.
-fn same_value(value: Option<&Entry>, other: Option<&Entry>) -> bool
-    ensures { result ≡ same_value (option_copied value.entry) (option_copied other.entry) }
-{
-    match (value, other) {
-        (None, None) => true,
-        (Some(value), Some(other)) => same_entry(value, other),
-        _ => false,
     }
 }

@@ -2,8 +2,10 @@
 ghost use Rattle.std.specs.Prelude.{◌≡◌, ◌+◌, ◌<◌, not, length, position, IfOk, None};
 ghost use Rattle.lake_base.specs.Names.{ReadsName, path_fault, repo_fault, ref_fault, bad_byte, begins_repo, continues_repo, begins_ref, continues_ref, is_hex, stray_hex, is_like_id};
 
+use crate::copying::TryCopy;
+use crate::limits::{PATH_LIMIT, REF_NAME_LIMIT, REPO_NAME_LIMIT};
 use crate::outside::NoMemory;
-use crate::text::utf8;
+use crate::text::Text;
 use std::alloc::Global;
 use std::marker::Model;
 use thiserror::Error;
@@ -30,9 +32,6 @@ pub enum NameFault {
     #[error("out of memory")]
     NoMemory,
 }
-
-/// The most bytes of a path.
-pub const PATH_LIMIT: usize = 1024;
 
 // Whether the name of a repository may begin with the byte: a lower-case letter or a digit.
 fn begins_repo(byte: u8) -> bool
@@ -121,7 +120,7 @@ pub(crate) fn stray_hex_byte(bytes: &[u8]) -> Option<usize>
 /// A path: UTF-8 of 1 to 1,024 bytes. Contracts see its bytes.
 #[derive(Debug, Drop)]
 pub struct Path {
-    bytes: Vec<u8>,
+    text: Text,
 }
 
 impl Model for Path {
@@ -130,9 +129,9 @@ impl Model for Path {
 
     ghost Value = { List ℕ };
 
-    ghost view = { λ name. name.bytes.items };
+    ghost view = { λ name. name.text };
 
-    ghost invariant = { λ name. path_fault name.bytes.items ≡ None };
+    ghost invariant = { λ name. path_fault name.text ≡ None };
 }
 
 impl Path {
@@ -143,16 +142,9 @@ impl Path {
         if bytes.is_empty() {
             return Err(NameFault::Empty);
         }
-        if bytes.len() > PATH_LIMIT {
-            return Err(NameFault::TooLong);
-        }
-        if utf8(bytes).is_none() {
-            return Err(NameFault::NotUtf8);
-        }
-        match Vec::from_slice(alloc, bytes) {
-            Ok(bytes) => Ok(Path { bytes }),
-            Err(_) => Err(NameFault::NoMemory),
-        }
+        Ok(Path {
+            text: Text::read(alloc, bytes, PATH_LIMIT)?,
+        })
     }
 
     /// Its bytes. It takes no memory.
@@ -160,23 +152,32 @@ impl Path {
         ensures bytes { result.now ≡ self.now }
         ensures valid { path_fault self.now ≡ None }
     {
-        self.bytes.as_slice()
+        self.text.as_slice()
     }
 
-    /// An equal one.
-    pub fn copy(&self, alloc: Global) -> Result<Path, NoMemory>
+    /// It as a string. It takes no memory.
+    pub fn as_str(&self) -> &str
+        ensures bytes { result.now ≡ self.now }
+        ensures valid { path_fault self.now ≡ None }
+    {
+        self.text.as_str()
+    }
+}
+
+impl TryCopy for Path {
+    fn copy(&self, alloc: Global) -> Result<Path, NoMemory>
         ensures equal { IfOk result (λ copy. copy ≡ self.now) }
         ensures valid { path_fault self.now ≡ None }
     {
-        let bytes = Vec::from_slice(alloc, self.bytes.as_slice())?;
-        Ok(Path { bytes })
+        let text = self.text.copy(alloc)?;
+        Ok(Path { text })
     }
 }
 
 /// The name of a repository: `[a-z0-9][a-z0-9-]{2,62}`. Contracts see its bytes.
 #[derive(Debug, Drop)]
 pub struct RepoName {
-    bytes: Vec<u8>,
+    text: Text,
 }
 
 impl Model for RepoName {
@@ -185,9 +186,9 @@ impl Model for RepoName {
 
     ghost Value = { List ℕ };
 
-    ghost view = { λ name. name.bytes.items };
+    ghost view = { λ name. name.text };
 
-    ghost invariant = { λ name. repo_fault name.bytes.items ≡ None };
+    ghost invariant = { λ name. repo_fault name.text ≡ None };
 }
 
 impl RepoName {
@@ -201,16 +202,15 @@ impl RepoName {
         if bytes.len() < 3 {
             return Err(NameFault::TooShort);
         }
-        if bytes.len() > 63 {
+        if bytes.len() > REPO_NAME_LIMIT {
             return Err(NameFault::TooLong);
         }
         if let Some(fault) = bad_repo_byte(bytes) {
             return Err(fault);
         }
-        match Vec::from_slice(alloc, bytes) {
-            Ok(bytes) => Ok(RepoName { bytes }),
-            Err(_) => Err(NameFault::NoMemory),
-        }
+        Ok(RepoName {
+            text: Text::of_utf8(alloc, bytes)?,
+        })
     }
 
     /// Its bytes. It takes no memory.
@@ -218,23 +218,32 @@ impl RepoName {
         ensures bytes { result.now ≡ self.now }
         ensures valid { repo_fault self.now ≡ None }
     {
-        self.bytes.as_slice()
+        self.text.as_slice()
     }
 
-    /// An equal one.
-    pub fn copy(&self, alloc: Global) -> Result<RepoName, NoMemory>
+    /// It as a string. It takes no memory.
+    pub fn as_str(&self) -> &str
+        ensures bytes { result.now ≡ self.now }
+        ensures valid { repo_fault self.now ≡ None }
+    {
+        self.text.as_str()
+    }
+}
+
+impl TryCopy for RepoName {
+    fn copy(&self, alloc: Global) -> Result<RepoName, NoMemory>
         ensures equal { IfOk result (λ copy. copy ≡ self.now) }
         ensures valid { repo_fault self.now ≡ None }
     {
-        let bytes = Vec::from_slice(alloc, self.bytes.as_slice())?;
-        Ok(RepoName { bytes })
+        let text = self.text.copy(alloc)?;
+        Ok(RepoName { text })
     }
 }
 
 /// The name of a branch or a tag: `[A-Za-z0-9_][A-Za-z0-9_-]{0,254}`. Contracts see its bytes.
 #[derive(Debug, Drop)]
 pub struct RefName {
-    bytes: Vec<u8>,
+    text: Text,
 }
 
 impl Model for RefName {
@@ -243,9 +252,9 @@ impl Model for RefName {
 
     ghost Value = { List ℕ };
 
-    ghost view = { λ name. name.bytes.items };
+    ghost view = { λ name. name.text };
 
-    ghost invariant = { λ name. ref_fault name.bytes.items ≡ None };
+    ghost invariant = { λ name. ref_fault name.text ≡ None };
 }
 
 impl RefName {
@@ -256,23 +265,22 @@ impl RefName {
         if bytes.is_empty() {
             return Err(NameFault::Empty);
         }
-        if bytes.len() > 255 {
+        if bytes.len() > REF_NAME_LIMIT {
             return Err(NameFault::TooLong);
         }
         if let Some(fault) = bad_ref_byte(bytes) {
             return Err(fault);
         }
-        match Vec::from_slice(alloc, bytes) {
-            Ok(bytes) => Ok(RefName { bytes }),
-            Err(_) => Err(NameFault::NoMemory),
-        }
+        Ok(RefName {
+            text: Text::of_utf8(alloc, bytes)?,
+        })
     }
 
     /// Whether it could be taken for the id of a commit: 64 lower-case hex digits. It takes no memory.
     pub fn like_id(&self) -> bool
         ensures { result ≡ is_like_id self.now }
     {
-        self.bytes.as_slice().len() == 64 && stray_hex_byte(self.bytes.as_slice()).is_none()
+        self.as_slice().len() == 64 && stray_hex_byte(self.as_slice()).is_none()
     }
 
     /// Its bytes. It takes no memory.
@@ -280,15 +288,24 @@ impl RefName {
         ensures bytes { result.now ≡ self.now }
         ensures valid { ref_fault self.now ≡ None }
     {
-        self.bytes.as_slice()
+        self.text.as_slice()
     }
 
-    /// An equal one.
-    pub fn copy(&self, alloc: Global) -> Result<RefName, NoMemory>
+    /// It as a string. It takes no memory.
+    pub fn as_str(&self) -> &str
+        ensures bytes { result.now ≡ self.now }
+        ensures valid { ref_fault self.now ≡ None }
+    {
+        self.text.as_str()
+    }
+}
+
+impl TryCopy for RefName {
+    fn copy(&self, alloc: Global) -> Result<RefName, NoMemory>
         ensures equal { IfOk result (λ copy. copy ≡ self.now) }
         ensures valid { ref_fault self.now ≡ None }
     {
-        let bytes = Vec::from_slice(alloc, self.bytes.as_slice())?;
-        Ok(RefName { bytes })
+        let text = self.text.copy(alloc)?;
+        Ok(RefName { text })
     }
 }

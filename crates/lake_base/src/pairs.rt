@@ -1,11 +1,14 @@
 //! Metadata: pairs of a key and a value.
-ghost use Rattle.std.specs.Prelude.{◌≡◌, [], IfOk, OnErr, MatchResult};
+ghost use Rattle.std.specs.Prelude.{◌≡◌, ◌↔◌, [], IsTrue, OnErr, MatchResult};
 ghost use Rattle.std.specs.FinMap.{put};
 ghost use Rattle.lake_base.specs.Maps.{byte_order, HasAscendingKeys, IsAt, IsGap};
 ghost use Rattle.lake_base.specs.Pairs.{IsPair, ArePairs, pair_fault, room_fault, Sets};
 ghost use Rattle.lake_base.specs.declared.pairs.PairsFault.TheVariants.{NoMemory as pairs_no_memory};
 
+use crate::copying::{TryCopy, copied};
+use crate::limits::{KEY_LIMIT, PAIRS_LIMIT, VALUE_LIMIT};
 use crate::outside::NoMemory;
+use crate::sorted::has_ascending_keys;
 use crate::text::Text;
 use std::alloc::{AllocFailed, Global};
 use std::cmp::Ordering;
@@ -66,8 +69,8 @@ impl Pairs {
         }
     }
 
-    /// The metadata of these pairs. It takes no memory.
-    pub fn of(pairs: Vec<(Text, Text)>) -> Pairs
+    /// The metadata of these pairs: `are_pairs` tells whether they are within the limits. It takes no memory.
+    pub fn from_vec(pairs: Vec<(Text, Text)>) -> Pairs
         requires { ArePairs pairs.items }
         ensures { result ≡ pairs.items }
     {
@@ -87,33 +90,45 @@ impl Pairs {
         ensures set { Sets result (pair_fault key value self.old) (self.new ≡ put byte_order key value self.old) }
         ensures unchanged { OnErr result (self.new ≡ self.old) }
     {
-        if key.as_slice().is_empty() || key.as_slice().len() > 128 {
+        if key.as_slice().is_empty() || key.as_slice().len() > KEY_LIMIT {
             return Err(PairsFault::Key);
         }
-        if value.as_slice().len() > 1024 {
+        if value.as_slice().len() > VALUE_LIMIT {
             return Err(PairsFault::Value);
         }
         put_pair(&mut self.pairs, key, value)
     }
 
-    /// Equal pairs.
-    pub fn copy(&self, alloc: Global) -> Result<Pairs, NoMemory>
-        ensures { IfOk result (λ copy. copy ≡ self.now) }
+    /// The vector of the pairs. It takes no memory.
+    pub fn into_vec(self) -> Vec<(Text, Text)>
+        ensures pairs { result.items ≡ self }
+        ensures valid { ArePairs result.items }
     {
+        self.pairs
+    }
+}
+
+impl TryCopy for Pairs {
+    fn copy(&self, alloc: Global) -> Result<Pairs, NoMemory> {
         let pairs = copied(alloc, self.pairs.as_slice())?;
         Ok(Pairs { pairs })
     }
 }
 
-// The same pairs.
-fn copied(alloc: Global, pairs: &[(Text, Text)]) -> Result<Vec<(Text, Text)>, NoMemory>
-    ensures { IfOk result (λ copy. copy.items ≡ pairs.now) }
+/// Whether these can be the pairs of metadata: at most 64, keys strictly ascending as bytes, each key of 1 to
+/// 128 bytes and each value of at most 1,024. It takes no memory.
+pub fn are_pairs(pairs: &[(Text, Text)]) -> bool
+    ensures { IsTrue result ↔ ArePairs pairs.now }
 {
-    let mut copy = Vec::with_capacity(alloc, pairs.len())?;
-    for (key, value) in pairs {
-        copy.push((key.copy(alloc)?, value.copy(alloc)?))?;
-    }
-    Ok(copy)
+    pairs.len() <= PAIRS_LIMIT && pairs.iter().all(is_pair) && has_ascending_keys(pairs)
+}
+
+// Whether a pair is within the limits of one.
+fn is_pair(pair: &(Text, Text)) -> bool
+    ensures { IsTrue result ↔ IsPair pair.now }
+{
+    let key = pair.0.as_slice();
+    !key.is_empty() && key.len() <= KEY_LIMIT && pair.1.as_slice().len() <= VALUE_LIMIT
 }
 
 // Where the key is, or where it would go.
@@ -145,7 +160,7 @@ fn put_pair(pairs: &mut Vec<(Text, Text)>, key: Text, value: Text) -> Result<(),
             Ok(())
         }
         Err(at) => {
-            if pairs.as_slice().len() >= 64 {
+            if pairs.as_slice().len() >= PAIRS_LIMIT {
                 return Err(PairsFault::Full);
             }
             pairs.insert(at, (key, value))?;

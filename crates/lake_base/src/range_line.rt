@@ -1,6 +1,6 @@
 //! What a metarange says of a range.
-ghost use Rattle.std.specs.Prelude.{◌≡◌, IfOk};
 
+use crate::copying::TryCopy;
 use crate::digest::Digest;
 use crate::names::Path;
 use crate::outside::NoMemory;
@@ -15,11 +15,8 @@ pub struct RangeLine {
     pub last: Path,
 }
 
-impl RangeLine {
-    /// An equal one.
-    pub fn copy(&self, alloc: Global) -> Result<RangeLine, NoMemory>
-        ensures { IfOk result (λ copy. copy ≡ self.now) }
-    {
+impl TryCopy for RangeLine {
+    fn copy(&self, alloc: Global) -> Result<RangeLine, NoMemory> {
         Ok(RangeLine {
             name: self.name,
             rows: self.rows,

@@ -1,6 +1,7 @@
 //! A list of values that contracts see as that list.
-ghost use Rattle.std.specs.Prelude.{◌≡◌, IfOk};
+ghost use Rattle.std.specs.Prelude.{◌≡◌};
 
+use crate::copying::{TryCopy, copied};
 use crate::outside::NoMemory;
 use std::alloc::Global;
 use std::marker::Model;
@@ -34,21 +35,17 @@ impl<T> Sequence<T> {
         self.items.as_slice()
     }
 
-    /// An equal list.
-    pub fn copy(&self, alloc: Global) -> Result<Sequence<T>, NoMemory>
-    where
-        T: Copy,
-        ensures { IfOk result (λ copy. copy ≡ self.now) }
-    {
-        let mut items = Vec::new(alloc);
-        items.extend_from_slice(self.items.as_slice())?;
-        Ok(Sequence { items })
-    }
-
     /// The vector of the items. It takes no memory.
     pub fn into_vec(self) -> Vec<T>
         ensures { result.items ≡ self }
     {
         self.items
+    }
+}
+
+impl<T: TryCopy> TryCopy for Sequence<T> {
+    fn copy(&self, alloc: Global) -> Result<Sequence<T>, NoMemory> {
+        let items = copied(alloc, self.items.as_slice())?;
+        Ok(Sequence { items })
     }
 }

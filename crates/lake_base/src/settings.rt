@@ -1,6 +1,6 @@
 //! The settings of a repository: retention, protection and hooks.
-ghost use Rattle.std.specs.Prelude.{◌≡◌, IfOk};
 
+use crate::copying::TryCopy;
 use crate::names::RefName;
 use crate::outside::NoMemory;
 use crate::sequence::Sequence;
@@ -102,11 +102,8 @@ pub enum Note {
     Hooks(HookRules),
 }
 
-impl BranchDays {
-    /// An equal rule.
-    pub fn copy(&self, alloc: Global) -> Result<BranchDays, NoMemory>
-        ensures { IfOk result (λ copy. copy ≡ self.now) }
-    {
+impl TryCopy for BranchDays {
+    fn copy(&self, alloc: Global) -> Result<BranchDays, NoMemory> {
         Ok(BranchDays {
             branch: self.branch.copy(alloc)?,
             days: self.days,
@@ -114,36 +111,25 @@ impl BranchDays {
     }
 }
 
-impl Rules {
-    /// Equal rules.
-    pub fn copy(&self, alloc: Global) -> Result<Rules, NoMemory>
-        ensures { IfOk result (λ copy. copy ≡ self.now) }
-    {
-        let branches = copied_days(alloc, self.branches.as_slice())?;
+impl TryCopy for Rules {
+    fn copy(&self, alloc: Global) -> Result<Rules, NoMemory> {
         Ok(Rules {
             default_days: self.default_days,
-            branches: Sequence::of(branches),
+            branches: self.branches.copy(alloc)?,
         })
     }
 }
 
-impl Protection {
-    /// Equal patterns.
-    pub fn copy(&self, alloc: Global) -> Result<Protection, NoMemory>
-        ensures { IfOk result (λ copy. copy ≡ self.now) }
-    {
-        let patterns = copied_texts(alloc, self.patterns.as_slice())?;
+impl TryCopy for Protection {
+    fn copy(&self, alloc: Global) -> Result<Protection, NoMemory> {
         Ok(Protection {
-            patterns: Sequence::of(patterns),
+            patterns: self.patterns.copy(alloc)?,
         })
     }
 }
 
-impl Deny {
-    /// An equal one.
-    pub fn copy(&self, alloc: Global) -> Result<Deny, NoMemory>
-        ensures { IfOk result (λ copy. copy ≡ self.now) }
-    {
+impl TryCopy for Deny {
+    fn copy(&self, alloc: Global) -> Result<Deny, NoMemory> {
         match self {
             Deny::RequireMeta(key) => Ok(Deny::RequireMeta(key.copy(alloc)?)),
             Deny::DenyPrefix(prefix) => Ok(Deny::DenyPrefix(prefix.copy(alloc)?)),
@@ -153,11 +139,8 @@ impl Deny {
     }
 }
 
-impl HookRule {
-    /// An equal rule.
-    pub fn copy(&self, alloc: Global) -> Result<HookRule, NoMemory>
-        ensures { IfOk result (λ copy. copy ≡ self.now) }
-    {
+impl TryCopy for HookRule {
+    fn copy(&self, alloc: Global) -> Result<HookRule, NoMemory> {
         Ok(HookRule {
             branch: self.branch.copy(alloc)?,
             deny: self.deny.copy(alloc)?,
@@ -165,60 +148,20 @@ impl HookRule {
     }
 }
 
-impl HookRules {
-    /// Equal rules.
-    pub fn copy(&self, alloc: Global) -> Result<HookRules, NoMemory>
-        ensures { IfOk result (λ copy. copy ≡ self.now) }
-    {
-        let rules = copied_hooks(alloc, self.rules.as_slice())?;
+impl TryCopy for HookRules {
+    fn copy(&self, alloc: Global) -> Result<HookRules, NoMemory> {
         Ok(HookRules {
-            rules: Sequence::of(rules),
+            rules: self.rules.copy(alloc)?,
         })
     }
 }
 
-impl Note {
-    /// An equal setting.
-    pub fn copy(&self, alloc: Global) -> Result<Note, NoMemory>
-        ensures { IfOk result (λ copy. copy ≡ self.now) }
-    {
+impl TryCopy for Note {
+    fn copy(&self, alloc: Global) -> Result<Note, NoMemory> {
         match self {
             Note::Retention(rules) => Ok(Note::Retention(rules.copy(alloc)?)),
             Note::Protection(protection) => Ok(Note::Protection(protection.copy(alloc)?)),
             Note::Hooks(hooks) => Ok(Note::Hooks(hooks.copy(alloc)?)),
         }
     }
-}
-
-// The same days.
-fn copied_days(alloc: Global, days: &[BranchDays]) -> Result<Vec<BranchDays>, NoMemory>
-    ensures { IfOk result (λ copy. copy.items ≡ days.now) }
-{
-    let mut copy = Vec::with_capacity(alloc, days.len())?;
-    for rule in days {
-        copy.push(rule.copy(alloc)?)?;
-    }
-    Ok(copy)
-}
-
-// The same texts.
-fn copied_texts(alloc: Global, texts: &[Text]) -> Result<Vec<Text>, NoMemory>
-    ensures { IfOk result (λ copy. copy.items ≡ texts.now) }
-{
-    let mut copy = Vec::with_capacity(alloc, texts.len())?;
-    for text in texts {
-        copy.push(text.copy(alloc)?)?;
-    }
-    Ok(copy)
-}
-
-// The same hook rules.
-fn copied_hooks(alloc: Global, rules: &[HookRule]) -> Result<Vec<HookRule>, NoMemory>
-    ensures { IfOk result (λ copy. copy.items ≡ rules.now) }
-{
-    let mut copy = Vec::with_capacity(alloc, rules.len())?;
-    for rule in rules {
-        copy.push(rule.copy(alloc)?)?;
-    }
-    Ok(copy)
 }

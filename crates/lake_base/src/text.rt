@@ -3,6 +3,7 @@ ghost use Rattle.std.specs.Prelude.{◌≡◌, IfOk, MatchOption, true, false, s
 ghost use Rattle.std.specs.Str.{is_utf8};
 ghost use Rattle.lake_base.specs.Names.{ReadsName, text_fault};
 
+use crate::copying::TryCopy;
 use crate::names::NameFault;
 use crate::outside::NoMemory;
 use std::alloc::Global;
@@ -47,12 +48,33 @@ impl Text {
         if bytes.len() > most {
             return Err(NameFault::TooLong);
         }
-        let Some(text) = utf8(bytes) else {
+        if !is_utf8(bytes) {
             return Err(NameFault::NotUtf8);
-        };
-        match String::from_str(alloc, text) {
-            Ok(text) => Ok(Text { text }),
-            Err(_) => Err(NameFault::NoMemory),
+        }
+        Ok(Text::of_utf8(alloc, bytes)?)
+    }
+
+    /// The text of a vector of UTF-8 bytes: `is_utf8` tells. It takes no memory.
+    pub fn from_vec(bytes: Vec<u8>) -> Text
+        requires { is_utf8 bytes.items ≡ true }
+        ensures { result ≡ bytes.items }
+    {
+        match String::from_utf8(bytes) {
+            Ok(text) => Text { text },
+            Err(_) => unreachable!(),
+        }
+    }
+
+    // The text of bytes that are UTF-8.
+    pub(crate) fn of_utf8(alloc: Global, bytes: &[u8]) -> Result<Text, NoMemory>
+        requires { is_utf8 bytes.now ≡ true }
+        ensures { IfOk result (λ text. text ≡ bytes.now) }
+    {
+        match utf8(bytes) {
+            Some(text) => Ok(Text {
+                text: String::from_str(alloc, text)?,
+            }),
+            None => unreachable!(),
         }
     }
 
@@ -78,10 +100,17 @@ impl Text {
         self.text.as_str()
     }
 
-    /// An equal text.
-    pub fn copy(&self, alloc: Global) -> Result<Text, NoMemory>
-        ensures { IfOk result (λ copy. copy ≡ self.now) }
+    /// The vector of its bytes. It takes no memory.
+    pub fn into_vec(self) -> Vec<u8>
+        ensures bytes { result.items ≡ self }
+        ensures utf8 { is_utf8 result.items ≡ true }
     {
+        self.text.into_bytes()
+    }
+}
+
+impl TryCopy for Text {
+    fn copy(&self, alloc: Global) -> Result<Text, NoMemory> {
         let text = String::from_str(alloc, self.text.as_str())?;
         Ok(Text { text })
     }

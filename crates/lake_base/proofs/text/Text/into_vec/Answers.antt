@@ -1,0 +1,7 @@
+use Rattle.std.proofs.Common.{ap, subst, ◌∙◌}
+use Rattle.std.specs.Str.{IsUtf8}
+use Rattle.std.proofs.lemmas.Str.{is_utf8-from_IsUtf8, IsUtf8-string_bytes}
+use Rattle.lake_base.proofs.text.Text.into_vec.Goals as goal
+
+pub returns-clause-utf8 : goal.returns-clause-utf8
+returns-clause-utf8 c = rw c.into_bytes.ensures.value (is_utf8-from_IsUtf8 _ (IsUtf8-string_bytes c.self.inside.text))
