@@ -93,11 +93,12 @@ module _ {A B C : Type 0} (value : Option A → Option B → Option C) (nothing 
   join_end = record { ascends = tt; above = λ key low high. tt; values = λ key. sym nothing }
 
   -- one turn of the loop: what was made, the value at the front, and any join of the rest
-  pub join_turn : (all_left left left_rest : List (List ℕ × A)) (all_right right right_rest : List (List ℕ × B)) (p : List ℕ) (had : Option A) (said : Option B) (old new : List (List ℕ × C))
-      → IsFront left right p had said left_rest right_rest → new ≡ old ++ rows_at p (value had said)
+  pub join_turn : (all_left left left_rest : List (List ℕ × A)) (all_right right right_rest : List (List ℕ × B)) (p : List ℕ) (had : Option A) (said : Option B) (left_here : Option C) (old new : List (List ℕ × C))
+      → IsFront left right p had said left_rest right_rest → left_here ≡ value had said → new ≡ old ++ rows_at p left_here
       → JoinsRest value all_left all_right left right old → JoinsRest value all_left all_right left_rest right_rest new
-  join_turn all_left left left_rest all_right right right_rest p had said old new front is before items join =
-      subst (IsJoin value all_left all_right) (sym (ap (λ l. l ++ items) is ∙ append_assoc old (rows_at p (value had said)) items))
+  join_turn all_left left left_rest all_right right right_rest p had said left_here old new front made is before items join =
+      let whole : new ≡ old ++ rows_at p (value had said) = is ∙ ap (λ v. old ++ rows_at p v) made in
+      subst (IsJoin value all_left all_right) (sym (ap (λ l. l ++ items) whole ∙ append_assoc old (rows_at p (value had said)) items))
       (before (rows_at p (value had said) ++ items) (join_step left right p had said left_rest right_rest items front join))
 
 -- ---- the front of two lists that are not empty

@@ -1,17 +1,18 @@
 -- What a search finds in a list whose keys ascend, and what an edit at that place does.
-use Rattle.std.proofs.Common.{◌≡◌, ℕ, zero, suc, ◌-◌, ◌<◌, ◌≤◌, ◌&&◌, Bool, true, false, cond, T, List, [], ◌∷◌, length, get_or, set, Some, None, Ok, Err, Result, MatchResult, sym, ap, subst, refl, ◌⊎◌, inl, inr, ◌∙◌, arith, ◌++◌, drop, take}
+use Rattle.std.proofs.Common.{◌≡◌, ℕ, zero, suc, ◌-◌, ◌<◌, ◌≤◌, ◌&&◌, Bool, true, false, cond, T, List, [], ◌∷◌, length, map, get_or, set, length-drop, drop-cons, add-one, ◌+◌, Some, None, Ok, Err, Result, MatchResult, sym, ap, subst, refl, ◌⊎◌, inl, inr, ◌∙◌, arith, ◌++◌, drop, take}
 use Rattle.std.specs.Bool.{OnTrue, ◌==◌}
 use Rattle.std.specs.List.{insert, slice_get, AllWithin, AllByRecursion}
-use Rattle.std.specs.List.Sorted.{IsSearchInRange, IsBinarySearchResult, IsNonDecreasingBy}
+use Rattle.std.specs.List.Sorted.{IsSearchInRange, IsBinarySearchResult, IsNonDecreasingBy, IsStrictlySortedBy}
+use Rattle.std.specs.Cmp.{IsTotalOrder}
 use Rattle.std.specs.Ordering.{ordering_index, ordering_reverse, is_lt, is_eq}
 use Rattle.std.specs.declared.cmp.Ordering.{Ordering}
 use Rattle.std.specs.declared.cmp.Ordering.TheVariants.{Less, Equal, Greater}
 use Rattle.std.proofs.lemmas.Cmp.{nat_list_cmp_total}
 use Rattle.std.specs.FinMap.{find, put, entries-from_sorted, entries_sorted, from_sorted, entries, entries-insert, same_entries_map, slice_cmp-IsAntisymmetric, nat_cmp-IsAntisymmetric, insert as map_insert, empty, len, len-entries, len-empty}
-use Rattle.std.specs.FinMap.Entries.{below_all, by_order, is_sorted-put}
+use Rattle.std.specs.FinMap.Entries.{below_all, by_order, is_sorted, is_sorted-put, where_key}
 use Rattle.std.proofs.lemmas.List.{get_or_default}
 use Rattle.std.proofs.lemmas.Option.{get_or_from_slice_get, slice_get_within}
-use Rattle.lake_base.specs.Maps.{byte_order, ByteMap, HasAscendingKeys, IsAt, IsGap, IsParted}
+use Rattle.lake_base.specs.Maps.{byte_order, ByteMap, HasAscendingKeys, IsAt, IsGap}
 
 pub first : (a b : Bool) → T (a && b) → T a
 first true b h = tt
@@ -185,56 +186,6 @@ module _ {X : Type 0} where
   pub map_none : from_sorted {K = List ℕ} {X = X} {R = byte_order} [] ≡ empty
   map_none = same_entries_map _ _ (entries-from_sorted byte_order [] tt ∙ sym (nothing _ (sym (len-entries empty) ∙ len-empty byte_order X)))
 
-  -- ---- parts
-
-  all_above : (p : List ℕ) (es : List (List ℕ × X)) → T (below_all byte_order p es) → AllByRecursion (λ e. byte_order p e.0 ≡ Less) es
-  all_above p [] h = tt
-  all_above p (e ∷ es) h = (less _ (first _ _ h), all_above p es (second _ _ h))
-
-  gap_above : (p : List ℕ) (es : List (List ℕ × X)) → AllWithin (λ item. byte_order item.0 p ≡ Greater) es 0 (length es) → AllByRecursion (λ e. byte_order p e.0 ≡ Less) es
-  gap_above p [] h = tt
-  gap_above p (e ∷ es) h = (turned e.0 p Greater (h 0 e (omega arith) (omega arith)), gap_above p es (λ i d low high. h (suc i) d (omega arith) (omega arith)))
-
-  parted_cons : (e : List ℕ × X) (es low high : List (List ℕ × X)) (p : List ℕ) → byte_order e.0 p ≡ Less → IsParted es p low high → IsParted (e ∷ es) p (e ∷ low) high
-  parted_cons e es low high p lt parts = record {
-    lower = (lt, parts.lower);
-    higher = parts.higher;
-    whole = elim parts.whole as (λ _. (e ∷ es ≡ e ∷ low ++ high) ⊎ ((x : X) × (e ∷ es ≡ e ∷ low ++ (p, x) ∷ high))) [
-      | inl is ↦ inl (ap (λ l. e ∷ l) is)
-      | inr is ↦ inr (is.0, ap (λ l. e ∷ l) is.1)
-    ];
-  }
-
-  pub parted_at : (es : List (List ℕ × X)) (p : List ℕ) (at : ℕ) → HasAscendingKeys es → IsAt es p at → IsParted es p (take at es) (drop (suc at) es)
-  parted_at [] p at h is = absurd (omega (arith, is.within))
-  parted_at (e ∷ es) p zero h is =
-      let same = same_key e.0 p (is.same e) in
-      record {
-        lower = tt;
-        higher = all_above p es (subst (λ k. T (below_all byte_order k es)) same (head_below e es h));
-        whole = inr (e.1, ap (λ k. (k, e.1) ∷ es) same);
-      }
-  parted_at (e ∷ es) p (suc at) h is =
-      let same = same_key _ p (is.same e) in
-      let lt : byte_order e.0 p ≡ Less = subst (λ q. byte_order e.0 q ≡ Less) same (below_at e.0 es at e (head_below e es h) (omega (arith, is.within))) in
-      parted_cons e es _ _ p lt (parted_at es p at (tail_ascends e es h) (record { within = omega (arith, is.within); same = λ d. is.same d }))
-
-  pub parted_gap : (es : List (List ℕ × X)) (p : List ℕ) (at : ℕ) → IsGap es p at → IsParted es p (take at es) (drop at es)
-  parted_gap [] p zero gap = record { lower = tt; higher = tt; whole = inl refl }
-  parted_gap [] p (suc at) gap = absurd (omega (arith, gap.within))
-  parted_gap (e ∷ es) p zero gap = record { lower = tt; higher = gap_above p (e ∷ es) (λ i d low high. gap.from i d low high); whole = inl refl }
-  parted_gap (e ∷ es) p (suc at) gap = parted_cons e es _ _ p (gap.before 0 e (omega arith) (omega arith)) (parted_gap es p at (gap_tail e es p at gap))
-
-  ascends_back : (low high : List (List ℕ × X)) → HasAscendingKeys (low ++ high) → HasAscendingKeys high
-  ascends_back [] high h = h
-  ascends_back (e ∷ low) high h = ascends_back low high (tail_ascends e (low ++ high) h)
-
-  pub high_ascends : (es low high : List (List ℕ × X)) (p : List ℕ) → HasAscendingKeys es → IsParted es p low high → HasAscendingKeys high
-  high_ascends es low high p h parts = elim parts.whole as (λ _. HasAscendingKeys high) [
-    | inl is ↦ ascends_back low high (subst HasAscendingKeys is h)
-    | inr is ↦ tail_ascends (p, is.0) high (ascends_back low ((p, is.0) ∷ high) (subst HasAscendingKeys is.1 h))
-  ]
-
   pub ascends_drop : (i : ℕ) (es : List (List ℕ × X)) → HasAscendingKeys es → HasAscendingKeys (drop i es)
   ascends_drop zero es h = h
   ascends_drop (suc i) [] h = h
@@ -258,3 +209,100 @@ pub tied : (o : Ordering) → is_eq o ≡ true → o ≡ Equal
 tied Less e = cc
 tied Equal e = refl
 tied Greater e = cc
+
+-- ---- the two ways to say that keys ascend
+module _ {X : Type 0} where
+  abbrev keys : List (List ℕ × X) → List (List ℕ)
+  keys es = map (λ e. e.0) es
+
+  below_from : (k : List ℕ) (es : List (List ℕ × X)) → AllByRecursion (λ y. byte_order k y ≡ Less) (keys es) → T (below_all byte_order k es)
+  below_from k [] h = tt
+  below_from k (e ∷ es) h = both _ _ (subst (λ r. T (is_lt r)) (sym h.0) tt) (below_from k es h.1)
+
+  below_to : (k : List ℕ) (es : List (List ℕ × X)) → T (below_all byte_order k es) → AllByRecursion (λ y. byte_order k y ≡ Less) (keys es)
+  below_to k [] h = tt
+  below_to k (e ∷ es) h = (less _ (first _ _ h), below_to k es (second _ _ h))
+
+  pub ascend_from : (es : List (List ℕ × X)) → IsStrictlySortedBy byte_order (keys es) → HasAscendingKeys es
+  unfolding IsStrictlySortedBy
+  ascend_from [] h = tt
+  ascend_from (e ∷ es) h = both _ _ (below_from e.0 es h.0) (ascend_from es h.1)
+
+  pub ascend_to : (es : List (List ℕ × X)) → HasAscendingKeys es → IsStrictlySortedBy byte_order (keys es)
+  unfolding IsStrictlySortedBy
+  ascend_to [] h = tt
+  ascend_to (e ∷ es) h = (below_to e.0 es (first _ _ h), ascend_to es (second _ _ h))
+
+-- ---- a walk over neighbours
+module _ {K X : Type 0} {R : K → K → Ordering} (o : IsTotalOrder R) where
+  lower_still : (a b : K) (es : List (K × X)) → R a b ≡ Less → T (below_all R b es) → T (below_all R a es)
+  lower_still a b [] lt h = tt
+  lower_still a b (e ∷ es) lt h =
+      both _ _ (subst (λ r. T (is_lt r)) (sym (o.trans a b e.0 lt (less _ (first _ _ h)))) tt) (lower_still a b es lt (second _ _ h))
+
+  -- keys ascend where the first is below the second and the rest ascend
+  neighbours : (x y : K × X) (es : List (K × X)) → (T (is_lt (R x.0 y.0)) → T (is_sorted R (y ∷ es)) → T (is_sorted R (x ∷ y ∷ es))) × (T (is_sorted R (x ∷ y ∷ es)) → T (is_lt (R x.0 y.0)) × T (is_sorted R (y ∷ es)))
+  neighbours x y es = (
+    λ lt h. both _ _ (both _ _ lt (lower_still x.0 y.0 es (less _ lt) (first _ _ h))) h,
+    λ h. (first _ _ (first _ _ h), second _ _ h),
+  )
+
+  two_at : (items : List (K × X)) (at : ℕ) (x y : K × X) → 1 ≤ at → at < length items → x ≡ get_or items (at - 1) x → y ≡ get_or items at y
+      → (drop (at - 1) items ≡ x ∷ y ∷ drop (at + 1) items) × (drop at items ≡ y ∷ drop (at + 1) items)
+  two_at items at x y some lt is other =
+      let next : drop at items ≡ y ∷ drop (at + 1) items = rw add-one (drop-cons items at y lt ∙ ap (λ z. z ∷ drop (suc at) items) (sym other)) in
+      let here : drop (at - 1) items ≡ x ∷ drop (suc (at - 1)) items = drop-cons items (at - 1) x (omega arith) ∙ ap (λ z. z ∷ drop (suc (at - 1)) items) (sym is) in
+      let same : suc (at - 1) ≡ at = omega arith in
+      (here ∙ ap (λ n. x ∷ drop n items) same ∙ ap (λ l. x ∷ l) next, next)
+
+  -- from here on the keys ascend just where all do
+  pub record TellsAll (items rest : List (K × X)) : Type 0 where
+    pub all : T (is_sorted R rest) → T (is_sorted R items)
+    pub rest_too : T (is_sorted R items) → T (is_sorted R rest)
+
+  -- how the keys at two places compare
+  pub compared : (items : List (K × X)) (at : ℕ) (x y : K × X) (r : Ordering) → x ≡ get_or items (at - 1) x → y ≡ get_or items at y → r ≡ R (get_or items (at - 1) x).0 (get_or items at y).0 → r ≡ R x.0 y.0
+  compared items at x y r is other e = e ∙ (λ i. R (sym is i).0 (sym other i).0)
+
+  pub next_tells : (items : List (K × X)) (at : ℕ) (x y : K × X) → 1 ≤ at → at < length items → x ≡ get_or items (at - 1) x → y ≡ get_or items at y
+      → T (is_lt (R x.0 y.0)) → TellsAll items (drop (at - 1) items) → TellsAll items (drop at items)
+  next_tells items at x y some lt is other below tells =
+      let two = two_at items at x y some lt is other in
+      let tests = neighbours x y (drop (at + 1) items) in
+      record {
+        all = λ h. tells.all (subst (λ l. T (is_sorted R l)) (sym two.0) (tests.0 below (subst (λ l. T (is_sorted R l)) two.1 h)));
+        rest_too = λ h. subst (λ l. T (is_sorted R l)) (sym two.1) (tests.1 (subst (λ l. T (is_sorted R l)) two.0 (tells.rest_too h))).1;
+      }
+
+  pub stray_tells : (items : List (K × X)) (at : ℕ) (x y : K × X) → 1 ≤ at → at < length items → x ≡ get_or items (at - 1) x → y ≡ get_or items at y
+      → (T (is_lt (R x.0 y.0)) → ⊥) → TellsAll items (drop (at - 1) items) → T (is_sorted R items) → ⊥
+  stray_tells items at x y some lt is other above tells h =
+      let two = two_at items at x y some lt is other in
+      above ((neighbours x y (drop (at + 1) items)).1 (subst (λ l. T (is_sorted R l)) two.0 (tells.rest_too h))).0
+
+  last_sorted : (rest : List (K × X)) → length rest ≤ 1 → T (is_sorted R rest)
+  last_sorted [] h = tt
+  last_sorted (x ∷ []) h = tt
+  last_sorted (x ∷ y ∷ rest) h = absurd (omega arith)
+
+  pub end_tells : (items : List (K × X)) (at : ℕ) → length items ≤ at + 1 → TellsAll items (drop at items) → T (is_sorted R items)
+  end_tells items at h tells = tells.all (last_sorted (drop at items) (omega (arith, length-drop at items)))
+
+-- a test of each key holds of a list with another value at a key of which it holds
+pub all_put : {X : Type 0} (P : List ℕ → Type 0) (k : List ℕ) (v : X) (es : List (List ℕ × X)) → P k → AllByRecursion (λ row. P row.0) es → AllByRecursion (λ row. P row.0) (put byte_order k v es)
+all_put P k v [] one all = (one, tt)
+all_put P k v (e ∷ es) one all =
+    elim (byte_order k e.0) as (λ r. AllByRecursion (λ row. P row.0) (by_order r ((k, v) ∷ e ∷ es) ((e.0, v) ∷ es) (e ∷ put byte_order k v es))) [
+      | Less ↦ (one, all)
+      | Equal ↦ all
+      | Greater ↦ (all.0, all_put P k v es one all.1)
+    ]
+
+-- and of what a filter leaves
+pub all_where : {X : Type 0} (P : List ℕ → Type 0) (p : List ℕ → Bool) (es : List (List ℕ × X)) → AllByRecursion (λ row. P row.0) es → AllByRecursion (λ row. P row.0) (where_key byte_order p es)
+all_where P p [] all = tt
+all_where P p (e ∷ es) all =
+    elim (p e.0) as (λ b. AllByRecursion (λ row. P row.0) (cond b (e ∷ where_key byte_order p es) (where_key byte_order p es))) [
+      | true ↦ (all.0, all_where P p es all.1)
+      | false ↦ all_where P p es all.1
+    ]

@@ -13,29 +13,9 @@ use Rattle.lake_base.specs.Maps.{byte_order, HasAscendingKeys, IsAt, IsGap}
 use Rattle.lake_base.specs.Pairs.{IsPair, ArePairs, room_fault}
 use Rattle.lake_base.specs.declared.pairs.PairsFault.{PairsFault}
 use Rattle.lake_base.specs.declared.pairs.PairsFault.TheVariants.{Full}
-use Rattle.lake_base.proofs.MapsLemmas.{first, second, both, less, find_at, find_gap}
+use Rattle.lake_base.proofs.MapsLemmas.{find_at, find_gap}
 
-abbrev keys : List (List ℕ × List ℕ) → List (List ℕ)
-keys pairs = map (λ pair. pair.0) pairs
-
-below_from : (k : List ℕ) (es : List (List ℕ × List ℕ)) → AllByRecursion (λ y. byte_order k y ≡ Less) (keys es) → T (below_all byte_order k es)
-below_from k [] h = tt
-below_from k (e ∷ es) h = both _ _ (subst (λ r. T (is_lt r)) (sym h.0) tt) (below_from k es h.1)
-
-below_to : (k : List ℕ) (es : List (List ℕ × List ℕ)) → T (below_all byte_order k es) → AllByRecursion (λ y. byte_order k y ≡ Less) (keys es)
-below_to k [] h = tt
-below_to k (e ∷ es) h = (less _ (first _ _ h), below_to k es (second _ _ h))
-
--- the two ways to say that keys ascend
-pub ascend_from : (es : List (List ℕ × List ℕ)) → IsStrictlySortedBy byte_order (keys es) → HasAscendingKeys es
-unfolding IsStrictlySortedBy
-ascend_from [] h = tt
-ascend_from (e ∷ es) h = both _ _ (below_from e.0 es h.0) (ascend_from es h.1)
-
-pub ascend_to : (es : List (List ℕ × List ℕ)) → HasAscendingKeys es → IsStrictlySortedBy byte_order (keys es)
-unfolding IsStrictlySortedBy
-ascend_to [] h = tt
-ascend_to (e ∷ es) h = (below_to e.0 es (first _ _ h), ascend_to es (second _ _ h))
+pub use Rattle.lake_base.proofs.MapsLemmas.{ascend_from, ascend_to}
 
 each_put : (k v : List ℕ) (es : List (List ℕ × List ℕ)) → AllByRecursion IsPair es → IsPair (k, v) → AllByRecursion IsPair (put byte_order k v es)
 each_put k v [] all one = (one, tt)

@@ -1,6 +1,6 @@
 -- Finite maps whose keys are byte lists, in byte order, and where a key stands in their lists.
-use Rattle.std.specs.Prelude.{◌≡◌, ◌≤◌, ◌<◌, ◌⊎◌, ℕ, T, List, ◌∷◌, ◌++◌, length}
-use Rattle.std.specs.List.{HoldsAt, AllWithin, AllByRecursion}
+use Rattle.std.specs.Prelude.{◌≡◌, ◌≤◌, ◌<◌, ℕ, T, List, length}
+use Rattle.std.specs.List.{HoldsAt, AllWithin}
 use Rattle.std.specs.List.Sorted.{IsStrictlySortedBy}
 use Rattle.std.specs.Ordering.{nat_cmp}
 use Rattle.std.specs.declared.cmp.Ordering.{Ordering}
@@ -34,9 +34,3 @@ pub record IsGap {X : Type 0} (items : List (List ℕ × X)) (key : List ℕ) (a
   pub within : at ≤ length items
   pub before : AllWithin (λ item. byte_order item.0 key ≡ Less) items 0 at
   pub from : AllWithin (λ item. byte_order item.0 key ≡ Greater) items at (length items)
-
--- the items below a key, and those above it, of a list whose keys ascend
-pub record IsParted {X : Type 0} (items : List (List ℕ × X)) (key : List ℕ) (low high : List (List ℕ × X)) : Type 0 where
-  pub lower : AllByRecursion (λ item. byte_order item.0 key ≡ Less) low
-  pub higher : AllByRecursion (λ item. byte_order key item.0 ≡ Less) high
-  pub whole : (items ≡ low ++ high) ⊎ ((x : X) × (items ≡ low ++ (key, x) ∷ high))

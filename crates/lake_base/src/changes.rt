@@ -69,6 +69,7 @@ impl Changes {
     /// The changes in order of path. It takes no memory.
     pub fn as_slice(&self) -> &[(Path, Change)]
         ensures changes { result.now ≡ map.entries self.now }
+        ensures ascend { HasAscendingKeys result.now }
         ensures paths { HasPathKeys result.now }
     {
         self.changes.as_slice()

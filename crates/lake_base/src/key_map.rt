@@ -68,6 +68,7 @@ impl KeyMap {
     /// The entries in order of path. It takes no memory.
     pub fn as_slice(&self) -> &[(Path, Entry)]
         ensures entries { result.now ≡ map.entries self.now }
+        ensures ascend { HasAscendingKeys result.now }
         ensures paths { HasPathKeys result.now }
     {
         self.entries.as_slice()

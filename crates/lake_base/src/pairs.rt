@@ -1,5 +1,5 @@
 //! Metadata: pairs of a key and a value.
-ghost use Rattle.std.specs.Prelude.{◌≡◌, ◌↔◌, [], IsTrue, OnErr, MatchResult};
+ghost use Rattle.std.specs.Prelude.{◌≡◌, ◌↔◌, [], All, IsTrue, OnErr, MatchResult};
 ghost use Rattle.std.specs.FinMap.{put};
 ghost use Rattle.lake_base.specs.Maps.{byte_order, HasAscendingKeys, IsAt, IsGap};
 ghost use Rattle.lake_base.specs.Pairs.{IsPair, ArePairs, pair_fault, room_fault, Sets};
@@ -120,7 +120,22 @@ impl TryCopy for Pairs {
 pub fn are_pairs(pairs: &[(Text, Text)]) -> bool
     ensures { IsTrue result ↔ ArePairs pairs.now }
 {
-    pairs.len() <= PAIRS_LIMIT && pairs.iter().all(is_pair) && has_ascending_keys(pairs)
+    if pairs.len() > PAIRS_LIMIT {
+        return false;
+    }
+    are_each_pairs(pairs) && has_ascending_keys(pairs)
+}
+
+// Whether each pair is within the limits of one.
+fn are_each_pairs(pairs: &[(Text, Text)]) -> bool
+    ensures { IsTrue result ↔ All IsPair pairs.now }
+{
+    for pair in pairs {
+        if !is_pair(pair) {
+            return false;
+        }
+    }
+    true
 }
 
 // Whether a pair is within the limits of one.

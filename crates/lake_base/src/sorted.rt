@@ -16,7 +16,7 @@ pub fn has_ascending_keys<K: Ord, X>(items: &[(K, X)]) -> bool
     ensures { IsTrue result ↔ T (is_sorted K.cmp items.now) }
 {
     for at in 1..items.len() {
-        if items[at - 1].0 >= items[at].0 {
+        if !items[at - 1].0.cmp(&items[at].0).is_lt() {
             return false;
         }
     }

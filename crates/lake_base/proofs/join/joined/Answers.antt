@@ -1,5 +1,4 @@
-use Rattle.std.proofs.Common.{◌≡◌, ◌++◌, ap, sym, subst, ◌∙◌, None}
-use Rattle.lake_base.specs.Join.{rows_at}
+use Rattle.std.proofs.Common.{◌≡◌, subst, None}
 use Rattle.lake_base.specs.KeyMap.{HasPathKeys}
 use Rattle.lake_base.specs.Maps.{HasAscendingKeys}
 use Rattle.lake_base.specs.Names.{path_fault}
@@ -13,8 +12,8 @@ loop-front-preserved g c =
       left = rest_ascends c.in-Some.front.path.now _ c.in-Some.front.left_rest.now (subst HasAscendingKeys front.left_is c.loop-front.invariant.left);
       right = rest_ascends c.in-Some.front.path.now _ c.in-Some.front.right_rest.now (subst HasAscendingKeys front.right_is c.loop-front.invariant.right);
       paths = rw c.in_ok-push.ensures.pushed (all_append (λ row. path_fault row.0 ≡ None) c.loop-front.items.items _ c.loop-front.invariant.paths c.in_ok-push.ensures.paths);
-      whole = join_turn g.J.Join.value g.met.J.Join.nothing c.args.left.now c.loop-front.left_rest.now _ c.args.right.now c.loop-front.right_rest.now _ c.in-Some.front.path.now _ _ c.loop-front.items.items _
-          front (c.in_ok-push.ensures.pushed ∙ ap (λ v. c.loop-front.items.items ++ rows_at c.in-Some.front.path.now v) c.in_ok-value.ensures) c.loop-front.invariant.whole;
+      whole = join_turn g.J.Join.value g.met.J.Join.nothing c.args.left.now c.loop-front.left_rest.now _ c.args.right.now c.loop-front.right_rest.now _ c.in-Some.front.path.now _ _ c.in_ok-value.value c.loop-front.items.items _
+          front c.in_ok-value.ensures c.in_ok-push.ensures.pushed c.loop-front.invariant.whole;
     }
 
 pub returns-clause-ascend : goal.returns-clause-ascend

@@ -15,7 +15,7 @@ pub returns-in_default : goal.returns-in_default
 returns-in_default c =
     let old = c.args.items.now.items in
     let room : length old < c.args.query.now.amount = subst (λ l. length l < c.args.query.now.amount) c.as_slice.ensures.value c.if-as_slice-query.false in
-    rw (c.in_ok-push.ensures.items, c.in_ok-path.ensures.equal, c.in_ok-entry.ensures, c.split_at.ensures.back) (visit_object c.args.query.now old c.args.rest.now c.index-rest-0.result c.requires.rest c.requires.under c.index-rest-0.is (sym c.in_default.ensures.name) room)
+    rw (c.in_ok-push.ensures.items, c.in_ok-path.ensures.equal, c.in_ok-entry.ensures.equal, c.split_at.ensures.back) (visit_object c.args.query.now old c.args.rest.now c.index-rest-0.result c.requires.rest c.requires.under c.index-rest-0.is (sym c.in_default.ensures.name) room)
 
 pub past-left-requires-clause-first : goal.past-left-requires-clause-first
 past-left-requires-clause-first c =

@@ -9,5 +9,5 @@ pub returns-clause-set : goal.returns-clause-set
 returns-clause-set c =
     on_ok_weaker c.put_at.result (λ e.
     ap (from_sorted {R = byte_order}) e
-    ∙ map_put c.self.inside.changes.items c.args.path c.args.change c.self.invariant
+    ∙ map_put c.self.inside.changes.items c.args.path c.args.change c.self.invariant.0
     ∙ ap (λ m. insert m c.args.path c.args.change) c.self.view_is) c.put_at.ensures.put
