@@ -16,7 +16,6 @@ use Rattle.lake_base.specs.declared.entry.Change.{Change}
 use Rattle.lake_base.specs.declared.entry.Change.TheVariants.{Put, Delete}
 use Rattle.lake_base.proofs.MapsLemmas.{head_below, tail_ascends, same_key, both, less_more, find_none, tied}
 use Rattle.lake_base.proofs.SamenessLemmas.{same_entry_decides}
-
 pub use Rattle.lake_base.proofs.MapsLemmas.{less_more}
 
 -- the word of a change at q, and of those after it

@@ -14,7 +14,6 @@ use Rattle.lake_base.specs.Pairs.{IsPair, ArePairs, room_fault}
 use Rattle.lake_base.specs.declared.pairs.PairsFault.{PairsFault}
 use Rattle.lake_base.specs.declared.pairs.PairsFault.TheVariants.{Full}
 use Rattle.lake_base.proofs.MapsLemmas.{find_at, find_gap}
-
 pub use Rattle.lake_base.proofs.MapsLemmas.{ascend_from, ascend_to}
 
 each_put : (k v : List ℕ) (es : List (List ℕ × List ℕ)) → AllByRecursion IsPair es → IsPair (k, v) → AllByRecursion IsPair (put byte_order k v es)

@@ -130,7 +130,9 @@ struct Overlay;
 
 impl Join for Overlay {
     type Left = Change;
+
     type Right = Change;
+
     type Value = Change;
 
     ghost value = { option_or };

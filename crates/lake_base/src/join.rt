@@ -14,7 +14,9 @@ use std::cmp::Ordering;
 // What a join leaves at a path, from what the two lists have there.
 pub(crate) trait Join {
     type Left;
+
     type Right;
+
     type Value: Drop;
 
     ghost value: { Option Self.Left → Option Self.Right → Option Self.Value };
@@ -41,10 +43,7 @@ struct Front<'a, A, B> {
 }
 
 // The front of two lists.
-fn front_of<'a, A, B>(
-    left: &'a [(Path, A)],
-    right: &'a [(Path, B)],
-) -> Option<Front<'a, A, B>>
+fn front_of<'a, A, B>(left: &'a [(Path, A)], right: &'a [(Path, B)]) -> Option<Front<'a, A, B>>
     requires left { HasAscendingKeys left.now }
     requires right { HasAscendingKeys right.now }
     ensures { MatchOption result ((left.now ≡ []) × (right.now ≡ [])) (λ front.

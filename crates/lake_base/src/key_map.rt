@@ -160,7 +160,9 @@ struct Applied;
 
 impl Join for Applied {
     type Left = Entry;
+
     type Right = Change;
+
     type Value = Entry;
 
     ghost value = { λ had change. value_after change had };
@@ -185,7 +187,9 @@ struct Difference;
 
 impl Join for Difference {
     type Left = Entry;
+
     type Right = Entry;
+
     type Value = Change;
 
     ghost value = { change_between };

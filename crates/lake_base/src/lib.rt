@@ -46,6 +46,8 @@ pub mod retention;
 pub mod sequence;
 pub mod settings;
 mod sorted;
+#[cfg(test)]
+mod tests;
 pub mod text;
 pub mod threads;
 
@@ -56,7 +58,7 @@ pub use copying::TryCopy;
 pub use cut::{Cut, USUAL_CUT};
 pub use digest::Digest;
 pub use encoding::{entry_bytes, entry_read, own_address};
-pub use entry::{Change, Entry, Place};
+pub use entry::{Change, Entry, Place, same_entry};
 pub use fields::EntryFault;
 pub use key_map::KeyMap;
 pub use listing::{Item, Page, PageQuery};

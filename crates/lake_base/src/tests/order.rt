@@ -1,0 +1,89 @@
+// The order of names, by their bytes and not by their length.
+ghost use Rattle.std.specs.Prelude.{◌≡◌, Some, IfOk};
+
+use super::*;
+use std::cmp::Ordering;
+use std::collections::BTreeMap;
+
+#[test]
+fn names_are_ordered_by_bytes(rt: HostRuntime) -> Result<(), Fail> {
+    let alloc = rt.alloc();
+    for (name, other, order) in [
+        (b"b".as_slice(), b"aa".as_slice(), Ordering::Greater),
+        (b"a", b"aa", Ordering::Less),
+        (b"Z", b"a", Ordering::Less),
+        (b"a", b"a", Ordering::Equal),
+    ] {
+        assert_eq!(rt;
+            Path::read(alloc, name)?.cmp(&Path::read(alloc, other)?),
+            order
+        );
+        assert_eq!(rt;
+            RefName::read(alloc, name)?.cmp(&RefName::read(alloc, other)?),
+            order
+        );
+        assert_eq!(rt;
+            text(alloc, name)?.partial_cmp(&text(alloc, other)?),
+            Some(order)
+        );
+        assert_eq!(rt; text(alloc, name)? == text(alloc, other)?, order.is_eq());
+    }
+    Ok(())
+}
+
+#[test]
+fn repositories_and_digests_are_ordered_by_bytes(rt: HostRuntime) -> Result<(), Fail> {
+    let alloc = rt.alloc();
+    assert!(rt; RepoName::read(alloc, b"baa")? > RepoName::read(alloc, b"aaaa")?);
+    assert!(rt; Digest([1; 32]) < Digest([2; 32]));
+    Ok(())
+}
+
+// What a map has at a path after it was put there.
+fn counted(alloc: Global, path: &Path, count: u64) -> Result<Option<u64>, NoMemory>
+    ensures { IfOk result (λ found. found ≡ Some count) }
+{
+    let mut counts = BTreeMap::new(alloc);
+    counts.insert(path.copy(alloc)?, count)?;
+    Ok(counts.get(path).copied())
+}
+
+#[test]
+fn paths_are_keys(rt: HostRuntime) -> Result<(), Fail> {
+    let path = Path::read(rt.alloc(), b"a/b")?;
+    assert_eq!(rt; counted(rt.alloc(), &path, 3)?, Some(3));
+    Ok(())
+}
+
+// Changes as a search tree and back.
+fn through_a_tree(alloc: Global, changes: Changes) -> Result<Option<Changes>, NoMemory> {
+    let mut tree = BTreeMap::new(alloc);
+    for (path, change) in changes.into_vec() {
+        tree.insert(path, change)?;
+    }
+    let mut rows = Vec::new(alloc);
+    for row in tree {
+        rows.push(row)?;
+    }
+    if !has_ascending_keys(rows.as_slice()) {
+        return Ok(None);
+    }
+    Ok(Some(Changes::from_vec(rows)))
+}
+
+#[test]
+fn changes_go_through_a_tree(rt: HostRuntime) -> Result<(), Fail> {
+    let alloc = rt.alloc();
+    let mut changes = Changes::new(alloc);
+    changes.set(Path::read(alloc, b"b")?, Change::Delete)?;
+    changes.set(Path::read(alloc, b"aa")?, Change::Delete)?;
+    let Some(changes) = through_a_tree(alloc, changes)? else {
+        return Ok(assert!(rt; false));
+    };
+    let [first, second] = changes.as_slice() else {
+        return Ok(assert!(rt; false));
+    };
+    assert_eq!(rt; first.0.as_str(), "aa");
+    assert_eq!(rt; second.0.as_str(), "b");
+    Ok(())
+}
