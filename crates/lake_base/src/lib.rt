@@ -2,11 +2,12 @@
 //! bytes, and the traits of the outside. What the crates above share of merges, graphs, trees and rules is
 //! defined here, in `specs/`; the crate `lake_reference` has plain, slow functions by these definitions.
 //!
-//! - `text`, `names`: texts, paths and the names of repositories, branches and tags, each read from bytes.
+//! - `text`, `names`: texts, paths and the names of repositories, branches and tags, each read from bytes;
+//!   `order`: they are ordered by their bytes; `limits`: how long they may be.
 //! - `digest`: SHA-256.
-//! - `sequence`: a vector that contracts see as a list.
+//! - `sequence`: a vector that contracts see as a list; `copying`: copies, which take memory.
 //! - `pairs`, `entry`, `changes`, `key_map`: metadata, what stands at a path, what is put and deleted, and maps;
-//!   `sorted`: where a path stands in a list of either.
+//!   `sorted`: where a path stands in a list of either; `join`: one walk over two such lists.
 //! - `listing`: pages of a map under a prefix and a delimiter.
 //! - `commit`, `settings`: commits, and the settings of a repository, within their limits; `retention`: the
 //!   moment up to which a branch keeps what it has left behind.

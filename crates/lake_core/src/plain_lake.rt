@@ -8,7 +8,7 @@ ghost use Rattle.lake_model.specs.Legal.{IsLegal, HasTicket, given};
 ghost use Rattle.lake_model.specs.Reply.{Gives, look_reply, versions_reply, ticket_reply, drop_reply, stage_reply, found_in, shown_by, full_refusal, branch_refusal, version_refusal};
 ghost use Rattle.lake_model.specs.declared.history.EntryKind.TheVariants.{TicketTake, TicketDrop, Stage};
 
-use lake_base::{Change, Changes, Entry, NoMemory, Path, Place, RefName, RepoName};
+use lake_base::{Change, Changes, Entry, NoMemory, Path, Place, RefName, RepoName, TryCopy};
 use lake_model::history::HISTORY_LIMIT;
 use lake_model::{
     By, EntryKind, FIRST_BRANCH, FIRST_REPO, HistoryEntry, Seen, StepFault, Versions,

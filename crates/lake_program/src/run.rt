@@ -1,7 +1,7 @@
 //! The program as one call.
 ghost use Rattle.std.specs.Prelude.{◌≡◌, ◌≢◌, ◌≤◌, ◌<◌, ◌^◌, ◌⊎◌, ◌++◌, ◌↔◌, ℕ, List, IfSome, IsSome, IsNone, if◌then◌else◌};
 ghost use Rattle.lake_base.specs.Outside.{Rose, Quiet};
-ghost use Rattle.lake_base.specs.declared.names.TheConstants.{PATH_LIMIT};
+ghost use Rattle.lake_base.specs.declared.limits.TheConstants.{PATH_LIMIT};
 ghost use Rattle.lake_model.specs.declared.history.TheConstants.{HISTORY_LIMIT};
 ghost use Rattle.lake_program.specs.declared.word.TheConstants.{LINE_LIMIT};
 ghost use Rattle.lake_program.specs.Words.{timing_of};

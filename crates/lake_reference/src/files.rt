@@ -17,6 +17,7 @@ ghost use Rattle.lake_base.specs.Digest.{sha256};
 ghost use Rattle.lake_base.specs.Maps.{HasAscendingKeys};
 ghost use Rattle.lake_base.specs.Spelling.{row_spelling, range_spelling, line_of, line_spelling, metarange_spelling, commit_spelling, commit_id, IsDigest, IsRow, IsRange, IsSpan, AreInOrder, IsLine, IsMetarange, IsSpelledCommit};
 
+use lake_base::TryCopy;
 use lake_base::commit::{CommitId, CommitRecord};
 use lake_base::cut::{Cut, first_range};
 use lake_base::digest::Digest;

