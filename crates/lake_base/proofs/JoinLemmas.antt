@@ -1,16 +1,14 @@
 -- The join of two sorted lists, front by front.
-use Rattle.std.proofs.Common.{◌≡◌, ℕ, suc, ◌+◌, ◌<◌, Bool, true, false, cond, T, List, [], ◌∷◌, ◌++◌, ◌-◌, length, get_or, take, drop, length-drop, Option, Some, None, refl, sym, ap, subst, ◌∙◌, append_assoc, append-nil, arith}
+use Rattle.std.proofs.Common.{◌≡◌, ℕ, ◌<◌, Bool, true, false, cond, T, List, [], ◌∷◌, ◌++◌, ◌-◌, length, get_or, take, drop, length-drop, Option, Some, None, refl, sym, ap, subst, ◌∙◌, append_assoc, append-nil, arith}
 use Rattle.std.specs.List.{AllByRecursion}
-use Rattle.std.specs.Ordering.{is_eq, is_lt, eq_by_cmp}
-use Rattle.std.specs.declared.cmp.Ordering.{Ordering}
-use Rattle.std.specs.declared.cmp.Ordering.TheVariants.{Less, Equal, Greater}
-use Rattle.std.proofs.lemmas.Cmp.{nat_list_cmp_total}
+use Rattle.std.specs.Ordering.{is_lt, eq_by_cmp}
+use Rattle.std.specs.declared.cmp.Ordering.TheVariants.{Less, Equal}
 use Rattle.std.proofs.lemmas.List.{take_all}
 use Rattle.std.specs.FinMap.{find}
 use Rattle.std.specs.FinMap.Entries.{below_all}
 use Rattle.lake_base.specs.Join.{IsFront, IsJoin, rows_at}
 use Rattle.lake_base.specs.Maps.{byte_order, HasAscendingKeys}
-use Rattle.lake_base.proofs.MapsLemmas.{both, first, second, head_below, tail_ascends, same_key, turned, less_more, find_none, tied}
+use Rattle.lake_base.proofs.MapsLemmas.{both, first, second, head_below, tail_ascends, same_key, less_more, find_none, tied}
 
 -- what is made, before any join of the rests, is a join of the lists
 abbrev pub JoinsRest : {A B C : Type 0} → (Option A → Option B → Option C) → List (List ℕ × A) → List (List ℕ × B) → List (List ℕ × A) → List (List ℕ × B) → List (List ℕ × C) → Type 0

@@ -1,5 +1,5 @@
 -- What a search finds in a list whose keys ascend, and what an edit at that place does.
-use Rattle.std.proofs.Common.{◌≡◌, ℕ, zero, suc, ◌-◌, ◌<◌, ◌≤◌, ◌&&◌, Bool, true, false, cond, T, List, [], ◌∷◌, length, map, get_or, set, length-drop, drop-cons, add-one, ◌+◌, Some, None, Ok, Err, Result, MatchResult, sym, ap, subst, refl, ◌⊎◌, inl, inr, ◌∙◌, arith, ◌++◌, drop, take}
+use Rattle.std.proofs.Common.{◌≡◌, ℕ, zero, suc, ◌-◌, ◌<◌, ◌≤◌, ◌&&◌, Bool, true, false, cond, T, List, [], ◌∷◌, length, map, get_or, set, length-drop, drop-cons, add-one, ◌+◌, Some, None, Ok, Err, Result, MatchResult, sym, ap, subst, refl, ◌∙◌, arith, drop}
 use Rattle.std.specs.Bool.{OnTrue, ◌==◌}
 use Rattle.std.specs.List.{insert, slice_get, AllWithin, AllByRecursion}
 use Rattle.std.specs.List.Sorted.{IsSearchInRange, IsBinarySearchResult, IsNonDecreasingBy, IsStrictlySortedBy}

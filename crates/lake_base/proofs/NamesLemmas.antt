@@ -1,12 +1,11 @@
 -- Names are texts: each byte that may stand in one is below 128.
-use Rattle.std.proofs.Common.{◌≡◌, ℕ, zero, suc, ◌+◌, ◌<◌, ◌≤◌, ◌==◌, Bool, true, false, not, cond, ltb, ◌&&◌, ◌||◌, List, [], ◌∷◌, length, drop, position, slice_index, Option, Some, None, option_map, refl, sym, subst, arith}
+use Rattle.std.proofs.Common.{◌≡◌, ℕ, zero, suc, ◌+◌, ◌<◌, ◌≤◌, Bool, true, false, not, cond, List, [], ◌∷◌, length, position, Option, Some, None, option_map, refl, arith}
 use Rattle.std.specs.List.{AllByRecursion, position_or_len}
 use Rattle.std.specs.Str.{IsAscii, is_utf8}
 use Rattle.std.proofs.lemmas.Bool.{ltb-false}
 use Rattle.std.proofs.lemmas.Bool.Decides.{nat_tests}
 use Rattle.std.proofs.lemmas.Str.{IsUtf8-from_ascii, is_utf8-from_IsUtf8}
 use Rattle.lake_base.specs.Names.{bad_byte, begins_repo, continues_repo, begins_ref, continues_ref}
-use Rattle.lake_base.specs.declared.names.NameFault.{NameFault}
 use Rattle.lake_base.specs.declared.names.NameFault.TheVariants.{BadByte}
 
 stray_step : (p : ℕ → Bool) (c : ℕ) (s : List ℕ) → (length s ≤ position_or_len (λ byte. not (p byte)) s → AllByRecursion (λ k. p k ≡ true) s) → (b : Bool) → p c ≡ b

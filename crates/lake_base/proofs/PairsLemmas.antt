@@ -1,14 +1,12 @@
 -- Metadata after a pair is set.
-use Rattle.std.proofs.Common.{◌≡◌, ℕ, ◌+◌, ◌<◌, ◌≤◌, ◌&&◌, ◌⊎◌, inl, inr, Bool, true, false, cond, T, List, [], ◌∷◌, length, map, Some, None, Option, is_some, is_none, leb, sym, ap, subst, ◌∙◌, arith}
+use Rattle.std.proofs.Common.{◌≡◌, ℕ, ◌+◌, ◌<◌, ◌≤◌, ◌&&◌, ◌⊎◌, inl, inr, Bool, true, false, cond, List, [], ◌∷◌, length, Some, None, Option, is_some, is_none, leb, sym, ap, subst, ◌∙◌, arith}
 use Rattle.std.specs.List.{AllByRecursion}
-use Rattle.std.specs.Ordering.{is_lt}
 use Rattle.std.specs.declared.cmp.Ordering.TheVariants.{Less, Equal, Greater}
-use Rattle.std.specs.List.Sorted.{IsStrictlySortedBy}
 use Rattle.std.proofs.lemmas.Bool.{le-leb, lt-leb}
 use Rattle.std.proofs.lemmas.Cmp.{nat_list_cmp_total}
 use Rattle.std.proofs.lemmas.List.Elements.{recursion_from_All, All-from_recursion}
 use Rattle.std.specs.FinMap.{find, put}
-use Rattle.std.specs.FinMap.Entries.{below_all, by_order, is_sorted-put, length-put}
+use Rattle.std.specs.FinMap.Entries.{by_order, is_sorted-put, length-put}
 use Rattle.lake_base.specs.Maps.{byte_order, HasAscendingKeys, IsAt, IsGap}
 use Rattle.lake_base.specs.Pairs.{IsPair, ArePairs, room_fault}
 use Rattle.lake_base.specs.declared.pairs.PairsFault.{PairsFault}

@@ -1,11 +1,8 @@
 -- What a reset leaves at each path.
-use Rattle.std.proofs.Common.{◌≡◌, ℕ, not, Bool, true, false, cond, T, List, [], ◌∷◌, None, Option, sym, ap, refl, ◌∙◌}
-use Rattle.std.specs.FinMap.{find, get, from_sorted, get-from_sorted, get-retain_keys, get-empty, get-remove, empty, remove}
+use Rattle.std.proofs.Common.{◌≡◌, ℕ, not, Bool, true, false, cond, List, [], None, sym, ap, refl, ◌∙◌}
+use Rattle.std.specs.FinMap.{get, from_sorted, get-from_sorted, get-retain_keys, get-empty, get-remove, empty, remove}
 use Rattle.std.specs.FinMap.Entries.{where_key, is_sorted-where_key, find-where_key}
-use Rattle.std.specs.List.{starts_with}
-use Rattle.std.specs.Ordering.{eq_by_cmp}
 use Rattle.std.specs.Cmp.Lexicographic.{texts_ties}
-use Rattle.std.specs.Prelude.{nat_eq}
 use Rattle.std.proofs.lemmas.Cmp.{nat_list_cmp_total}
 use Rattle.lake_base.specs.KeyMap.{ChangesValue}
 use Rattle.lake_base.specs.Maps.{byte_order, HasAscendingKeys}

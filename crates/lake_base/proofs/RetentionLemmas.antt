@@ -1,5 +1,5 @@
 -- The days of the first rule of a name.
-use Rattle.std.proofs.Common.{◌≡◌, ℕ, ◌<◌, ◌≤◌, arith, Bool, true, false, List, ◌∷◌, [], length, get_or, sym, ap, subst, refl, ◌∙◌}
+use Rattle.std.proofs.Common.{◌≡◌, ℕ, ◌<◌, ◌≤◌, arith, true, false, List, ◌∷◌, [], length, get_or, sym, ap, subst, refl, ◌∙◌}
 use Rattle.std.specs.List.{AllWithin}
 use Rattle.std.specs.Str.{bytes_eq}
 use Rattle.std.proofs.lemmas.List.Recursion.{found_at, found_nowhere}

@@ -153,7 +153,8 @@ impl Join for Overlay {
 /// it. (A law: it does nothing.)
 pub fn law_of_reset()
     ensures left { (what : AnyReset) (changes : ChangesValue) (path : List ℕ)
-        → map.get (changes_after_reset what changes) path ≡ (if drops_path what path then None else map.get changes path) }
+        → map.get (changes_after_reset what changes) path
+        ≡ (if drops_path what path then None else map.get changes path) }
     ensures all { (changes : ChangesValue) → changes_after_reset All changes ≡ map.empty }
     ensures empty { (changes : ChangesValue) → changes_after_reset (Prefix []) changes ≡ map.empty }
     ensures object { (path : List ℕ) (changes : ChangesValue) → changes_after_reset (Object path) changes ≡ map.remove changes path }

@@ -26,7 +26,8 @@ pub(crate) trait Join {
         left: Option<&Self::Left>,
         right: Option<&Self::Right>,
     ) -> Result<Option<Self::Value>, NoMemory>
-        ensures { IfOk result (λ joined. joined ≡ value (option_copied left.entry) (option_copied right.entry)) };
+        ensures { IfOk result (λ joined.
+            joined ≡ value (option_copied left.entry) (option_copied right.entry)) };
 
     // Where neither list has the path, nothing is left.
     ghost nothing: { value None None ≡ None };
@@ -47,7 +48,8 @@ fn front_of<'a, A, B>(left: &'a [(Path, A)], right: &'a [(Path, B)]) -> Option<F
     requires left { HasAscendingKeys left.now }
     requires right { HasAscendingKeys right.now }
     ensures { MatchOption result ((left.now ≡ []) × (right.now ≡ [])) (λ front.
-        IsFront left.now right.now front.path.now (option_copied front.left) (option_copied front.right) front.left_rest.now front.right_rest.now) }
+        IsFront left.now right.now front.path.now (option_copied front.left)
+        (option_copied front.right) front.left_rest.now front.right_rest.now) }
 {
     match (left, right) {
         ([], []) => None,
@@ -117,7 +119,8 @@ pub(crate) fn joined<J: Join>(
     requires right { HasAscendingKeys right.now }
     ensures ascend { IfOk result (λ items. HasAscendingKeys items.items) }
     ensures paths { IfOk result (λ items. HasPathKeys items.items) }
-    ensures values { IfOk result (λ items. (path : List ℕ) → find byte_order path items.items ≡ J.value (find byte_order path left.now) (find byte_order path right.now)) }
+    ensures values { IfOk result (λ items. (path : List ℕ) → find byte_order path items.items
+        ≡ J.value (find byte_order path left.now) (find byte_order path right.now)) }
 {
     let mut items = Vec::new(alloc);
     let (mut left_rest, mut right_rest) = (left, right);

@@ -151,8 +151,10 @@ pub fn law_of_differences()
     ensures none { (new old : KeyMapValue) (path : List ℕ)
         → (map.get (differences new old) path ≡ None) ↔ (map.get new path ≡ map.get old path) }
     ensures ascend { (new old : KeyMapValue) → HasAscendingKeys (map.entries (differences new old)) }
-    ensures least { (new old : KeyMapValue) (first : List ℕ × AnyChange) (rest : List (List ℕ × AnyChange)) (path : List ℕ)
-        → map.entries (differences new old) ≡ first ∷ rest → byte_order path first.0 ≡ Less → map.get new path ≡ map.get old path }
+    ensures least { (new old : KeyMapValue) (first : List ℕ × AnyChange)
+        (rest : List (List ℕ × AnyChange)) (path : List ℕ)
+        → map.entries (differences new old) ≡ first ∷ rest → byte_order path first.0 ≡ Less
+        → map.get new path ≡ map.get old path }
 {}
 
 // What changes leave of a map.

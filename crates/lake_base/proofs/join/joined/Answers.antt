@@ -1,5 +1,4 @@
 use Rattle.std.proofs.Common.{◌≡◌, subst, None}
-use Rattle.lake_base.specs.KeyMap.{HasPathKeys}
 use Rattle.lake_base.specs.Maps.{HasAscendingKeys}
 use Rattle.lake_base.specs.Names.{path_fault}
 use Rattle.lake_base.proofs.JoinLemmas.{join_turn, whole_join, all_append, rest_ascends}

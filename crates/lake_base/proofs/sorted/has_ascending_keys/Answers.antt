@@ -1,4 +1,4 @@
-use Rattle.std.proofs.Common.{◌≡◌, ◌+◌, ◌-◌, T, true, false, sym, subst, drop, ap, ◌∙◌, arith, refl}
+use Rattle.std.proofs.Common.{◌≡◌, ◌+◌, ◌-◌, T, false, sym, subst, drop, ap, ◌∙◌, arith, refl}
 use Rattle.std.specs.Ordering.{is_lt}
 use Rattle.lake_base.proofs.MapsLemmas.{TellsAll, compared, next_tells, stray_tells, end_tells}
 use Rattle.lake_base.proofs.sorted.has_ascending_keys.Goals as goal
