@@ -1,10 +1,14 @@
 -- How rows are cut into ranges, range by range.
-use Rattle.std.proofs.Common.{◌≡◌, ℕ, zero, suc, ◌<◌, ◌≤◌, Bool, true, false, eqb, List, [], ◌∷◌, length, take, drop, refl, sym, ap, ◌∙◌, arith, inl, inr}
-use Rattle.std.proofs.lemmas.Bool.{cases_Bool, eqb-true, eqb-false}
-use Rattle.std.proofs.lemmas.List.{length-drop, length-take}
+use Rattle.std.proofs.Common.{◌≡◌, ℕ, zero, suc, ◌+◌, ◌-◌, ◌<◌, ◌≤◌, Bool, true, false, not, ◌&&◌, ◌||◌, eqb, List, [], ◌∷◌, length, get_or, take, drop, refl, sym, ap, subst, ◌∙◌, add-one, arith, inl, inr}
+use Rattle.std.specs.List.{list_all}
+use Rattle.std.proofs.lemmas.Bool.{cases_Bool, cases_lt, eqb-true, eqb-false, le-leb, lt-leb}
+use Rattle.std.proofs.lemmas.List.{length-drop, length-take, get_or-take, take-append-drop, take_all}
+use Rattle.std.proofs.lemmas.List.Folds.{list_all-append, list_all_at, list_all_more}
+use Rattle.std.proofs.lemmas.List.Sums.{sum_by_more, sum_by-take-le}
 use Rattle.lake_base.specs.Entry.{EntryValue}
 use Rattle.lake_base.specs.declared.cut.Cut.{Cut}
-use Rattle.lake_base.specs.Cutting.{is_range, longest_front, first_len, ranges_within, ranges}
+use Rattle.lake_base.specs.Spelling.{row_spelling}
+use Rattle.lake_base.specs.Cutting.{is_break, row_bytes, is_range, longest_front, first_len, ranges_within, ranges}
 
 -- ---- the longest front
 
@@ -95,11 +99,6 @@ pub ranges_few : (cut : Cut) (rows : List (List ℕ × EntryValue)) → length (
 unfolding ranges
 ranges_few cut rows = within_few cut (length rows) rows
 
--- a front that can be one range, where no longer one can, is the first
-pub first_is : (cut : Cut) (rows : List (List ℕ × EntryValue)) (n : ℕ) → is_range cut (take n rows) ≡ true → longest_front cut rows n ≡ longest_front cut rows (length rows) → n ≡ first_len cut rows
-unfolding first_len
-first_is cut rows n fits none_longer = sym (longest_here cut rows n fits) ∙ none_longer
-
 -- ---- by length
 
 pub first_some_of : (cut : Cut) (rows : List (List ℕ × EntryValue)) → 0 < length rows → 0 < first_len cut rows
@@ -142,3 +141,162 @@ some_left (x ∷ xs) b is not = omega arith
 pub none_left : {X : Type 0} (xs : List X) (b : Bool) → b ≡ eqb (length xs) 0 → b ≡ true → xs ≡ []
 none_left [] b is empty = refl
 none_left (x ∷ xs) b is empty = let zero_long = eqb-true (length (x ∷ xs)) 0 (sym is ∙ empty) in absurd (omega arith)
+
+-- ---- row by row
+
+-- no break key among rows
+abbrev unbroken : Cut → List (List ℕ × EntryValue) → Bool
+unbroken cut rows = list_all (λ row. not (is_break cut row.0)) rows
+
+-- the first so many rows have no break key, so much room is left by them, and they can be one range
+pub record IsScanned (cut : Cut) (rows : List (List ℕ × EntryValue)) (n room : ℕ) : Type 0 where
+  pub whole : unbroken cut (take n rows) ≡ true
+  pub left : room ≡ cut.max_bytes - row_bytes (take n rows)
+  pub fits : 1 < n → row_bytes (take n rows) ≤ cut.max_bytes
+
+both_true : (a b : Bool) → a ≡ true → b ≡ true → (a && b) ≡ true
+both_true true b h k = k
+both_true false b h k = absurd cc
+
+front_true : (a b : Bool) → (a && b) ≡ true → a ≡ true
+front_true true b h = refl
+front_true false b h = absurd cc
+
+not_both : (a b : Bool) → a ≡ false → (a && b) ≡ false
+not_both true b h = absurd cc
+not_both false b h = refl
+
+nor_second : (a b : Bool) → b ≡ false → (a && b) ≡ false
+nor_second true b h = h
+nor_second false b h = refl
+
+-- a front of rows without a break key
+unbroken_front : (cut : Cut) (rows : List (List ℕ × EntryValue)) (n : ℕ) → unbroken cut rows ≡ true → unbroken cut (take n rows) ≡ true
+unbroken_front cut rows n h =
+    front_true (unbroken cut (take n rows)) (unbroken cut (drop n rows))
+    (sym (list_all-append (λ row. not (is_break cut row.0)) (take n rows) (drop n rows)) ∙ ap (unbroken cut) (take-append-drop n rows) ∙ h)
+
+-- a front of a front
+take_take : {X : Type 0} (n len : ℕ) (xs : List X) → n ≤ len → take n (take len xs) ≡ take n xs
+take_take zero len xs le = refl
+take_take (suc n) zero xs le = absurd (omega arith)
+take_take (suc n) (suc len) [] le = refl
+take_take (suc n) (suc len) (x ∷ xs) le = ap (λ l. x ∷ l) (take_take n len xs (omega arith))
+
+-- the rows before the last of a front
+before_last : (rows : List (List ℕ × EntryValue)) (n : ℕ) → suc n ≤ length rows → take (length (take (suc n) rows) - 1) (take (suc n) rows) ≡ take n rows
+before_last rows n le =
+    let len : length (take (suc n) rows) - 1 ≡ n = omega (arith, length-take (suc n) rows) in
+    ap (λ k. take k (take (suc n) rows)) len ∙ take_take n (suc n) rows (omega arith)
+
+-- when a front can be one range
+front_can : (cut : Cut) (rows : List (List ℕ × EntryValue)) (n : ℕ) → suc n ≤ length rows → unbroken cut (take n rows) ≡ true → (1 < suc n → row_bytes (take (suc n) rows) ≤ cut.max_bytes)
+    → is_range cut (take (suc n) rows) ≡ true
+front_can cut rows n le whole fits =
+    both_true _ _ (ap (unbroken cut) (before_last rows n le) ∙ whole) (elim (cases_lt n 1) [
+      | inl few ↦ or_first _ _ (le-leb (length (take (suc n) rows)) 1 (omega (arith, length-take (suc n) rows)))
+      | inr many ↦ or_second _ _ (le-leb (row_bytes (take (suc n) rows)) cut.max_bytes (fits (omega arith)))
+    ])
+  where
+    or_first : (a b : Bool) → a ≡ true → (a || b) ≡ true
+    or_first true b h = refl
+    or_first false b h = absurd cc
+
+    or_second : (a b : Bool) → b ≡ true → (a || b) ≡ true
+    or_second true b h = refl
+    or_second false b h = h
+
+-- a break key before the last row
+broken_front : (cut : Cut) (rows : List (List ℕ × EntryValue)) (n len : ℕ) (row : List ℕ × EntryValue) → row ≡ get_or rows n row → is_break cut row.0 ≡ true → suc n < len → len ≤ length rows
+    → is_range cut (take len rows) ≡ false
+broken_front cut rows n zero row is break lt le = absurd (omega arith)
+broken_front cut rows n (suc len) row is break lt le =
+    let here : not (is_break cut (get_or (take len rows) n row).0) ≡ false = ap (λ (r : List ℕ × EntryValue). not (is_break cut r.0)) (get_or-take len rows n row (omega arith) ∙ sym is) ∙ ap not break in
+    not_both _ _ (ap (unbroken cut) (before_last rows len le) ∙ list_all_at (λ row. not (is_break cut row.0)) (take len rows) n row (omega (arith, length-take len rows)) here)
+
+-- rows that pass the limit
+heavy_front : (cut : Cut) (rows : List (List ℕ × EntryValue)) (n len : ℕ) → n ≤ len → len ≤ length rows → 1 < n → cut.max_bytes < row_bytes (take n rows) → is_range cut (take len rows) ≡ false
+heavy_front cut rows n len le within some heavy =
+    nor_second _ _ (neither_true _ _ (lt-leb (length (take len rows)) 1 (omega (arith, length-take len rows))) (lt-leb (row_bytes (take len rows)) cut.max_bytes (omega (arith, more_bytes))))
+  where
+    neither_true : (a b : Bool) → a ≡ false → b ≡ false → (a || b) ≡ false
+    neither_true true b h k = absurd cc
+    neither_true false b h k = k
+
+    more_bytes : row_bytes (take n rows) ≤ row_bytes (take len rows)
+    more_bytes = subst (λ l. row_bytes l ≤ row_bytes (take len rows)) (take_take n len rows le) (sum_by-take-le (λ row. length (row_spelling row)) (take len rows) n)
+
+-- a front that can be one range, where no longer one can, is the first
+first_is : (cut : Cut) (rows : List (List ℕ × EntryValue)) (n : ℕ) → n ≤ length rows → is_range cut (take n rows) ≡ true → ((len : ℕ) → n < len → len ≤ length rows → is_range cut (take len rows) ≡ false) → n ≡ first_len cut rows
+unfolding first_len
+first_is cut rows n le fits none =
+    let most = longest_most cut rows (length rows) n le fits in
+    elim (cases_lt n (longest_front cut rows (length rows))) [
+      | inl lt ↦ absurd (cc (sym (none (longest_front cut rows (length rows)) lt (longest_below cut rows (length rows))) ∙ longest_can cut rows (length rows)))
+      | inr ge ↦ omega arith
+    ]
+
+-- no row
+pub scanned_none : (cut : Cut) (rows : List (List ℕ × EntryValue)) → IsScanned cut rows 0 cut.max_bytes
+scanned_none cut rows = record { whole = refl; left = omega arith; fits = λ some. absurd (omega arith) }
+
+-- what is known of the next row
+pub record IsNextRow (cut : Cut) (rows : List (List ℕ × EntryValue)) (n len : ℕ) (row : List ℕ × EntryValue) : Type 0 where
+  pub within : n < length rows
+  pub is : row ≡ get_or rows n row
+  pub len_is : len ≡ length (row_spelling row)
+
+row_more : (cut : Cut) (rows : List (List ℕ × EntryValue)) (n len : ℕ) (row : List ℕ × EntryValue) → IsNextRow cut rows n len row → row_bytes (take (n + 1) rows) ≡ row_bytes (take n rows) + len
+row_more cut rows n len row next =
+    sum_by_more (λ row. length (row_spelling row)) rows n row next.within
+    ∙ ap (λ k. row_bytes (take n rows) + k) (ap (λ (r : List ℕ × EntryValue). length (row_spelling r)) (sym next.is) ∙ sym next.len_is)
+
+-- the rows and the next fit
+fit_more : (cut : Cut) (rows : List (List ℕ × EntryValue)) (n room len : ℕ) (row : List ℕ × EntryValue) → IsScanned cut rows n room → IsNextRow cut rows n len row → (0 < n → len ≤ room) → 1 < n + 1 → row_bytes (take (n + 1) rows) ≤ cut.max_bytes
+fit_more cut rows n room len row scanned next space some =
+    let all = row_more cut rows n len row next in
+    let left = scanned.left in
+    let small = space (omega arith) in
+    omega (arith, next.len_is)
+
+-- one more row
+pub scanned_more : (cut : Cut) (rows : List (List ℕ × EntryValue)) (n room len : ℕ) (row : List ℕ × EntryValue) → IsScanned cut rows n room → IsNextRow cut rows n len row → (0 < n → len ≤ room) → is_break cut row.0 ≡ false
+    → IsScanned cut rows (n + 1) (room - len)
+scanned_more cut rows n room len row scanned next space whole = record {
+  whole = list_all_more (λ row. not (is_break cut row.0)) rows n row next.within
+      ∙ both_true _ _ scanned.whole (ap (λ (r : List ℕ × EntryValue). not (is_break cut r.0)) (sym next.is) ∙ ap not whole);
+  left = omega (arith, scanned.left, row_more cut rows n len row next);
+  fits = fit_more cut rows n room len row scanned next space;
+}
+
+-- the next row has no room
+pub scanned_full : (cut : Cut) (rows : List (List ℕ × EntryValue)) (n room len : ℕ) (row : List ℕ × EntryValue) → IsScanned cut rows n room → IsNextRow cut rows n len row → 0 < n → room < len → n ≡ first_len cut rows
+scanned_full cut rows zero room len row scanned next some over = absurd (omega arith)
+scanned_full cut rows (suc n) room len row scanned next some over =
+    let within = next.within in
+    let before : unbroken cut (take n rows) ≡ true = sym (ap (unbroken cut) (take_take n (suc n) rows (omega arith))) ∙ unbroken_front cut (take (suc n) rows) n scanned.whole in
+    first_is cut rows (suc n) (omega arith) (front_can cut rows n (omega arith) before scanned.fits) (λ top lt le.
+    heavy_front cut rows (suc n + 1) top (omega arith) le (omega arith) (omega (arith, scanned.left, row_more cut rows (suc n) len row next)))
+
+-- the next row is the last
+pub scanned_break : (cut : Cut) (rows : List (List ℕ × EntryValue)) (n room len : ℕ) (row : List ℕ × EntryValue) → IsScanned cut rows n room → IsNextRow cut rows n len row → (0 < n → len ≤ room) → is_break cut row.0 ≡ true → n + 1 ≡ first_len cut rows
+scanned_break cut rows n room len row scanned next space break =
+    let within = next.within in
+    let one : n + 1 ≡ suc n = add-one n in
+    one ∙ first_is cut rows (suc n) (omega arith)
+    (front_can cut rows n (omega arith) scanned.whole (λ some. subst (λ k. row_bytes (take k rows) ≤ cut.max_bytes) one (fit_more cut rows n room len row scanned next space (omega arith))))
+    (λ top lt le. broken_front cut rows n top row next.is break lt le)
+
+-- all rows
+pub scanned_all : (cut : Cut) (rows : List (List ℕ × EntryValue)) (n room : ℕ) → IsScanned cut rows n room → length rows ≤ n → length rows ≡ first_len cut rows
+scanned_all cut rows n room scanned all = by_len (length rows) refl
+  where
+    every : take n rows ≡ rows
+    every = take_all n rows all
+
+    by_len : (k : ℕ) → k ≡ length rows → k ≡ first_len cut rows
+    by_len zero is = first_is cut rows zero (omega arith) refl (λ len lt le. absurd (omega arith))
+    by_len (suc k) is =
+        let whole : unbroken cut rows ≡ true = sym (ap (unbroken cut) every) ∙ scanned.whole in
+        let same : row_bytes (take n rows) ≡ row_bytes (take (suc k) rows) = ap row_bytes (every ∙ sym (take_all (suc k) rows (omega arith))) in
+        first_is cut rows (suc k) (omega arith) (front_can cut rows k (omega arith) (unbroken_front cut rows k whole) (λ some. omega (arith, same, scanned.fits (omega arith)))) (λ len lt le. absurd (omega arith))

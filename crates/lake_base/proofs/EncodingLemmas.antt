@@ -1,6 +1,5 @@
 -- An entry that is read is the entry that was written, and what was written is read again.
 use Rattle.std.proofs.Common.{◌≡◌, ℕ, zero, suc, ◌+◌, ◌-◌, ◌^◌, ◌≤◌, Bool, true, false, T, cond, ltb, List, [], ◌∷◌, ◌++◌, length, take, drop, Option, Some, None, Result, Ok, Err, refl, sym, ap, subst, ◌∙◌, append_assoc, arith, lit<, codes, nat_eq}
-use Rattle.std.specs.Prelude.{IfOk}
 use Rattle.std.specs.Int.{w16, w64, to_be_bytes}
 use Rattle.std.specs.List.{flat_map, starts_with, AllByRecursion}
 use Rattle.std.specs.Str.{is_utf8}
@@ -13,10 +12,11 @@ use Rattle.lake_base.specs.Maps.{HasAscendingKeys}
 use Rattle.lake_base.specs.Pairs.{IsPair}
 use Rattle.lake_base.specs.declared.entry.Place.{Place}
 use Rattle.lake_base.specs.declared.entry.Place.TheVariants.{Own, External}
+use Rattle.lake_base.specs.declared.fields.FieldFault.{FieldFault}
+use Rattle.lake_base.specs.declared.fields.FieldFault.TheVariants.{Short, Bad, NoMemory}
 use Rattle.lake_base.specs.declared.fields.EntryFault.{EntryFault}
-use Rattle.lake_base.specs.declared.fields.EntryFault.TheVariants.{Bad}
 use Rattle.lake_base.specs.Spelling.{short_text, place_spelling, pair_spelling, pairs_spelling, entry_spelling, AreBytes, IsSpelledPlace, IsMetadata, IsEntry}
-use Rattle.lake_base.specs.Reading.{◌>>=◌, number_at, bytes_at, text_at, address_at, own_at, external_at, place_at, is_next, pair_at, pairs_at, metadata_at, entry_at, entry_from, ReadsAs}
+use Rattle.lake_base.specs.Reading.{◌>>=◌, read_number, read_bytes, read_text, read_address, read_own, read_external, read_place, is_next, read_key, read_pair, read_pairs, read_metadata, read_entry, entry_from, Fails, entry_fault, ReadsEntry}
 use Rattle.lake_base.proofs.MapsLemmas.{first, head_below, tail_ascends}
 use Rattle.lake_base.proofs.PairsLemmas.{ascend_from}
 use Rattle.lake_base.proofs.FieldsLemmas.{bind_ok, guard_ok, ok_is, Takes, takes_then, wide16, wide64, number_takes, number_again, bytes_take, bytes_takes, bytes_again, text_limits, text_takes, text_again}
@@ -32,14 +32,14 @@ record OwnParts (bytes : List ℕ) (place : Place) (rest : List ℕ) : Type 0 wh
   pub middle : List ℕ
   pub digest : List ℕ
   pub is : place ≡ Own number (record { 0 = digest })
-  pub number_read : number_at w64 bytes ≡ Ok (number, middle)
-  pub digest_read : bytes_at 32 middle ≡ Ok (digest, rest)
+  pub number_read : read_number w64 bytes ≡ Ok (number, middle)
+  pub digest_read : read_bytes 32 middle ≡ Ok (digest, rest)
 
-own_parts : (bytes : List ℕ) (place : Place) (rest : List ℕ) → own_at bytes ≡ Ok (place, rest) → OwnParts bytes place rest
-unfolding own_at
+own_parts : (bytes : List ℕ) (place : Place) (rest : List ℕ) → read_own bytes ≡ Ok (place, rest) → OwnParts bytes place rest
+unfolding read_own
 own_parts bytes place rest e =
-    let a = bind_ok (number_at w64 bytes) (λ number. bytes_at 32 number.1 >>= λ digest. Ok (Own number.0 (record { 0 = digest.0 }), digest.1)) (place, rest) e in
-    let b = bind_ok (bytes_at 32 a.0.1) (λ digest. Ok (Own a.0.0 (record { 0 = digest.0 }), digest.1)) (place, rest) a.2 in
+    let a = bind_ok (read_number w64 bytes) (λ number. read_bytes 32 number.1 >>= λ digest. Ok (Own number.0 (record { 0 = digest.0 }), digest.1)) (place, rest) e in
+    let b = bind_ok (read_bytes 32 a.0.1) (λ digest. Ok (Own a.0.0 (record { 0 = digest.0 }), digest.1)) (place, rest) a.2 in
     let made = ok_is (Own a.0.0 (record { 0 = b.0.0 }), b.0.1) (place, rest) b.2 in
     record {
       number = a.0.0;
@@ -55,18 +55,18 @@ record ExternalParts (bytes : List ℕ) (place : Place) (rest : List ℕ) : Type
   pub middle : List ℕ
   pub checksum : List ℕ
   pub is : place ≡ External at checksum
-  pub at_read : text_at 1 2048 bytes ≡ Ok (at, middle)
+  pub at_read : read_text 1 2048 bytes ≡ Ok (at, middle)
   pub foreign : starts_with nat_eq at (codes "lake://") ≡ false
-  pub checksum_read : text_at 0 128 middle ≡ Ok (checksum, rest)
+  pub checksum_read : read_text 0 128 middle ≡ Ok (checksum, rest)
 
-external_parts : (bytes : List ℕ) (place : Place) (rest : List ℕ) → external_at bytes ≡ Ok (place, rest) → ExternalParts bytes place rest
-unfolding external_at address_at
+external_parts : (bytes : List ℕ) (place : Place) (rest : List ℕ) → read_external bytes ≡ Ok (place, rest) → ExternalParts bytes place rest
+unfolding read_external read_address
 external_parts bytes place rest e =
-    let a = bind_ok (address_at bytes) (λ at. text_at 0 128 at.1 >>= λ checksum. Ok (External at.0 checksum.0, checksum.1)) (place, rest) e in
-    let t = bind_ok (text_at 1 2048 bytes) (λ at. cond (starts_with nat_eq at.0 (codes "lake://")) (Err Bad) (Ok at)) a.0 a.1 in
-    let g = guard_ok (starts_with nat_eq t.0.0 (codes "lake://")) Bad (Ok t.0) a.0 t.2 in
+    let a = bind_ok (read_address bytes) (λ at. read_text 0 128 at.1 >>= λ checksum. Ok (External at.0 checksum.0, checksum.1)) (place, rest) e in
+    let t = bind_ok (read_text 1 2048 bytes) (λ at. cond (starts_with nat_eq at.0 (codes "lake://")) (Err (Bad (length bytes))) (Ok at)) a.0 a.1 in
+    let g = guard_ok (starts_with nat_eq t.0.0 (codes "lake://")) (Bad (length bytes)) (Ok t.0) a.0 t.2 in
     let same = ok_is t.0 a.0 g.1 in
-    let b = bind_ok (text_at 0 128 a.0.1) (λ checksum. Ok (External a.0.0 checksum.0, checksum.1)) (place, rest) a.2 in
+    let b = bind_ok (read_text 0 128 a.0.1) (λ checksum. Ok (External a.0.0 checksum.0, checksum.1)) (place, rest) a.2 in
     let made = ok_is (External a.0.0 b.0.0, b.0.1) (place, rest) b.2 in
     record {
       at = a.0.0;
@@ -79,8 +79,8 @@ external_parts bytes place rest e =
     }
 
 -- a place that is read keeps the limits of a place
-pub place_limits : (bytes : List ℕ) (place : Place) (rest : List ℕ) → place_at bytes ≡ Ok (place, rest) → IsPlace place
-unfolding place_at
+pub place_limits : (bytes : List ℕ) (place : Place) (rest : List ℕ) → read_place bytes ≡ Ok (place, rest) → IsPlace place
+unfolding read_place
 place_limits [] place rest e = absurd cc
 place_limits (zero ∷ bytes) place rest e = let p = own_parts bytes place rest e in subst IsPlace (sym p.is) tt
 place_limits (suc zero ∷ bytes) place rest e =
@@ -90,8 +90,8 @@ place_limits (suc zero ∷ bytes) place rest e =
     subst IsPlace (sym p.is) (record { some = at.long; short = at.short; foreign = p.foreign; short_checksum = sum.short })
 place_limits (suc (suc b) ∷ bytes) place rest e = absurd cc
 
-pub place_takes : (bytes : List ℕ) (place : Place) (rest : List ℕ) → AreBytes bytes → place_at bytes ≡ Ok (place, rest) → Takes bytes (place_spelling place) rest × IsSpelledPlace place
-unfolding place_at
+pub place_takes : (bytes : List ℕ) (place : Place) (rest : List ℕ) → AreBytes bytes → read_place bytes ≡ Ok (place, rest) → Takes bytes (place_spelling place) rest × IsSpelledPlace place
+unfolding read_place
 place_takes [] place rest fits e = absurd cc
 place_takes (zero ∷ bytes) place rest fits e =
     let p = own_parts bytes place rest e in
@@ -115,14 +115,14 @@ place_takes (suc zero ∷ bytes) place rest fits e =
     )
 place_takes (suc (suc b) ∷ bytes) place rest fits e = absurd cc
 
-pub place_again : (place : Place) (rest : List ℕ) → IsSpelledPlace place → place_at (place_spelling place ++ rest) ≡ Ok (place, rest)
-unfolding place_at own_at external_at address_at
+pub place_again : (place : Place) (rest : List ℕ) → IsSpelledPlace place → read_place (place_spelling place ++ rest) ≡ Ok (place, rest)
+unfolding read_place read_own read_external read_address
 place_again (Own number digest) rest is =
     let regrouped : (to_be_bytes w64 number ++ digest.0) ++ rest ≡ to_be_bytes w64 number ++ (digest.0 ++ rest) = append_assoc (to_be_bytes w64 number) digest.0 rest in
-    ap own_at regrouped ∙ rw (number_again w64 (2 ^ 64) wide64 number (digest.0 ++ rest) is.wide, bytes_again 32 digest.0 rest is.sum.long) refl
+    ap read_own regrouped ∙ rw (number_again w64 (2 ^ 64) wide64 number (digest.0 ++ rest) is.wide, bytes_again 32 digest.0 rest is.sum.long) refl
 place_again (External at checksum) rest is =
     let regrouped : (short_text at ++ short_text checksum) ++ rest ≡ short_text at ++ (short_text checksum ++ rest) = append_assoc (short_text at) (short_text checksum) rest in
-    ap external_at regrouped ∙ rw (
+    ap read_external regrouped ∙ rw (
       text_again 1 2048 at (short_text checksum ++ rest) (lit< tt) (record { long = is.limits.some; short = is.limits.short; utf8 = is.address }),
       is.limits.foreign,
       text_again 0 128 checksum rest (lit< tt) (record { long = omega arith; short = is.limits.short_checksum; utf8 = is.sum }),
@@ -130,29 +130,29 @@ place_again (External at checksum) rest is =
 
 -- ---- metadata
 
-pair_takes : (last : Option (List ℕ)) (bytes : List ℕ) (pair : List ℕ × List ℕ) (rest : List ℕ) → AreBytes bytes → pair_at last bytes ≡ Ok (pair, rest) → Takes bytes (pair_spelling pair) rest
+pair_takes : (last : Option (List ℕ)) (bytes : List ℕ) (pair : List ℕ × List ℕ) (rest : List ℕ) → AreBytes bytes → read_pair last bytes ≡ Ok (pair, rest) → Takes bytes (pair_spelling pair) rest
 pair_takes last bytes pair rest fits e =
     let p = pair_parts last bytes pair rest e in
     let key = text_takes 1 128 bytes pair.0 p.middle fits p.key_read in
     takes_then bytes (short_text pair.0) p.middle (short_text pair.1) rest key (text_takes 0 1024 p.middle pair.1 rest key.rest_fits p.value_read)
 
-pairs_take : (n : ℕ) (last : Option (List ℕ)) (bytes : List ℕ) (x : List (List ℕ × List ℕ) × List ℕ) → AreBytes bytes → pairs_at n last bytes ≡ Ok x → Takes bytes (flat_map pair_spelling x.0) x.1
-unfolding pairs_at
+pairs_take : (n : ℕ) (last : Option (List ℕ)) (bytes : List ℕ) (x : List (List ℕ × List ℕ) × List ℕ) → AreBytes bytes → read_pairs n last bytes ≡ Ok x → Takes bytes (flat_map pair_spelling x.0) x.1
+unfolding read_pairs
 pairs_take zero last bytes x fits e =
     subst (λ (y : List (List ℕ × List ℕ) × List ℕ). Takes bytes (flat_map pair_spelling y.0) y.1) (ok_is ([], bytes) x e) (record { parts = refl; rest_fits = fits })
 pairs_take (suc n) last bytes x fits e =
-    let a = bind_ok (pair_at last bytes) (λ pair. pairs_at n (Some pair.0.0) pair.1 >>= λ more. Ok (pair.0 ∷ more.0, more.1)) x e in
-    let b = bind_ok (pairs_at n (Some a.0.0.0) a.0.1) (λ more. Ok (a.0.0 ∷ more.0, more.1)) x a.2 in
+    let a = bind_ok (read_pair last bytes) (λ pair. read_pairs n (Some pair.0.0) pair.1 >>= λ more. Ok (pair.0 ∷ more.0, more.1)) x e in
+    let b = bind_ok (read_pairs n (Some a.0.0.0) a.0.1) (λ more. Ok (a.0.0 ∷ more.0, more.1)) x a.2 in
     let one = pair_takes last bytes a.0.0 a.0.1 fits a.1 in
     let more = pairs_take n (Some a.0.0.0) a.0.1 b.0 one.rest_fits b.1 in
     let both = takes_then bytes (pair_spelling a.0.0) a.0.1 (flat_map pair_spelling b.0.0) b.0.1 one more in
     subst (λ (y : List (List ℕ × List ℕ) × List ℕ). Takes bytes (flat_map pair_spelling y.0) y.1) (ok_is (a.0.0 ∷ b.0.0, b.0.1) x b.2) (rw flat_map-cons both)
 
-pair_again : (last : Option (List ℕ)) (pair : List ℕ × List ℕ) (rest : List ℕ) → IsPair pair → is_utf8 pair.0 ≡ true → is_utf8 pair.1 ≡ true → is_next last pair.0 ≡ true → pair_at last (pair_spelling pair ++ rest) ≡ Ok (pair, rest)
-unfolding pair_at
+pair_again : (last : Option (List ℕ)) (pair : List ℕ × List ℕ) (rest : List ℕ) → IsPair pair → is_utf8 pair.0 ≡ true → is_utf8 pair.1 ≡ true → is_next last pair.0 ≡ true → read_pair last (pair_spelling pair ++ rest) ≡ Ok (pair, rest)
+unfolding read_pair read_key
 pair_again last pair rest is key_utf8 value_utf8 next =
     let regrouped : pair_spelling pair ++ rest ≡ short_text pair.0 ++ (short_text pair.1 ++ rest) = append_assoc (short_text pair.0) (short_text pair.1) rest in
-    ap (pair_at last) regrouped ∙ rw (
+    ap (read_pair last) regrouped ∙ rw (
       text_again 1 128 pair.0 (short_text pair.1 ++ rest) (omega arith) (record { long = is.key; short = is.short_key; utf8 = key_utf8 }),
       next,
       text_again 0 1024 pair.1 rest (omega arith) (record { long = omega arith; short = is.short_value; utf8 = value_utf8 }),
@@ -167,23 +167,23 @@ next_of None p pairs h = refl
 next_of (Some k) p pairs h = from_T _ (first _ _ h)
 
 pairs_again : (last : Option (List ℕ)) (pairs : List (List ℕ × List ℕ)) (rest : List ℕ) → AllByRecursion IsPair pairs → AllByRecursion (λ pair. (is_utf8 pair.0 ≡ true) × (is_utf8 pair.1 ≡ true)) pairs → Follow last pairs → HasAscendingKeys pairs
-    → pairs_at (length pairs) last (flat_map pair_spelling pairs ++ rest) ≡ Ok (pairs, rest)
-unfolding pairs_at
+    → read_pairs (length pairs) last (flat_map pair_spelling pairs ++ rest) ≡ Ok (pairs, rest)
+unfolding read_pairs
 pairs_again last [] rest each utf8 follow ascend = refl
 pairs_again last (p ∷ pairs) rest each utf8 follow ascend =
     let tail = flat_map pair_spelling pairs ++ rest in
     let regrouped : flat_map pair_spelling (p ∷ pairs) ++ rest ≡ pair_spelling p ++ tail = ap (λ (x : List ℕ). x ++ rest) (flat_map-cons pair_spelling p pairs) ∙ append_assoc (pair_spelling p) (flat_map pair_spelling pairs) rest in
-    let one : pair_at last (pair_spelling p ++ tail) ≡ Ok (p, tail) = pair_again last p tail each.0 utf8.0.0 utf8.0.1 (next_of last p pairs follow) in
-    let more : pairs_at (length pairs) (Some p.0) tail ≡ Ok (pairs, rest) = pairs_again (Some p.0) pairs rest each.1 utf8.1 (head_below p pairs ascend) (tail_ascends p pairs ascend) in
-    ap (pairs_at (suc (length pairs)) last) regrouped
-    ∙ ap (λ r. r >>= λ pair. pairs_at (length pairs) (Some pair.0.0) pair.1 >>= λ more. Ok (pair.0 ∷ more.0, more.1)) one
+    let one : read_pair last (pair_spelling p ++ tail) ≡ Ok (p, tail) = pair_again last p tail each.0 utf8.0.0 utf8.0.1 (next_of last p pairs follow) in
+    let more : read_pairs (length pairs) (Some p.0) tail ≡ Ok (pairs, rest) = pairs_again (Some p.0) pairs rest each.1 utf8.1 (head_below p pairs ascend) (tail_ascends p pairs ascend) in
+    ap (read_pairs (suc (length pairs)) last) regrouped
+    ∙ ap (λ r. r >>= λ pair. read_pairs (length pairs) (Some pair.0.0) pair.1 >>= λ more. Ok (pair.0 ∷ more.0, more.1)) one
     ∙ ap (λ r. r >>= λ more. Ok (p ∷ more.0, more.1)) more
 
-pub metadata_takes : (bytes : List ℕ) (pairs : List (List ℕ × List ℕ)) (rest : List ℕ) → AreBytes bytes → metadata_at bytes ≡ Ok (pairs, rest) → Takes bytes (pairs_spelling pairs) rest × IsMetadata pairs
-unfolding metadata_at
+pub metadata_takes : (bytes : List ℕ) (pairs : List (List ℕ × List ℕ)) (rest : List ℕ) → AreBytes bytes → read_metadata bytes ≡ Ok (pairs, rest) → Takes bytes (pairs_spelling pairs) rest × IsMetadata pairs
+unfolding read_metadata
 metadata_takes bytes pairs rest fits e =
-    let a = bind_ok (number_at w16 bytes) (λ count. cond (ltb 64 count.0) (Err Bad) (pairs_at count.0 None count.1)) (pairs, rest) e in
-    let g = guard_ok (ltb 64 a.0.0) Bad (pairs_at a.0.0 None a.0.1) (pairs, rest) a.2 in
+    let a = bind_ok (read_number w16 bytes) (λ count. cond (ltb 64 count.0) (Err (Bad (length bytes))) (read_pairs count.0 None count.1)) (pairs, rest) e in
+    let g = guard_ok (ltb 64 a.0.0) (Bad (length bytes)) (read_pairs a.0.0 None a.0.1) (pairs, rest) a.2 in
     let few : a.0.0 ≤ 64 = ltb-false _ _ g.0 in
     let n = number_takes w16 (2 ^ 16) wide16 bytes a.0.0 a.0.1 fits a.1 in
     let r = pairs_read a.0.0 None a.0.1 (pairs, rest) g.1 in
@@ -192,12 +192,12 @@ metadata_takes bytes pairs rest fits e =
       record { limits = are_pairs a.0.0 a.0.1 pairs rest few g.1; utf8 = r.utf8 },
     )
 
-pub metadata_again : (pairs : List (List ℕ × List ℕ)) (rest : List ℕ) → IsMetadata pairs → metadata_at (pairs_spelling pairs ++ rest) ≡ Ok (pairs, rest)
-unfolding metadata_at
+pub metadata_again : (pairs : List (List ℕ × List ℕ)) (rest : List ℕ) → IsMetadata pairs → read_metadata (pairs_spelling pairs ++ rest) ≡ Ok (pairs, rest)
+unfolding read_metadata
 metadata_again pairs rest is =
     let regrouped : pairs_spelling pairs ++ rest ≡ to_be_bytes w16 (length pairs) ++ (flat_map pair_spelling pairs ++ rest) = append_assoc (to_be_bytes w16 (length pairs)) (flat_map pair_spelling pairs) rest in
     let few : ltb 64 (length pairs) ≡ false = le-ltb _ _ is.limits.few in
-    ap metadata_at regrouped ∙ rw (
+    ap read_metadata regrouped ∙ rw (
       number_again w16 (2 ^ 16) wide16 (length pairs) (flat_map pair_spelling pairs ++ rest) (omega (arith, is.limits.few)),
       few,
       pairs_again None pairs rest (recursion_from_All IsPair pairs is.limits.each) is.utf8 tt (ascend_from pairs is.limits.ascending),
@@ -210,20 +210,20 @@ pub record EntryParts (bytes : List ℕ) (e : EntryValue) (rest : List ℕ) : Ty
   pub after_size : List ℕ
   pub after_mtime : List ℕ
   pub after_type : List ℕ
-  pub place_read : place_at bytes ≡ Ok (e.place, after_place)
-  pub size_read : number_at w64 after_place ≡ Ok (e.size, after_size)
-  pub mtime_read : number_at w64 after_size ≡ Ok (e.mtime, after_mtime)
-  pub type_read : text_at 0 255 after_mtime ≡ Ok (e.content_type, after_type)
-  pub metadata_read : metadata_at after_type ≡ Ok (e.metadata, rest)
+  pub place_read : read_place bytes ≡ Ok (e.place, after_place)
+  pub size_read : read_number w64 after_place ≡ Ok (e.size, after_size)
+  pub mtime_read : read_number w64 after_size ≡ Ok (e.mtime, after_mtime)
+  pub type_read : read_text 0 255 after_mtime ≡ Ok (e.content_type, after_type)
+  pub metadata_read : read_metadata after_type ≡ Ok (e.metadata, rest)
 
-pub entry_parts : (bytes : List ℕ) (e : EntryValue) (rest : List ℕ) → entry_at bytes ≡ Ok (e, rest) → EntryParts bytes e rest
-unfolding entry_at
+pub entry_parts : (bytes : List ℕ) (e : EntryValue) (rest : List ℕ) → read_entry bytes ≡ Ok (e, rest) → EntryParts bytes e rest
+unfolding read_entry
 entry_parts bytes e rest h =
-    let x1 = bind_ok (place_at bytes) (λ place. number_at w64 place.1 >>= λ size. number_at w64 size.1 >>= λ mtime. text_at 0 255 mtime.1 >>= λ content_type. metadata_at content_type.1 >>= λ metadata. Ok (record { place = place.0; size = size.0; mtime = mtime.0; content_type = content_type.0; metadata = metadata.0 }, metadata.1)) (e, rest) h in
-    let x2 = bind_ok (number_at w64 x1.0.1) (λ size. number_at w64 size.1 >>= λ mtime. text_at 0 255 mtime.1 >>= λ content_type. metadata_at content_type.1 >>= λ metadata. Ok (record { place = x1.0.0; size = size.0; mtime = mtime.0; content_type = content_type.0; metadata = metadata.0 }, metadata.1)) (e, rest) x1.2 in
-    let x3 = bind_ok (number_at w64 x2.0.1) (λ mtime. text_at 0 255 mtime.1 >>= λ content_type. metadata_at content_type.1 >>= λ metadata. Ok (record { place = x1.0.0; size = x2.0.0; mtime = mtime.0; content_type = content_type.0; metadata = metadata.0 }, metadata.1)) (e, rest) x2.2 in
-    let x4 = bind_ok (text_at 0 255 x3.0.1) (λ content_type. metadata_at content_type.1 >>= λ metadata. Ok (record { place = x1.0.0; size = x2.0.0; mtime = x3.0.0; content_type = content_type.0; metadata = metadata.0 }, metadata.1)) (e, rest) x3.2 in
-    let x5 = bind_ok (metadata_at x4.0.1) (λ metadata. Ok (record { place = x1.0.0; size = x2.0.0; mtime = x3.0.0; content_type = x4.0.0; metadata = metadata.0 }, metadata.1)) (e, rest) x4.2 in
+    let x1 = bind_ok (read_place bytes) (λ place. read_number w64 place.1 >>= λ size. read_number w64 size.1 >>= λ mtime. read_text 0 255 mtime.1 >>= λ content_type. read_metadata content_type.1 >>= λ metadata. Ok (record { place = place.0; size = size.0; mtime = mtime.0; content_type = content_type.0; metadata = metadata.0 }, metadata.1)) (e, rest) h in
+    let x2 = bind_ok (read_number w64 x1.0.1) (λ size. read_number w64 size.1 >>= λ mtime. read_text 0 255 mtime.1 >>= λ content_type. read_metadata content_type.1 >>= λ metadata. Ok (record { place = x1.0.0; size = size.0; mtime = mtime.0; content_type = content_type.0; metadata = metadata.0 }, metadata.1)) (e, rest) x1.2 in
+    let x3 = bind_ok (read_number w64 x2.0.1) (λ mtime. read_text 0 255 mtime.1 >>= λ content_type. read_metadata content_type.1 >>= λ metadata. Ok (record { place = x1.0.0; size = x2.0.0; mtime = mtime.0; content_type = content_type.0; metadata = metadata.0 }, metadata.1)) (e, rest) x2.2 in
+    let x4 = bind_ok (read_text 0 255 x3.0.1) (λ content_type. read_metadata content_type.1 >>= λ metadata. Ok (record { place = x1.0.0; size = x2.0.0; mtime = x3.0.0; content_type = content_type.0; metadata = metadata.0 }, metadata.1)) (e, rest) x3.2 in
+    let x5 = bind_ok (read_metadata x4.0.1) (λ metadata. Ok (record { place = x1.0.0; size = x2.0.0; mtime = x3.0.0; content_type = x4.0.0; metadata = metadata.0 }, metadata.1)) (e, rest) x4.2 in
     let made : EntryValue × List ℕ = (record { place = x1.0.0; size = x2.0.0; mtime = x3.0.0; content_type = x4.0.0; metadata = x5.0.0 }, x5.0.1) in
     let parts : EntryParts bytes made.0 made.1 = record {
       after_place = x1.0.1;
@@ -238,7 +238,7 @@ entry_parts bytes e rest h =
     } in
     subst (λ (y : EntryValue × List ℕ). EntryParts bytes y.0 y.1) {x = made} (ok_is made (e, rest) x5.2) parts
 
-pub entry_takes : (bytes : List ℕ) (e : EntryValue) (rest : List ℕ) → AreBytes bytes → entry_at bytes ≡ Ok (e, rest) → Takes bytes (entry_spelling e) rest × IsEntry e
+pub entry_takes : (bytes : List ℕ) (e : EntryValue) (rest : List ℕ) → AreBytes bytes → read_entry bytes ≡ Ok (e, rest) → Takes bytes (entry_spelling e) rest × IsEntry e
 entry_takes bytes e rest fits h =
     let p = entry_parts bytes e rest h in
     let t1 = place_takes bytes e.place p.after_place fits p.place_read in
@@ -254,8 +254,8 @@ entry_takes bytes e rest fits h =
       record { place = t1.1; size = t2.1; mtime = t3.1; content_type = text_limits 0 255 p.after_mtime e.content_type p.after_type p.type_read; metadata = t5.1 },
     )
 
-pub entry_again : (e : EntryValue) (rest : List ℕ) → IsEntry e → entry_at (entry_spelling e ++ rest) ≡ Ok (e, rest)
-unfolding entry_at
+pub entry_again : (e : EntryValue) (rest : List ℕ) → IsEntry e → read_entry (entry_spelling e ++ rest) ≡ Ok (e, rest)
+unfolding read_entry
 entry_again e rest is =
     let d = pairs_spelling e.metadata in
     let c = short_text e.content_type in
@@ -266,7 +266,7 @@ entry_again e rest is =
     ∙ ap (λ (l : List ℕ). place_spelling e.place ++ l) (append_assoc s (m ++ (c ++ d)) rest
     ∙ ap (λ (l : List ℕ). s ++ l) (append_assoc m (c ++ d) rest
     ∙ ap (λ (l : List ℕ). m ++ l) (append_assoc c d rest))) in
-    ap entry_at regrouped ∙ rw (
+    ap read_entry regrouped ∙ rw (
       place_again e.place (s ++ (m ++ (c ++ (d ++ rest)))) is.place,
       number_again w64 (2 ^ 64) wide64 e.size (m ++ (c ++ (d ++ rest))) is.size,
       number_again w64 (2 ^ 64) wide64 e.mtime (c ++ (d ++ rest)) is.mtime,
@@ -274,26 +274,20 @@ entry_again e rest is =
       metadata_again e.metadata rest is.metadata,
     ) refl
 
-abbrev done : EntryValue × List ℕ → Result (EntryValue × List ℕ) EntryFault
+abbrev done : EntryValue × List ℕ → Result (EntryValue × List ℕ) FieldFault
 done x = Ok x
 
 pub apart : (a b : EntryValue) (x y : List ℕ) → IsEntry a → IsEntry b → entry_spelling a ++ x ≡ entry_spelling b ++ y → (a ≡ b) × (x ≡ y)
 apart a b x y ha hb e =
-    let same : done (a, x) ≡ done (b, y) = sym (entry_again a x ha) ∙ ap entry_at e ∙ entry_again b y hb in
+    let same : done (a, x) ≡ done (b, y) = sym (entry_again a x ha) ∙ ap read_entry e ∙ entry_again b y hb in
     let pairs = ok_is (a, x) (b, y) same in
     (ap (λ (p : EntryValue × List ℕ). p.0) pairs, ap (λ (p : EntryValue × List ℕ). p.1) pairs)
 
-pub found : (bytes : List ℕ) (e : EntryValue) (rest : List ℕ) → AreBytes bytes → entry_at bytes ≡ Ok (e, rest) → IsEntry e × (bytes ≡ entry_spelling e ++ rest)
+pub found : (bytes : List ℕ) (e : EntryValue) (rest : List ℕ) → AreBytes bytes → read_entry bytes ≡ Ok (e, rest) → IsEntry e × (bytes ≡ entry_spelling e ++ rest)
 found bytes e rest fits h = let t = entry_takes bytes e rest fits h in (t.1, t.0.parts)
 
--- what is appended field by field
-pub five : (out p s m c d all : List ℕ) (o1 o2 o3 o4 : List ℕ) → o1 ≡ out ++ p → o2 ≡ o1 ++ s → o3 ≡ o2 ++ m → o4 ≡ o3 ++ c → all ≡ o4 ++ d → all ≡ out ++ (p ++ (s ++ (m ++ (c ++ d))))
-five out p s m c d all o1 o2 o3 o4 e1 e2 e3 e4 e5 =
-    e5 ∙ ap (λ (l : List ℕ). l ++ d) (e4 ∙ ap (λ (l : List ℕ). l ++ c) (e3 ∙ ap (λ (l : List ℕ). l ++ m) (e2 ∙ ap (λ (l : List ℕ). l ++ s) e1)))
-    ∙ append_assoc (((out ++ p) ++ s) ++ m) c d ∙ append_assoc ((out ++ p) ++ s) m (c ++ d) ∙ append_assoc (out ++ p) s (m ++ (c ++ d)) ∙ append_assoc out p (s ++ (m ++ (c ++ d)))
-
 -- the end of what is left
-pub shorter : (bytes : List ℕ) (from : ℕ) (e : EntryValue) (rest : List ℕ) → AreBytes bytes → entry_at (drop from bytes) ≡ Ok (e, rest) → length rest ≤ length bytes
+pub shorter : (bytes : List ℕ) (from : ℕ) (e : EntryValue) (rest : List ℕ) → AreBytes bytes → read_entry (drop from bytes) ≡ Ok (e, rest) → length rest ≤ length bytes
 shorter bytes from e rest fits h =
     let t = (entry_takes (drop from bytes) e rest (λ i. rw get_or-drop (fits (from + i))) h).0.parts in
     let len : length (drop from bytes) ≡ length (entry_spelling e) + length rest = ap length t ∙ length-append (entry_spelling e) rest in
@@ -309,7 +303,7 @@ rest_at bytes front rest e =
 pub found_from : (bytes : List ℕ) (from : ℕ) (e : EntryValue) (end : ℕ) → AreBytes bytes → entry_from bytes from ≡ Ok (e, end) → IsEntry e × (drop from bytes ≡ entry_spelling e ++ drop end bytes)
 unfolding entry_from
 found_from bytes from e end fits h =
-    let a = bind_ok (entry_at (drop from bytes)) (λ x. Ok (x.0, length bytes - length x.1)) (e, end) h in
+    let a = bind_ok (read_entry (drop from bytes)) (λ x. Ok (x.0, length bytes - length x.1)) (e, end) h in
     let t = entry_takes (drop from bytes) a.0.0 a.0.1 (λ i. rw get_or-drop (fits (from + i))) a.1 in
     let made = ok_is (a.0.0, length bytes - length a.0.1) (e, end) a.2 in
     let whole : bytes ≡ (take from bytes ++ entry_spelling a.0.0) ++ a.0.1 = sym (take-append-drop from bytes) ∙ ap (λ (l : List ℕ). take from bytes ++ l) t.0.parts ∙ sym (append_assoc (take from bytes) (entry_spelling a.0.0) a.0.1) in
@@ -319,8 +313,15 @@ found_from bytes from e end fits h =
 pub again_from : (bytes : List ℕ) (from : ℕ) (e : EntryValue) (rest : List ℕ) → IsEntry e → drop from bytes ≡ entry_spelling e ++ rest → entry_from bytes from ≡ Ok (e, length bytes - length rest)
 unfolding entry_from
 again_from bytes from e rest is h =
-    ap (λ (r : Result (EntryValue × List ℕ) EntryFault). r >>= λ x. Ok (x.0, length bytes - length x.1)) (ap entry_at h ∙ entry_again e rest is)
+    ap (λ (r : Result (EntryValue × List ℕ) FieldFault). r >>= λ x. Ok (x.0, length bytes - length x.1)) (ap read_entry h ∙ entry_again e rest is)
 
-pub is_found : (bytes : List ℕ) (from : ℕ) (r : Result (EntryValue × ℕ) EntryFault) → AreBytes bytes → ReadsAs (λ x. x) r (entry_from bytes from) → IfOk r (λ x. IsEntry x.0 × (drop from bytes ≡ entry_spelling x.0 ++ drop x.1 bytes))
-is_found bytes from (Ok x) fits given = found_from bytes from x.0 x.1 fits given
-is_found bytes from (Err e) fits given = tt
+-- ---- what is answered without a place
+
+-- a fault that forgot its place
+pub forgets : (fault : FieldFault) (answer : EntryFault) (read : Result (EntryValue × ℕ) FieldFault) → answer ≡ entry_fault fault → Fails fault read → ReadsEntry (Err answer) read
+forgets fault answer read is fails = subst (λ (e : EntryFault). ReadsEntry (Err e) read) (sym is) (at fault fails)
+  where
+    at : (fault : FieldFault) → Fails fault read → ReadsEntry (Err (entry_fault fault)) read
+    at (Short left) fails = (left, fails)
+    at (Bad left) fails = (left, fails)
+    at NoMemory fails = tt

@@ -19,3 +19,4 @@ pub mod ReadingLemmas
 pub mod ResetLemmas
 pub mod RetentionLemmas
 pub mod SamenessLemmas
+pub mod WritingLemmas

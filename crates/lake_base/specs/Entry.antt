@@ -24,3 +24,7 @@ pub record IsOutside (at checksum : List ℕ) : Type 0 where
 abbrev pub IsPlace : Place → Type 0
 IsPlace (Own number digest) = Unit {0}
 IsPlace (External at checksum) = IsOutside at checksum
+
+-- what an entry may hold: a place within its limits, and a content type of at most 255 bytes
+abbrev pub CanHold : Place → List ℕ → Type 0
+CanHold place content_type = IsPlace place × (length content_type ≤ 255)

@@ -22,3 +22,4 @@ pub mod Reset
 pub mod Sameness
 pub mod Settings
 pub mod Spelling
+pub mod Writing

@@ -2,11 +2,12 @@
 ghost use Rattle.std.specs.Prelude.{◌≡◌, ◌↔◌, IsTrue, option_copied};
 ghost use Rattle.std.specs.Cmp.Lexicographic.{pointwise};
 ghost use Rattle.lake_base.specs.Body.{Fits};
-ghost use Rattle.lake_base.specs.Entry.{EntryValue as AnyEntry};
+ghost use Rattle.lake_base.specs.Entry.{EntryValue as AnyEntry, IsOutside, IsPlace, CanHold};
 ghost use Rattle.lake_base.specs.Sameness.{same_place, same_pair, same_entry, same_value};
 
 use crate::copying::TryCopy;
 use crate::digest::Digest;
+use crate::limits::{ADDRESS_LIMIT, CHECKSUM_LIMIT};
 use crate::outside::NoMemory;
 use crate::pairs::Pairs;
 use crate::text::Text;
@@ -23,7 +24,8 @@ pub enum Place {
     External { at: Text, checksum: Text },
 }
 
-/// An object as it stands at a path. Its content type has at most 255 bytes. Contracts see its fields.
+/// An object as it stands at a path. Its content type has at most 255 bytes; `Entry::can_hold` is the test.
+/// Contracts see its fields.
 #[derive(Debug, Drop)]
 pub struct Entry {
     pub place: Place,
@@ -36,14 +38,13 @@ pub struct Entry {
 }
 
 impl Model for Entry {
-    ghost use Rattle.std.specs.Prelude.{◌≤◌, length};
-    ghost use Rattle.lake_base.specs.Entry.{EntryValue, IsPlace};
+    ghost use Rattle.lake_base.specs.Entry.{EntryValue, CanHold};
 
     ghost Value = { EntryValue };
 
     ghost view = { λ entry. record { place = entry.place; size = entry.size; mtime = entry.mtime; content_type = entry.content_type; metadata = entry.metadata } };
 
-    ghost invariant = { λ entry. IsPlace entry.place × (length entry.content_type ≤ 255) };
+    ghost invariant = { λ entry. CanHold entry.place entry.content_type };
 }
 
 /// What a write does at a path.
@@ -71,6 +72,14 @@ impl TryCopy for Place {
 }
 
 impl Entry {
+    /// Whether an entry may hold this place and this content type: an address outside of 1 to 2,048 bytes that
+    /// doesn't begin with `lake://`, a checksum of at most 128, a content type of at most 255. It takes no memory.
+    pub fn can_hold(place: &Place, content_type: &Text) -> bool
+        ensures { IsTrue result ↔ CanHold place.now content_type.now }
+    {
+        is_place(place) && content_type.as_slice().len() <= 255
+    }
+
     /// Whether the bytes are an own object's body: of its size and its digest. It takes no memory.
     pub fn fits(&self, body: &[u8]) -> bool
         ensures { IsTrue result ↔ Fits self.now body.now }
@@ -129,6 +138,26 @@ pub(crate) fn same_value(value: Option<&Entry>, other: Option<&Entry>) -> bool
         (Some(value), Some(other)) => same_entry(value, other),
         _ => false,
     }
+}
+
+// Whether a place is within its limits.
+fn is_place(place: &Place) -> bool
+    ensures { IsTrue result ↔ IsPlace place.now }
+{
+    match place {
+        Place::Own { .. } => true,
+        Place::External { at, checksum } => is_outside(at.as_slice(), checksum.as_slice()),
+    }
+}
+
+// Whether an address outside and its checksum are within their limits.
+fn is_outside(at: &[u8], checksum: &[u8]) -> bool
+    ensures { IsTrue result ↔ IsOutside at.now checksum.now }
+{
+    !at.is_empty()
+        && at.len() <= ADDRESS_LIMIT
+        && !at.starts_with(b"lake://")
+        && checksum.len() <= CHECKSUM_LIMIT
 }
 
 // Whether two places are equal.

@@ -8,12 +8,13 @@
 //! - `sequence`: a vector that contracts see as a list; `copying`: copies, which take memory.
 //! - `pairs`, `entry`, `changes`, `key_map`: metadata, what stands at a path, what is put and deleted, and maps;
 //!   `sorted`: where a path stands in a list of either; `join`: one walk over two such lists.
-//! - `listing`: pages of a map under a prefix and a delimiter.
+//! - `cursor`: entries taken one by one in order of path, whatever keeps them.
+//! - `listing`: pages of a map, or of any cursor, under a prefix and a delimiter.
 //! - `commit`, `settings`: commits, and the settings of a repository, within their limits; `retention`: the
 //!   moment up to which a branch keeps what it has left behind.
 //! - `merge`: whose value a path takes in a merge.
 //! - `cut`, `range_line`: where a tree is cut, and what is said of each of its ranges.
-//! - `fields`, `encoding`: fields and entries as bytes.
+//! - `fields`, `encoding`: fields, entries and rows as bytes, read with the place of the first fault.
 //! - `outside`: sources, sinks and clocks, whose failures are counted; `memory`, `clocks`: those of tests and of
 //!   runs in memory.
 //! - `threads`: which values may go from thread to thread.
@@ -27,6 +28,7 @@ pub mod changes;
 pub mod clocks;
 pub mod commit;
 pub mod copying;
+pub mod cursor;
 pub mod cut;
 pub mod digest;
 pub mod encoding;
@@ -56,13 +58,14 @@ pub use changes::Changes;
 pub use clocks::{FixedClock, ScriptClock};
 pub use commit::{About, CommitId, CommitRecord, ResetWhat, Strategy};
 pub use copying::TryCopy;
+pub use cursor::{EntryCursor, SliceCursor};
 pub use cut::{Cut, USUAL_CUT};
 pub use digest::Digest;
 pub use encoding::{entry_bytes, entry_read, own_address};
 pub use entry::{Change, Entry, Place, same_entry};
-pub use fields::EntryFault;
+pub use fields::{EntryFault, FieldFault};
 pub use key_map::KeyMap;
-pub use listing::{Item, Page, PageQuery};
+pub use listing::{Item, Page, PageQuery, page_over};
 pub use memory::{MemorySink, MemorySource};
 pub use merge::Side;
 pub use names::{NameFault, Path, RefName, RepoName};

@@ -1,7 +1,10 @@
 //! What a metarange says of a range.
+ghost use Rattle.std.specs.Prelude.{◌≡◌, ◌++◌, OnOk, OnErr};
+ghost use Rattle.lake_base.specs.Spelling.{line_spelling, IsSpan, IsLine};
 
 use crate::copying::TryCopy;
 use crate::digest::Digest;
+use crate::fields::{write_bytes, write_digest, write_text};
 use crate::names::Path;
 use crate::outside::NoMemory;
 use std::alloc::Global;
@@ -24,4 +27,23 @@ impl TryCopy for RangeLine {
             last: self.last.copy(alloc)?,
         })
     }
+}
+
+/// Appends what is said of a range: 32 bytes of SHA-256, the count of rows in 4 bytes, and the first and the last
+/// path, each behind 2 bytes of length. There is a row, and the first path is at most the last.
+#[tactic(auto, unfolding(crate::specs::Spelling::line_spelling))]
+pub fn put_range_line(out: &mut Vec<u8>, line: &RangeLine) -> Result<(), NoMemory>
+    requires { IsSpan line.now }
+    ensures spelled { OnOk result (out.new.items ≡ out.old.items ++ line_spelling line.now) }
+    ensures unchanged { OnErr result (out.new.items ≡ out.old.items) }
+    ensures limits { OnOk result (IsLine line.now) }
+{
+    let first = line.first.as_slice();
+    let last = line.last.as_slice();
+    out.reserve(40 + first.len() + last.len())?;
+    write_digest(out, &line.name.0);
+    write_bytes(out, &line.rows.to_be_bytes());
+    write_text(out, first);
+    write_text(out, last);
+    Ok(())
 }

@@ -1,9 +1,7 @@
 -- What one call after another appends, and the files of a tree, range by range.
-use Rattle.std.proofs.Common.{T, ◌≡◌, ℕ, zero, suc, ◌+◌, ◌-◌, ◌<◌, List, [], ◌∷◌, ◌++◌, length, get_or, take, map, refl, sym, ap, subst, ◌∙◌, append_assoc, add-one, arith}
+use Rattle.std.proofs.Common.{T, ◌≡◌, ℕ, zero, suc, ◌-◌, ◌<◌, List, [], ◌∷◌, ◌++◌, length, get_or, take, map, refl, sym, ap, ◌∙◌, append_assoc, arith}
 use Rattle.std.specs.FinMap.Entries.{below_all}
-use Rattle.std.specs.List.{flat_map, AllByRecursion}
-use Rattle.std.proofs.lemmas.List.{take_more, append-nil}
-use Rattle.std.proofs.lemmas.List.Concat.{flat_map-append}
+use Rattle.std.proofs.lemmas.List.{append-nil}
 use Rattle.lake_base.specs.Digest.{sha256}
 use Rattle.lake_base.specs.Entry.{EntryValue}
 use Rattle.lake_base.specs.Spelling.{path_at, range_spelling, line_of, metarange_spelling, file_name}
@@ -18,16 +16,13 @@ use Rattle.lake_base.proofs.CutLemmas.{ranges_none}
 
 -- ---- appends
 
-pub four : (out a b c d all o1 o2 o3 : List ℕ) → o1 ≡ out ++ a → o2 ≡ o1 ++ b → o3 ≡ o2 ++ c → all ≡ o3 ++ d → all ≡ out ++ (a ++ (b ++ (c ++ d)))
-four out a b c d all o1 o2 o3 e1 e2 e3 e4 = rw (e4, e3, e2, e1) (simp append_assoc)
-
 -- the parts of a commit
-pub nine : (head root generation date count parents committer len message metadata all o1 o2 o3 o4 o5 o6 o7 o8 : List ℕ)
+pub eight : (head root generation date count parents committer message metadata all o1 o2 o3 o4 o5 o6 o7 : List ℕ)
     → o1 ≡ head → o2 ≡ o1 ++ root → o3 ≡ o2 ++ generation → o4 ≡ o3 ++ date → o5 ≡ o4 ++ (count ++ parents)
-    → o6 ≡ o5 ++ committer → o7 ≡ o6 ++ len → o8 ≡ o7 ++ message → all ≡ o8 ++ metadata
-    → all ≡ head ++ (root ++ (generation ++ (date ++ (count ++ (parents ++ (committer ++ ((len ++ message) ++ metadata)))))))
-nine head root generation date count parents committer len message metadata all o1 o2 o3 o4 o5 o6 o7 o8 e1 e2 e3 e4 e5 e6 e7 e8 e9 =
-    rw (e9, e8, e7, e6, e5, e4, e3, e2, e1) (simp append_assoc)
+    → o6 ≡ o5 ++ committer → o7 ≡ o6 ++ message → all ≡ o7 ++ metadata
+    → all ≡ head ++ (root ++ (generation ++ (date ++ (count ++ (parents ++ (committer ++ (message ++ metadata)))))))
+eight head root generation date count parents committer message metadata all o1 o2 o3 o4 o5 o6 o7 e1 e2 e3 e4 e5 e6 e7 e8 =
+    rw (e8, e7, e6, e5, e4, e3, e2, e1) (simp append_assoc)
 
 -- the path at a place
 pub path_is : (rows : List (List ℕ × EntryValue)) (i : ℕ) (d : List ℕ × EntryValue) → i < length rows → (get_or rows i d).0 ≡ path_at rows i

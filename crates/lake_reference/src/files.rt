@@ -21,13 +21,13 @@ use lake_base::TryCopy;
 use lake_base::commit::{CommitId, CommitRecord};
 use lake_base::cut::{Cut, first_range};
 use lake_base::digest::Digest;
-use lake_base::encoding::put_entry;
+use lake_base::encoding::put_row;
 use lake_base::entry::Entry;
-use lake_base::fields::{put_metadata, put_text};
+use lake_base::fields::{put_digest, put_long_text, put_metadata, put_text};
 use lake_base::key_map::KeyMap;
 use lake_base::names::Path;
 use lake_base::outside::NoMemory;
-use lake_base::range_line::RangeLine;
+use lake_base::range_line::{RangeLine, put_range_line};
 use lake_base::sequence::Sequence;
 use std::alloc::Global;
 
@@ -67,16 +67,6 @@ fn put_rows(out: &mut Vec<u8>, rows: &[(Path, Entry)]) -> Result<(), NoMemory>
     Ok(())
 }
 
-// Appends a row.
-fn put_row(out: &mut Vec<u8>, path: &Path, entry: &Entry) -> Result<(), NoMemory>
-    ensures spelled { OnOk result (out.new.items ≡ out.old.items ++ row_spelling (path.now, entry.now)) }
-    ensures limits { OnOk result (IsRow (path.now, entry.now)) }
-{
-    put_text(out, path.as_slice())?;
-    put_entry(out, entry)?;
-    Ok(())
-}
-
 /// The spelling of a metarange that says this of its ranges. There are fewer than 2^32, each with a row and a
 /// first path that is at most its last and above the last path of the range before.
 #[tactic(auto, unfolding(lake_base::specs::Spelling::metarange_spelling))]
@@ -103,19 +93,6 @@ fn put_range_lines(out: &mut Vec<u8>, lines: &[RangeLine]) -> Result<(), NoMemor
     Ok(())
 }
 
-// Appends what is said of a range. Where it is refused, part of it may have been appended.
-pub(crate) fn put_range_line(out: &mut Vec<u8>, line: &RangeLine) -> Result<(), NoMemory>
-    requires { IsSpan line.now }
-    ensures spelled { OnOk result (out.new.items ≡ out.old.items ++ line_spelling line.now) }
-    ensures limits { OnOk result (IsLine line.now) }
-{
-    put_digest(out, &line.name.0)?;
-    out.extend_from_slice(&line.rows.to_be_bytes())?;
-    put_text(out, line.first.as_slice())?;
-    put_text(out, line.last.as_slice())?;
-    Ok(())
-}
-
 // What is said of a range of these rows, whose file has this name.
 fn line_of(alloc: Global, rows: &[(Path, Entry)], name: Digest) -> Result<RangeLine, NoMemory>
     requires some { 0 < length rows.now }
@@ -138,21 +115,18 @@ pub fn commit_bytes(alloc: Global, commit: &CommitRecord) -> Result<Vec<u8>, NoM
 {
     let mut out = Vec::new(alloc);
     out.push(1)?;
-    put_digest(&mut out, &commit.meta_range.0)?;
+    put_digest(&mut out, &commit.meta_range)?;
     out.extend_from_slice(&commit.generation.to_be_bytes())?;
     out.extend_from_slice(&commit.date.to_be_bytes())?;
     put_parents(&mut out, commit.parents.as_slice())?;
     put_text(&mut out, commit.committer.as_str().as_bytes())?;
-    let message = commit.message.as_str().as_bytes();
-    out.extend_from_slice(&(message.len() as u32).to_be_bytes())?;
-    out.extend_from_slice(message)?;
+    put_long_text(&mut out, commit.message.as_str().as_bytes())?;
     put_metadata(&mut out, &commit.metadata)?;
     Ok(out)
 }
 
 /// The files of the tree of a map: the metarange, and then the ranges in order, all within the limits of their
-/// formats. A map of 2^32 paths or more,
-/// whose counts a file may not hold, is answered as want of memory.
+/// formats. A map of 2^32 paths or more, whose counts a file may not hold, is answered as out of memory.
 pub fn files(alloc: Global, objects: &KeyMap, cut: &Cut) -> Result<Vec<Sequence<u8>>, NoMemory>
     requires { 0 < cut.now.modulus }
     ensures spelled { IfOk result (λ all. all.items ≡ files cut.now objects.now) }
@@ -204,17 +178,7 @@ fn put_parents(out: &mut Vec<u8>, parents: &[Digest]) -> Result<(), NoMemory>
 {
     out.extend_from_slice(&(parents.len() as u16).to_be_bytes())?;
     for parent in parents {
-        put_digest(out, &parent.0)?;
+        put_digest(out, parent)?;
     }
-    Ok(())
-}
-
-// Appends a digest.
-fn put_digest(out: &mut Vec<u8>, digest: &[u8]) -> Result<(), NoMemory>
-    requires { length digest.now ≡ 32 }
-    ensures spelled { OnOk result (out.new.items ≡ out.old.items ++ digest.now) }
-    ensures limits { IsDigest digest.now }
-{
-    out.extend_from_slice(digest)?;
     Ok(())
 }

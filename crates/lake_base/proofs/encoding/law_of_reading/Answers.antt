@@ -1,5 +1,12 @@
-use Rattle.lake_base.proofs.ReadingLemmas.{entry_found, entry_bad, entry_enough, entry_most}
+use Rattle.lake_base.proofs.ReadingLemmas.{entry_steady}
 use Rattle.lake_base.proofs.encoding.law_of_reading.Goals as goal
 
 pub returns : goal.returns
-returns c = record { found = entry_found; bad = entry_bad; short = entry_enough; most = entry_most }
+returns c = record {
+  found = entry_steady.found;
+  bad = entry_steady.bad;
+  bad_place = entry_steady.bad_place;
+  short_place = entry_steady.short_place;
+  short = entry_steady.enough;
+  most = entry_steady.takes;
+}

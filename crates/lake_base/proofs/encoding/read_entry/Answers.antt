@@ -1,6 +1,6 @@
 use Rattle.lake_base.proofs.FieldsLemmas.{text_limits}
 use Rattle.lake_base.proofs.EncodingLemmas.{place_limits}
-use Rattle.lake_base.proofs.encoding.entry_at.Goals as goal
+use Rattle.lake_base.proofs.encoding.read_entry.Goals as goal
 
 pub invariant_of-entry : goal.invariant_of-entry
 invariant_of-entry c = (

@@ -1,7 +1,7 @@
 use Rattle.std.proofs.Common.{◌≡◌, ◌≤◌, ◌+◌, ◌*◌, length, take}
 use Rattle.std.specs.List.{flat_map}
 use Rattle.lake_base.specs.Spelling.{pair_spelling}
-use Rattle.lake_base.proofs.cut.pairs_len.Given as goal
+use Rattle.lake_base.proofs.fields.pairs_len.Given as goal
 
 -- the pairs so far are counted, and each has few bytes
 abbrev pub invariant-loop-key : goal.invariant-loop-key
