@@ -1,8 +1,11 @@
 //! Tables of the words: what no clause says, and each call once with ample memory.
 mod copies;
+mod encoding;
+mod listing;
 mod maps;
 mod names;
 mod order;
+mod overlay;
 mod pairs;
 
 use super::*;

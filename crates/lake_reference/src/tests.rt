@@ -1,4 +1,5 @@
 mod ancestry;
+mod files;
 mod hooks;
 mod merge;
 mod retention;
