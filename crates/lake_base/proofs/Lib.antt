@@ -1,4 +1,5 @@
 pub mod ClocksLemmas
+pub mod CursorLemmas
 pub mod CutLemmas
 pub mod DigestLemmas
 pub mod EncodingLemmas
@@ -9,7 +10,9 @@ pub mod ListLemmas
 pub mod ListingAllLemmas
 pub mod ListingItemLemmas
 pub mod ListingPageLemmas
+pub mod ListingNameLemmas
 pub mod ListingPrefixLemmas
+pub mod ListingStartLemmas
 pub mod ListingStepLemmas
 pub mod MapsLemmas
 pub mod MetadataLemmas

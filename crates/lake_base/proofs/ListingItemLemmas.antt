@@ -18,7 +18,8 @@ use Rattle.lake_base.specs.declared.listing.Item.TheVariants as item
 use Rattle.lake_base.specs.declared.listing.PageQuery.{PageQuery}
 use Rattle.lake_base.proofs.MapsLemmas.{first, second, less, same_key, head_below, tail_ascends}
 use Rattle.lake_base.proofs.ListingPrefixLemmas.{common_is}
-use Rattle.lake_base.proofs.ListingStepLemmas.{none_listed, items, items_under, items_not, lt_is}
+use Rattle.lake_base.proofs.ListingStepLemmas.{none_listed, items, items_under, items_not}
+use Rattle.lake_base.proofs.CursorLemmas.{lt_is}
 use Rattle.lake_base.proofs.ListingPageLemmas.{Items, Named, named}
 
 -- ---- what is found in lists whose keys ascend

@@ -17,7 +17,8 @@ use Rattle.lake_base.specs.declared.listing.Item.{Item}
 use Rattle.lake_base.specs.declared.listing.PageQuery.{PageQuery}
 use Rattle.lake_base.proofs.MapsLemmas.{head_below, tail_ascends, below_at, first, second, both, less, turned, same_key}
 use Rattle.lake_base.proofs.KeyMapLemmas.{less_more}
-use Rattle.lake_base.proofs.ListingStepLemmas.{nothing, none_listed, items_under, items_not, lt_is}
+use Rattle.lake_base.proofs.ListingStepLemmas.{all_above, nothing, none_listed, items_under, items_not}
+use Rattle.lake_base.proofs.CursorLemmas.{lt_is}
 
 abbrev pub Items : Type 0
 Items = List (List ℕ × Item)
@@ -42,11 +43,6 @@ named prefix delimiter (e ∷ es) = by (starts_with nat_eq e.0 prefix) refl (nam
     by : (b : Bool) → starts_with nat_eq e.0 prefix ≡ b → Named (entries (item_map prefix delimiter es)) → Named (entries (item_map prefix delimiter (e ∷ es)))
     by true u h = subst Named (sym (items_under prefix delimiter e es u)) (named_put (item_of prefix delimiter e.0 e.1) (entries (item_map prefix delimiter es)) h)
     by false u h = subst Named (sym (items_not prefix delimiter e es u)) h
-
--- an item above a name above all others
-all_above : (n : List ℕ) (es : Items) → T (below_all byte_order n es) → items_after n es ≡ es
-all_above n [] h = refl
-all_above n (e ∷ es) h = ap (λ o. cond (is_lt o) (e ∷ items_after n es) (items_after n es)) (less _ (first _ _ h)) ∙ ap (λ l. e ∷ l) (all_above n es (second _ _ h))
 
 not_above_it : (n : List ℕ) (e : List ℕ × Item) (es : Items) → is_lt (byte_order n e.0) ≡ false → items_after n (e ∷ es) ≡ items_after n es
 not_above_it n e es h = ap (λ b. cond b (e ∷ items_after n es) (items_after n es)) h

@@ -30,7 +30,7 @@ pub begins_from : (p t : List ℕ) → starts_with nat_eq (p ++ t) p ≡ true
 begins_from [] t = refl
 begins_from (x ∷ p) t = ap (λ b. b && starts_with nat_eq (p ++ t) p) (eq-eqb x x refl) ∙ begins_from p t
 
-same_number : (x : ℕ) → nat_cmp x x ≡ Equal
+pub same_number : (x : ℕ) → nat_cmp x x ≡ Equal
 same_number x = tied_itself nat_cmp_total x
 
 -- no list is above one that begins with it
@@ -143,6 +143,23 @@ common_is prefix (y ∷ ys) key text under e =
           ap (option_map (λ f. prefix ++ f)) (ap (front_through (y ∷ ys)) tail ∙ t.again s);
     })
 
+-- a key that begins with the common prefix of another has it too
+pub common_of : (prefix delimiter key text other : List ℕ) → Common prefix delimiter key text → starts_with nat_eq other text ≡ true → (starts_with nat_eq other prefix ≡ true) × (common_prefix prefix delimiter other ≡ Some text)
+common_of prefix delimiter key text other c begins =
+    let parts : other ≡ text ++ drop (length text) other = begins_parts other text begins in
+    let again : common_prefix prefix delimiter other ≡ Some text = ap (common_prefix prefix delimiter) parts ∙ c.again (drop (length text) other) in
+    let front : other ≡ prefix ++ ((c.before ++ delimiter) ++ drop (length text) other) =
+    parts ∙ ap (λ t. t ++ drop (length text) other) (c.ends ∙ append_assoc prefix c.before delimiter) ∙ append_assoc prefix (c.before ++ delimiter) (drop (length text) other) in
+    (ap (λ l. starts_with nat_eq l prefix) front ∙ begins_from prefix _, again)
+
+-- a common prefix isn't empty
+pub common_some : (prefix delimiter key text : List ℕ) → common_prefix prefix delimiter key ≡ Some text → 0 < length text
+common_some prefix [] key text e = absurd (none_some text e)
+common_some prefix (y ∷ ys) key text e =
+    let m = mapped prefix (front_through (y ∷ ys) (drop (length prefix) key)) text e in
+    let t = through_is y ys (drop (length prefix) key) m.0 m.1 in
+    omega (arith, ap length (sym m.2), length-append prefix m.0, ap length t.ends, length-append t.before (y ∷ ys))
+
 -- a key that begins with its name
 pub name_rest : (prefix delimiter key : List ℕ) (entry : EntryValue) → starts_with nat_eq key prefix ≡ true → (t : List ℕ) × (key ≡ item_name (item_of prefix delimiter key entry) ++ t)
 name_rest prefix delimiter key entry under = by (common_prefix prefix delimiter key) refl
@@ -153,7 +170,7 @@ name_rest prefix delimiter key entry under = by (common_prefix prefix delimiter 
 
 -- ---- the order of names
 
-abbrev NotAbove : List ℕ → List ℕ → Type 0
+abbrev pub NotAbove : List ℕ → List ℕ → Type 0
 NotAbove a b = is_gt (byte_order a b) ≡ false
 
 pub below_not_above : (a b : List ℕ) → byte_order a b ≡ Less → NotAbove a b
@@ -277,13 +294,13 @@ common_utf8 prefix delimiter key text key_utf8 d_utf8 some u e =
     let c = common_is prefix delimiter key text u e in
     ap is_utf8 c.ends ∙ utf8_front key (prefix ++ c.before) delimiter c.rest key_utf8 d_utf8 some (c.whole ∙ ap (λ l. l ++ c.rest) c.ends)
 
-pub common_found : (prefix delimiter path key start d rest text : List ℕ) (end : ℕ) → key ≡ path → start ≡ prefix → d ≡ delimiter → rest ≡ drop (length start) key → text ≡ take (length start + end) key → 0 < length d → starts_with nat_eq path prefix ≡ true
-    → end ≤ length rest → front_through d rest ≡ Some (take end rest) → common_prefix prefix delimiter path ≡ Some text
-common_found prefix delimiter path key start d rest text end key_is start_is d_is rest_is text_is some u le found =
-    let text_is2 : text ≡ take (length prefix + end) path = text_is ∙ ap (λ s. take (length s + end) key) start_is ∙ ap (take (length prefix + end)) key_is in
-    let rest_is2 : rest ≡ drop (length prefix) path = rest_is ∙ ap (λ s. drop (length s) key) start_is ∙ ap (drop (length prefix)) key_is in
+pub common_found : (prefix delimiter key start d rest text : List ℕ) (end : ℕ) → start ≡ prefix → d ≡ delimiter → rest ≡ drop (length start) key → text ≡ take (length start + end) key → 0 < length d → starts_with nat_eq key prefix ≡ true
+    → end ≤ length rest → front_through d rest ≡ Some (take end rest) → common_prefix prefix delimiter key ≡ Some text
+common_found prefix delimiter key start d rest text end start_is d_is rest_is text_is some u le found =
+    let text_is2 : text ≡ take (length prefix + end) key = text_is ∙ ap (λ s. take (length s + end) key) start_is in
+    let rest_is2 : rest ≡ drop (length prefix) key = rest_is ∙ ap (λ s. drop (length s) key) start_is in
     let found2 : front_through delimiter rest ≡ Some (take end rest) = subst (λ e. front_through e rest ≡ Some (take end rest)) d_is found in
-    common_end prefix delimiter path end (subst (λ e. 0 < length e) d_is some) u (subst (λ r. end ≤ length r) rest_is2 le) (subst (λ r. front_through delimiter r ≡ Some (take end r)) rest_is2 found2) ∙ ap Some (sym text_is2)
+    common_end prefix delimiter key end (subst (λ e. 0 < length e) d_is some) u (subst (λ r. end ≤ length r) rest_is2 le) (subst (λ r. front_through delimiter r ≡ Some (take end r)) rest_is2 found2) ∙ ap Some (sym text_is2)
 
 pub not_empty : (d : List ℕ) → false ≡ eqb (length d) 0 → 0 < length d
 not_empty [] e = cc

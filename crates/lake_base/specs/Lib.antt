@@ -2,6 +2,7 @@ pub mod Ancestry
 pub mod Body
 pub mod Clocks
 pub mod Commit
+pub mod Cursor
 pub mod Cutting
 pub mod Digest
 pub mod Entry
@@ -10,12 +11,12 @@ pub mod Keeping
 pub mod Join
 pub mod KeyMap
 pub mod Listing
+pub mod ListingSteps
 pub mod Maps
 pub mod Memory
 pub mod Merging
 pub mod Names
 pub mod Outside
-pub mod PageSteps
 pub mod Pairs
 pub mod Reading
 pub mod Reset

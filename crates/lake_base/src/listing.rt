@@ -3,21 +3,24 @@
 //! A key that begins with the prefix is listed as the part up to and including the first delimiter after the
 //! prefix, or as itself where the delimiter is empty or doesn't occur there. Under the prefix `` and the
 //! delimiter `/` the keys `a/1`, `a/2` and `b` are listed as the common prefix `a/` and the object `b`.
-ghost use Rattle.std.specs.Prelude.{◌≡◌, ◌<◌, ◌≤◌, ◌↔◌, ℕ, true, [], length, map, take, Some, None, IfOk, IfSome, MatchOption, option_copied, nat_eq, nat_lt};
-ghost use Rattle.std.specs.Bool.{MatchBool};
+//!
+//! A page is a walk over a cursor. The first page of one item of these keys seeks the byte 0, the least bytes above
+//! an empty `after`, takes `a/1`, lists `a/` and seeks `a0`, the least bytes above all that begin with `a/`. There
+//! it takes `b`, so that an item is left. The page after `a/` seeks `a0` at once.
+ghost use Rattle.std.specs.Prelude.{◌≡◌, ◌<◌, ◌≤◌, ◌↔◌, ℕ, true, [], ◌∷◌, length, map, take, Some, None, IfOk, IfSome, MatchOption, option_copied, nat_eq, nat_lt};
 ghost use Rattle.std.specs.List.{starts_with, Contains};
 ghost use Rattle.std.specs.FinMap.{entries};
-ghost use Rattle.std.specs.Ordering.{is_lt};
 ghost use Rattle.std.specs.declared.cmp.Ordering.TheVariants.{Less};
 ghost use Rattle.std.specs.Str.{is_utf8};
-ghost use Rattle.lake_base.specs.Maps.{HasAscendingKeys, IsAscending, byte_order};
+ghost use Rattle.lake_base.specs.Maps.{IsAscending, byte_order};
 ghost use Rattle.lake_base.specs.KeyMap.{KeyMapValue, HasPathKeys};
 ghost use Rattle.lake_base.specs.declared.listing.PageQuery.{PageQuery as Query};
 ghost use Rattle.lake_base.specs.declared.listing.Item.{Item as Line};
 ghost use Rattle.lake_base.specs.Listing.{front_through, common_prefix, IsItem, item_name, items_of, items_left, items_above, page_items, has_more, pages};
-ghost use Rattle.lake_base.specs.PageSteps.{is_before, IsRest, IsFull, IsPast, BeginsWith, Visits};
+ghost use Rattle.lake_base.specs.ListingSteps.{page_start, name_end, IsRest, ListsFirst};
 
 use crate::copying::TryCopy;
+use crate::cursor::{EntryCursor, is_below};
 use crate::entry::Entry;
 use crate::key_map::KeyMap;
 use crate::names::{NameFault, Path};
@@ -25,7 +28,6 @@ use crate::outside::NoMemory;
 use crate::sequence::Sequence;
 use crate::text::Text;
 use std::alloc::Global;
-use std::cmp::Ordering;
 
 /// What is to be listed: at most `amount` items above `after` of the keys that begin with `prefix`.
 #[derive(Debug, Drop)]
@@ -111,8 +113,37 @@ impl KeyMap {
         ensures items { IfOk result (λ page. page.items ≡ page_items query.now self.now) }
         ensures more { IfOk result (λ page. page.has_more ≡ has_more query.now self.now) }
     {
-        page_of(alloc, self.as_slice(), query)
+        page_over(alloc, self.cursor(), query)
     }
+}
+
+/// The page of the entries that a cursor still has: of their items in byte order, each once, those above `after`,
+/// at most `amount` of them. For n items it takes at most n + 1 entries and seeks at most n + 1 times.
+pub fn page_over<'a, C: EntryCursor<'a>>(
+    alloc: Global,
+    mut cursor: C,
+    query: &PageQuery,
+) -> Result<Page, NoMemory>
+    ensures items { IfOk result (λ page.
+        page.items ≡ take query.now.amount (items_left query.now (C.left cursor))) }
+    ensures more { IfOk result (λ page.
+        page.has_more ≡ nat_lt query.now.amount (length (items_left query.now (C.left cursor)))) }
+{
+    let mut items = Vec::new(alloc);
+    cursor.seek(page_start(alloc, query)?.as_slice());
+    while let Some((path, entry)) = next_listed(&mut cursor, query) {
+        if items.as_slice().len() >= query.amount {
+            return Ok(Page {
+                items: Sequence::of(items),
+                has_more: true,
+            });
+        }
+        items.push(item_at(alloc, &mut cursor, path, entry, query)?)?;
+    }
+    Ok(Page {
+        items: Sequence::of(items),
+        has_more: false,
+    })
 }
 
 /// Pages of an amount above 0, each taken after the last item of the one before, give all items above the first
@@ -136,108 +167,89 @@ pub fn law_of_items()
         → items_above query objects ≡ map (λ i. i.1) (items_of query (entries objects)) }
 {}
 
-// The page of these entries.
-fn page_of(alloc: Global, entries: &[(Path, Entry)], query: &PageQuery) -> Result<Page, NoMemory>
-    requires { HasAscendingKeys entries.now }
-    ensures items { IfOk result (λ page. page.items ≡ take query.now.amount (items_left query.now entries.now)) }
-    ensures more { IfOk result (λ page. page.has_more ≡ nat_lt query.now.amount (length (items_left query.now entries.now))) }
-{
-    let mut items = Vec::new(alloc);
-    let mut rest = start(entries, query);
-    while is_listed(rest, query) {
-        match visit(alloc, &mut items, rest, query)? {
-            Some(left) => rest = left,
-            None => {
-                return Ok(Page {
-                    items: Sequence::of(items),
-                    has_more: true,
-                });
-            }
-        }
-    }
-    Ok(Page {
-        items: Sequence::of(items),
-        has_more: false,
-    })
-}
-
-// The entries from the first on that can be listed: above `after`, and not below the prefix.
-fn start<'a>(entries: &'a [(Path, Entry)], query: &PageQuery) -> &'a [(Path, Entry)]
-    requires { HasAscendingKeys entries.now }
-    ensures same { items_left query.now result.now ≡ items_left query.now entries.now }
-    ensures rest { IsRest query.now result.now }
-{
-    let at = entries.partition_point(|entry| is_before(&entry.0, query));
-    entries.split_at(at).1
-}
-
-// Whether bytes stand before others in byte order.
-fn is_below(bytes: &[u8], others: &[u8]) -> bool
-    ensures { result ≡ is_lt (byte_order bytes.now others.now) }
-{
-    matches!(bytes.cmp(others), Ordering::Less)
-}
-
-// Whether a path is up to `after`, or below the prefix.
-fn is_before(path: &Path, query: &PageQuery) -> bool
-    ensures { result ≡ is_before query.now path.now }
-{
-    !is_below(query.after.as_slice(), path.as_slice())
-        || is_below(path.as_slice(), query.prefix.as_slice())
-}
-
-// Whether the first entry begins with the prefix. If it doesn't, no later one does.
-fn is_listed(rest: &[(Path, Entry)], query: &PageQuery) -> bool
-    requires { IsRest query.now rest.now }
-    ensures { MatchBool result (BeginsWith rest.now query.now.prefix) (items_left query.now rest.now ≡ []) }
-{
-    match rest.first() {
-        Some(entry) => entry.0.as_slice().starts_with(query.prefix.as_slice()),
-        None => false,
-    }
-}
-
-// Visits the first entry, and answers those that are left; none where the page is full.
-fn visit<'a>(
-    alloc: Global,
-    items: &mut Vec<Item>,
-    rest: &'a [(Path, Entry)],
+// The entry that comes next, where it begins with the prefix. Where it doesn't, no later one does.
+fn next_listed<'a, C: EntryCursor<'a>>(
+    cursor: &mut C,
     query: &PageQuery,
-) -> Result<Option<&'a [(Path, Entry)]>, NoMemory>
-    requires room { length items.old.items ≤ query.now.amount }
-    requires rest { IsRest query.now rest.now }
-    requires under { BeginsWith rest.now query.now.prefix }
-    ensures { IfOk result (λ left. MatchOption left
-        ((items.new.items ≡ items.old.items) × IsFull query.now items.old.items rest.now)
-        (λ left. Visits query.now items.old.items items.new.items rest.now left.now)) }
+) -> Option<(&'a Path, &'a Entry)>
+    requires { IsRest query.now (C.left cursor.old) }
+    ensures { MatchOption result (items_left query.now (C.left cursor.old) ≡ [])
+        (λ row. (C.left cursor.old ≡ (row.0.now, row.1.now) ∷ C.left cursor.new)
+        × (starts_with nat_eq row.0.now query.now.prefix ≡ true)) }
 {
-    let (path, entry) = &rest[0];
-    let Some(name) = common_prefix(path, query) else {
-        if items.as_slice().len() >= query.amount {
-            return Ok(None);
-        }
-        let (path, entry) = (path.copy(alloc)?, entry.copy(alloc)?);
-        items.push(Item::Object { path, entry })?;
-        return Ok(Some(rest.split_at(1).1));
+    let Some((path, entry)) = cursor.next() else {
+        return None;
     };
-    let left = past(rest, name);
-    if !is_below(query.after.as_slice(), name) {
-        return Ok(Some(left));
+    if !path.as_slice().starts_with(query.prefix.as_slice()) {
+        return None;
     }
-    if items.as_slice().len() >= query.amount {
-        return Ok(None);
-    }
-    items.push(Item::Prefix(text_of(alloc, name)?))?;
-    Ok(Some(left))
+    Some((path, entry))
 }
 
-// The common prefix of a path that begins with the prefix.
-fn common_prefix<'a>(path: &'a Path, query: &PageQuery) -> Option<&'a [u8]>
-    requires { starts_with nat_eq path.now query.now.prefix ≡ true }
-    ensures name { option_copied result ≡ common_prefix query.now.prefix query.now.delimiter path.now }
-    ensures utf8 { IfSome result (λ name. is_utf8 name.now ≡ true) }
+// The item of an entry that the cursor has passed. It passes over those with the same item too.
+fn item_at<'a, C: EntryCursor<'a>>(
+    alloc: Global,
+    cursor: &mut C,
+    path: &Path,
+    entry: &Entry,
+    query: &PageQuery,
+) -> Result<Item, NoMemory>
+    requires rest { IsRest query.now ((path.now, entry.now) ∷ C.left cursor.old) }
+    requires under { starts_with nat_eq path.now query.now.prefix ≡ true }
+    ensures { IfOk result (λ item.
+        ListsFirst query.now ((path.now, entry.now) ∷ C.left cursor.old) item (C.left cursor.new)) }
 {
-    let key = path.as_slice();
+    let Some(name) = common_prefix(path.as_slice(), query) else {
+        let (path, entry) = (path.copy(alloc)?, entry.copy(alloc)?);
+        return Ok(Item::Object { path, entry });
+    };
+    let text = text_of(alloc, name)?;
+    cursor.seek(name_end(alloc, name)?.as_slice());
+    Ok(Item::Prefix(text))
+}
+
+// The least bytes at which a key of the page can stand.
+fn page_start(alloc: Global, query: &PageQuery) -> Result<Vec<u8>, NoMemory>
+    ensures { IfOk result (λ start. start.items ≡ page_start query.now) }
+{
+    let prefix = query.prefix.as_slice();
+    let after = query.after.as_str().as_bytes();
+    if !after.starts_with(prefix) {
+        let start = if is_below(after, prefix) {
+            prefix
+        } else {
+            after
+        };
+        return Ok(Vec::from_slice(alloc, start)?);
+    }
+    if let Some(name) = common_prefix(after, query) {
+        return name_end(alloc, name);
+    }
+    let mut start = Vec::from_slice(alloc, after)?;
+    start.push(0)?;
+    Ok(start)
+}
+
+// The least bytes above all that begin with a name.
+fn name_end(alloc: Global, name: &[u8]) -> Result<Vec<u8>, NoMemory>
+    requires some { 0 < length name.now }
+    requires utf8 { is_utf8 name.now ≡ true }
+    ensures { IfOk result (λ end. end.items ≡ name_end name.now) }
+{
+    let mut end = Vec::from_slice(alloc, name)?;
+    let last = name.len() - 1;
+    end[last] += 1;
+    Ok(end)
+}
+
+// The common prefix of a key that begins with the prefix.
+fn common_prefix<'a>(key: &'a [u8], query: &PageQuery) -> Option<&'a [u8]>
+    requires utf8 { is_utf8 key.now ≡ true }
+    requires under { starts_with nat_eq key.now query.now.prefix ≡ true }
+    ensures name { option_copied result ≡ common_prefix query.now.prefix query.now.delimiter key.now }
+    ensures utf8 { IfSome result (λ name. is_utf8 name.now ≡ true) }
+    ensures some { IfSome result (λ name. 0 < length name.now) }
+{
     let start = query.prefix.as_slice().len();
     let delimiter = query.delimiter.as_str().as_bytes();
     if delimiter.is_empty() {
@@ -261,16 +273,6 @@ fn through(bytes: &[u8], delimiter: &[u8]) -> Option<usize>
         }
     }
     None
-}
-
-// The entries after those that begin with a name that the first begins with.
-fn past<'a>(rest: &'a [(Path, Entry)], name: &[u8]) -> &'a [(Path, Entry)]
-    requires ascend { HasAscendingKeys rest.now }
-    requires first { BeginsWith rest.now name.now }
-    ensures { IsPast rest.now name.now result.now }
-{
-    let at = rest.partition_point(|entry| entry.0.as_slice().starts_with(name));
-    rest.split_at(at).1
 }
 
 // A text of UTF-8.
