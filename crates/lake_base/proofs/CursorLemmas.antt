@@ -9,7 +9,6 @@ use Rattle.std.specs.FinMap.Entries.{below_all}
 use Rattle.std.proofs.lemmas.Cmp.{nat_list_cmp_total}
 use Rattle.std.proofs.lemmas.List.{take-append-drop}
 use Rattle.lake_base.specs.Cursor.{entries_from}
-use Rattle.lake_base.specs.Entry.{EntryValue}
 use Rattle.lake_base.specs.Maps.{byte_order, HasAscendingKeys}
 use Rattle.lake_base.proofs.MapsLemmas.{first, second, less, head_below, tail_ascends, below_at}
 
@@ -79,45 +78,46 @@ not_false : (b : Bool) → b ≡ false → not b ≡ true
 not_false true h = absurd cc
 not_false false h = refl
 
--- the entries from a place on, where those before it are below and the others aren't
-pub seek_from : (least : List ℕ) (es : List (List ℕ × EntryValue)) (at : ℕ) → at ≤ length es → AllWithin (λ e. is_lt (byte_order e.0 least) ≡ true) es 0 at → AllWithin (λ e. is_lt (byte_order e.0 least) ≡ false) es at (length es)
-    → drop at es ≡ entries_from least es
-seek_from least es at le front back =
-    let p : List ℕ × EntryValue → Bool = λ e. not (is_lt (byte_order e.0 least)) in
-    sym (
-    ap (filter p) (sym (take-append-drop at es))
-    ∙ front_lost p (take at es) (drop at es) (part_front (λ e. p e ≡ false) es at le (λ k d low high. not_true _ (front k d low high)))
-    ∙ all_kept p (drop at es) (part_back (λ e. p e ≡ true) es at (λ k d low high. not_false _ (back k d low high))))
+module _ {X : Type 0} where
+  -- the entries from a place on, where those before it are below and the others aren't
+  pub seek_from : (least : List ℕ) (es : List (List ℕ × X)) (at : ℕ) → at ≤ length es → AllWithin (λ e. is_lt (byte_order e.0 least) ≡ true) es 0 at → AllWithin (λ e. is_lt (byte_order e.0 least) ≡ false) es at (length es)
+      → drop at es ≡ entries_from least es
+  seek_from least es at le front back =
+      let p : List ℕ × X → Bool = λ e. not (is_lt (byte_order e.0 least)) in
+      sym (
+      ap (filter p) (sym (take-append-drop at es))
+      ∙ front_lost p (take at es) (drop at es) (part_front (λ e. p e ≡ false) es at le (λ k d low high. not_true _ (front k d low high)))
+      ∙ all_kept p (drop at es) (part_back (λ e. p e ≡ true) es at (λ k d low high. not_false _ (back k d low high))))
 
--- where a key isn't below, none above it is
-pub none_passed : (least k : List ℕ) (es : List (List ℕ × EntryValue)) → is_lt (byte_order k least) ≡ false → T (below_all byte_order k es) → AllByRecursion (λ e. is_lt (byte_order e.0 least) ≡ false) es
-none_passed least k [] never h = tt
-none_passed least k (e ∷ es) never h = (by _ refl, none_passed least k es never (second _ _ h))
-  where
-    lt : byte_order k e.0 ≡ Less
-    lt = less _ (first (is_lt (byte_order k e.0)) (below_all byte_order k es) h)
+  -- where a key isn't below, none above it is
+  pub none_passed : (least k : List ℕ) (es : List (List ℕ × X)) → is_lt (byte_order k least) ≡ false → T (below_all byte_order k es) → AllByRecursion (λ e. is_lt (byte_order e.0 least) ≡ false) es
+  none_passed least k [] never h = tt
+  none_passed least k (e ∷ es) never h = (by _ refl, none_passed least k es never (second _ _ h))
+    where
+      lt : byte_order k e.0 ≡ Less
+      lt = less _ (first (is_lt (byte_order k e.0)) (below_all byte_order k es) h)
 
-    by : (b : Bool) → is_lt (byte_order e.0 least) ≡ b → is_lt (byte_order e.0 least) ≡ false
-    by true low = absurd (cc (sym (below_down least k e.0 lt low) ∙ never))
-    by false low = low
+      by : (b : Bool) → is_lt (byte_order e.0 least) ≡ b → is_lt (byte_order e.0 least) ≡ false
+      by true low = absurd (cc (sym (below_down least k e.0 lt low) ∙ never))
+      by false low = low
 
--- and a seek leaves it and those after it
-pub seek_stays : (least : List ℕ) (e : List ℕ × EntryValue) (es : List (List ℕ × EntryValue)) → HasAscendingKeys (e ∷ es) → is_lt (byte_order e.0 least) ≡ false → entries_from least (e ∷ es) ≡ e ∷ es
-seek_stays least e es h never = all_kept (λ f. not (is_lt (byte_order f.0 least))) (e ∷ es) (turn (e ∷ es) (never, none_passed least e.0 es never (head_below e es h)))
-  where
-    turn : (fs : List (List ℕ × EntryValue)) → AllByRecursion (λ f. is_lt (byte_order f.0 least) ≡ false) fs → AllByRecursion (λ f. not (is_lt (byte_order f.0 least)) ≡ true) fs
-    turn [] all = tt
-    turn (f ∷ fs) all = (not_false _ all.0, turn fs all.1)
+  -- and a seek leaves it and those after it
+  pub seek_stays : (least : List ℕ) (e : List ℕ × X) (es : List (List ℕ × X)) → HasAscendingKeys (e ∷ es) → is_lt (byte_order e.0 least) ≡ false → entries_from least (e ∷ es) ≡ e ∷ es
+  seek_stays least e es h never = all_kept (λ f. not (is_lt (byte_order f.0 least))) (e ∷ es) (turn (e ∷ es) (never, none_passed least e.0 es never (head_below e es h)))
+    where
+      turn : (fs : List (List ℕ × X)) → AllByRecursion (λ f. is_lt (byte_order f.0 least) ≡ false) fs → AllByRecursion (λ f. not (is_lt (byte_order f.0 least)) ≡ true) fs
+      turn [] all = tt
+      turn (f ∷ fs) all = (not_false _ all.0, turn fs all.1)
 
--- a seek passes over a key that is below
-pub seek_passes : (least : List ℕ) (e : List ℕ × EntryValue) (es : List (List ℕ × EntryValue)) → is_lt (byte_order e.0 least) ≡ true → entries_from least (e ∷ es) ≡ entries_from least es
-seek_passes least e es low = ap (λ b. cond (not b) (e ∷ entries_from least es) (entries_from least es)) low
+  -- a seek passes over a key that is below
+  pub seek_passes : (least : List ℕ) (e : List ℕ × X) (es : List (List ℕ × X)) → is_lt (byte_order e.0 least) ≡ true → entries_from least (e ∷ es) ≡ entries_from least es
+  seek_passes least e es low = ap (λ b. cond (not b) (e ∷ entries_from least es) (entries_from least es)) low
 
--- what a seek leaves ascends
-pub ascends_from : (least : List ℕ) (es : List (List ℕ × EntryValue)) → HasAscendingKeys es → HasAscendingKeys (entries_from least es)
-ascends_from least [] h = tt
-ascends_from least (e ∷ es) h = by (is_lt (byte_order e.0 least)) refl (ascends_from least es (tail_ascends e es h))
-  where
-    by : (b : Bool) → is_lt (byte_order e.0 least) ≡ b → HasAscendingKeys (entries_from least es) → HasAscendingKeys (entries_from least (e ∷ es))
-    by true low rest = subst HasAscendingKeys (sym (seek_passes least e es low)) rest
-    by false never rest = subst HasAscendingKeys (sym (seek_stays least e es h never)) h
+  -- what a seek leaves ascends
+  pub ascends_from : (least : List ℕ) (es : List (List ℕ × X)) → HasAscendingKeys es → HasAscendingKeys (entries_from least es)
+  ascends_from least [] h = tt
+  ascends_from least (e ∷ es) h = by (is_lt (byte_order e.0 least)) refl (ascends_from least es (tail_ascends e es h))
+    where
+      by : (b : Bool) → is_lt (byte_order e.0 least) ≡ b → HasAscendingKeys (entries_from least es) → HasAscendingKeys (entries_from least (e ∷ es))
+      by true low rest = subst HasAscendingKeys (sym (seek_passes least e es low)) rest
+      by false never rest = subst HasAscendingKeys (sym (seek_stays least e es h never)) h

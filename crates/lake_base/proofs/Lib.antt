@@ -17,6 +17,7 @@ pub mod ListingStepLemmas
 pub mod MapsLemmas
 pub mod MetadataLemmas
 pub mod NamesLemmas
+pub mod OverlayLemmas
 pub mod PairsLemmas
 pub mod ReadingLemmas
 pub mod ResetLemmas
