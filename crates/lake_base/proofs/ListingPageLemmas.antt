@@ -8,14 +8,14 @@ use Rattle.std.proofs.lemmas.Bool.{ltb-true, ltb-false}
 use Rattle.std.proofs.lemmas.Cmp.{nat_list_cmp_total, tied_itself}
 use Rattle.std.proofs.lemmas.List.{append-nil, take-append-drop, take_all, length-drop}
 use Rattle.std.specs.FinMap.{put, entries, entries_sorted}
-use Rattle.std.specs.FinMap.Entries.{by_order, below_all}
+use Rattle.std.specs.FinMap.Entries.{by_order}
 use Rattle.lake_base.specs.Entry.{EntryValue}
 use Rattle.lake_base.specs.KeyMap.{KeyMapValue}
 use Rattle.lake_base.specs.Maps.{byte_order, HasAscendingKeys}
 use Rattle.lake_base.specs.Listing.{item_name, item_of, item_map, items_after, items_above, page_items, has_more, last_name, query_after, pages}
 use Rattle.lake_base.specs.declared.listing.Item.{Item}
 use Rattle.lake_base.specs.declared.listing.PageQuery.{PageQuery}
-use Rattle.lake_base.proofs.MapsLemmas.{head_below, tail_ascends, below_at, first, second, both, less, turned, same_key}
+use Rattle.lake_base.proofs.MapsLemmas.{head_below, tail_ascends, below_at, both, turned, same_key}
 use Rattle.lake_base.proofs.KeyMapLemmas.{less_more}
 use Rattle.lake_base.proofs.ListingStepLemmas.{all_above, nothing, none_listed, items_under, items_not}
 use Rattle.lake_base.proofs.CursorLemmas.{lt_is}

@@ -1,10 +1,9 @@
 -- Where a page starts: no key below has an item above `after`, and each key from there on has one.
-use Rattle.std.proofs.Common.{◌≡◌, ℕ, ◌<◌, Bool, true, false, cond, not, List, [], ◌++◌, ◌∷◌, length, drop, Option, Some, None, nat_eq, refl, sym, ap, subst, ◌∙◌, append_assoc, arith}
+use Rattle.std.proofs.Common.{◌≡◌, ℕ, ◌<◌, Bool, true, false, cond, not, List, [], ◌++◌, ◌∷◌, length, drop, Option, Some, None, nat_eq, refl, sym, ap, subst, ◌∙◌, append_assoc}
 use Rattle.std.specs.List.{starts_with}
 use Rattle.std.specs.Ordering.{is_gt, is_lt}
 use Rattle.std.specs.declared.cmp.Ordering.{Ordering}
 use Rattle.std.specs.declared.cmp.Ordering.TheVariants.{Less, Equal, Greater}
-use Rattle.std.proofs.lemmas.List.{length-append}
 use Rattle.lake_base.specs.Entry.{EntryValue}
 use Rattle.lake_base.specs.Listing.{common_prefix, item_from, item_of, item_name}
 use Rattle.lake_base.specs.ListingSteps.{IsDue, item_end, name_end, page_start}

@@ -1,5 +1,5 @@
 -- What changes over entries leave, in order: the first of it, and what a seek leaves of it.
-use Rattle.std.proofs.Common.{◌≡◌, ℕ, T, Bool, true, false, not, cond, Option, Some, None, List, [], ◌∷◌, length, drop, slice_get, unwrap_or, refl, sym, ap, subst, ◌∙◌, ◌⊎◌, inl, inr, arith}
+use Rattle.std.proofs.Common.{◌≡◌, ℕ, T, Bool, true, false, not, cond, Option, Some, None, List, [], ◌∷◌, length, drop, slice_get, unwrap_or, refl, sym, ap, subst, ◌∙◌, arith}
 use Rattle.std.specs.Option.{option_map}
 use Rattle.std.specs.Ordering.{is_eq, is_lt, eq_by_cmp}
 use Rattle.std.specs.declared.cmp.Ordering.{Ordering}
@@ -176,12 +176,12 @@ seek_changed least cs es h k =
     let h_from : HasAscendingKeys (entries_from least cs) = ascends_from least cs h in
     let k_from : HasAscendingKeys (entries_from least es) = ascends_from least es k in
     same_list _ _ (ascends (entries_from least cs) (entries_from least es)) (ascends_from least (changed cs es) (ascends cs es)) (λ q.
-        found (entries_from least cs) (entries_from least es) h_from k_from q
-        ∙ ap (λ o. value_after o (find byte_order q (entries_from least es))) (find_from least q cs)
-        ∙ ap (value_after (cond (not (is_lt (byte_order q least))) (find byte_order q cs) None)) (find_from least q es)
-        ∙ by (not (is_lt (byte_order q least))) (find byte_order q cs) (find byte_order q es)
-        ∙ ap (λ o. cond (not (is_lt (byte_order q least))) o None) (sym (found cs es h k q))
-        ∙ sym (find_from least q (changed cs es)))
+    found (entries_from least cs) (entries_from least es) h_from k_from q
+    ∙ ap (λ o. value_after o (find byte_order q (entries_from least es))) (find_from least q cs)
+    ∙ ap (value_after (cond (not (is_lt (byte_order q least))) (find byte_order q cs) None)) (find_from least q es)
+    ∙ by (not (is_lt (byte_order q least))) (find byte_order q cs) (find byte_order q es)
+    ∙ ap (λ o. cond (not (is_lt (byte_order q least))) o None) (sym (found cs es h k q))
+    ∙ sym (find_from least q (changed cs es)))
   where
     by : (b : Bool) (o : Option Change) (r : Option EntryValue) → value_after (cond b o None) (cond b r None) ≡ cond b (value_after o r) None
     by true o r = refl

@@ -1,5 +1,5 @@
-//! Entries at paths in ascending order, taken one by one. A page and a merge are walks over such cursors, whatever
-//! keeps the entries.
+//! Entries at paths, taken one by one in ascending order of path. A page and a merge are walks over such cursors,
+//! whatever keeps the entries: a slice, a tree, or changes that stand over either.
 ghost use Rattle.std.specs.Prelude.{◌≡◌, ℕ, List, [], ◌∷◌, MatchOption};
 ghost use Rattle.std.specs.FinMap.{entries};
 ghost use Rattle.std.specs.Ordering.{is_lt};
@@ -12,7 +12,8 @@ use crate::key_map::KeyMap;
 use crate::names::Path;
 use std::cmp::Ordering;
 
-/// Entries at paths in ascending order of path, some of which are still to come.
+/// Entries at paths, some of which are still to come, in ascending order of path: each call tells so. Contracts
+/// see those still to come, by the ghost member `left`.
 pub trait EntryCursor<'a>: Drop {
     /// The entries still to come.
     ghost left: { Self → List (List ℕ × EntryValue) };
@@ -67,7 +68,9 @@ impl<'a> EntryCursor<'a> for SliceCursor<'a> {
     }
 
     fn seek(&mut self, least: &[u8]) {
-        let at = self.rest.partition_point(|row| is_below(row.0.as_slice(), least));
+        let at = self
+            .rest
+            .partition_point(|row| is_below(row.0.as_slice(), least));
         self.rest = self.rest.split_at(at).1;
     }
 }

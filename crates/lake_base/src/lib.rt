@@ -76,6 +76,3 @@ pub use sequence::Sequence;
 pub use settings::{BranchDays, Deny, HookRule, HookRules, Note, Protection, Rules};
 pub use sorted::has_ascending_keys;
 pub use text::{Text, is_utf8};
-
-#[cfg(test)]
-mod tests;

@@ -59,8 +59,12 @@ impl<'a> EntryCursor<'a> for OverlayCursor<'a> {
     }
 
     fn seek(&mut self, least: &[u8]) {
-        let change = self.changes.partition_point(|row| is_below(row.0.as_slice(), least));
-        let entry = self.entries.partition_point(|row| is_below(row.0.as_slice(), least));
+        let change = self
+            .changes
+            .partition_point(|row| is_below(row.0.as_slice(), least));
+        let entry = self
+            .entries
+            .partition_point(|row| is_below(row.0.as_slice(), least));
         self.changes = self.changes.split_at(change).1;
         self.entries = self.entries.split_at(entry).1;
     }

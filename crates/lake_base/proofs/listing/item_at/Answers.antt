@@ -2,7 +2,6 @@ use Rattle.std.proofs.Common.{ap, sym, ◌∙◌}
 use Rattle.lake_base.specs.Cursor.{entries_from}
 use Rattle.lake_base.specs.Listing.{common_prefix}
 use Rattle.lake_base.proofs.ListingStepLemmas.{object_listed, prefix_listed}
-use Rattle.lake_base.proofs.ListingPrefixLemmas.{path_utf8}
 use Rattle.lake_base.proofs.listing.item_at.Goals as goal
 
 pub returns-in_default : goal.returns-in_default

@@ -1,4 +1,4 @@
-use Rattle.std.proofs.Common.{◌≡◌, ◌≤◌, ◌++◌, length, ap, subst, ◌∙◌, arith}
+use Rattle.std.proofs.Common.{◌++◌, length, ap, ◌∙◌, arith}
 use Rattle.lake_base.specs.Listing.{items_left}
 use Rattle.lake_base.proofs.ListingStepLemmas.{starts_page, some_left, full_is, page_full}
 use Rattle.lake_base.proofs.listing.page_over.Goals as goal
