@@ -1,0 +1,4 @@
+pub mod DecisionLemmas
+pub mod MatchingLemmas
+pub mod ReadingLemmas
+pub mod WritingLemmas

@@ -1,0 +1,3 @@
+pub mod HookDecision
+pub mod HookForms
+pub mod Matching

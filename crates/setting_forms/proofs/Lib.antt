@@ -1,0 +1,3 @@
+pub mod FormsLemmas
+pub mod RulesLemmas
+pub mod TextLemmas

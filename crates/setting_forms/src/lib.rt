@@ -1,0 +1,19 @@
+//! What the settings of a repository are as JSON: lists of rules, each an object with named fields.
+//!
+//! - `fault`: why a value isn't a setting, with the first rule and in it the first field that is to blame.
+//! - `object`: an object with a rule's number, and the readers of its fields.
+//! - `list`: lists of rules.
+//!
+//! The promise to the layer above: a reader takes any value, and answers exactly what the definitions in `specs/`
+//! say of it, unless memory runs out.
+#![tactic(auto)]
+
+mod fault;
+mod list;
+mod object;
+#[cfg(test)]
+mod tests;
+
+pub use fault::RuleFault;
+pub use list::{RULE_LIMIT, rule_list};
+pub use object::{RuleObject, text_of};
