@@ -82,8 +82,8 @@ after_one_later pattern name e = later_split pattern name ∙ or_right (matches 
 
 -- ---- steps
 
-fewer_steps : (less more most left : ℕ) → less ≤ more → less * (most + 1) + left < more * (most + 1) + suc left
-fewer_steps less more most left le = omega (arith, mul-le-mul_right {m = less} {n = more} (most + 1) le)
+fewer_steps : (less more most left : ℕ) → less ≤ more → less * most + left < more * most + suc left
+fewer_steps less more most left le = omega (arith, mul-le-mul_right {m = less} {n = more} most le)
 
 star_same : (byte : ℕ) (pattern rest name : List ℕ) (again : Bool) → byte ≡ 42 → pattern ≡ byte ∷ rest → (again ≡ true → matches_later pattern name ≡ true)
     → matches rest name || matches_after_one rest name ≡ matches pattern name || again
@@ -111,13 +111,13 @@ module _ (most longest : ℕ) (walk : Walk) (going : IsWalk most longest walk) w
       → Leads most longest walk (outcome walk) (record { pattern = rest; name = walk.name; star = Some (record { pattern = rest; name = walk.name }) })
   over_star byte rest begins star =
       let longer : length walk.pattern.now ≡ suc (length rest.now) = ap length begins in
-      let short : length rest.now ≤ most = omega (arith, longer, going.pattern) in
+      let short : length rest.now < most = omega (arith, longer, going.pattern) in
       record {
         same = star_same byte walk.pattern.now rest.now walk.name.now (matches_again walk.star) star begins going.later;
         going = record {
           later = after_one_later rest.now walk.name.now;
           name = omega arith;
-          pattern = short;
+          pattern = omega arith;
           star = short;
         };
         fewer = rw longer (fewer_steps (length walk.name.now) (star_bytes longest walk.star) most (length rest.now) going.name);

@@ -9,7 +9,7 @@ use Rattle.lake_base.specs.declared.settings.Deny.TheVariants.{RequireMeta, Deny
 use Rattle.lake_base.specs.declared.settings.HookRule.{HookRule}
 use Rattle.setting_forms.specs.Forms.{text_within, whole_number, field_of, object_of, list_of, rules_from}
 use Rattle.setting_forms.specs.declared.fault.RuleFault.{RuleFault}
-use Rattle.setting_forms.proofs.FormsLemmas.{in_turn-Ok, field_of-Ok, passing-Some, text_within-Some}
+use Rattle.setting_forms.proofs.FormsLemmas.{in_turn-Ok, field_of-Ok, option_filter-Some, text_within-Some}
 use Rattle.setting_forms.proofs.RulesLemmas.{Keeps-rules_from, few_of-list_of}
 use Rattle.hook_rules.specs.HookForms.{pattern, pattern_of, hook_type, denial, field_name, hook_of}
 use Rattle.hook_rules.specs.declared.hook_type.HookType.{HookType}
@@ -23,7 +23,7 @@ all_pass (byte ∷ bytes) e = let p = and_parts (is_pattern_byte byte) (list_all
 
 IsPattern-pattern : (value : Data) (text : List ℕ) → pattern value ≡ Some text → IsPattern text
 IsPattern-pattern value text e =
-    let p = passing-Some (list_all is_pattern_byte) (text_within 1 255 value) text e in
+    let p = option_filter-Some (list_all is_pattern_byte) (text_within 1 255 value) text e in
     let size = text_within-Some 1 255 value text p.0 in
     record { some = size.0; few = size.1; bytes = all_pass text p.1 }
 

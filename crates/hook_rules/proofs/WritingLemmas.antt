@@ -12,7 +12,7 @@ use Rattle.lake_base.specs.Settings.{is_pattern_byte, IsPattern, IsDeny, IsProte
 use Rattle.lake_base.specs.declared.settings.Deny.{Deny}
 use Rattle.lake_base.specs.declared.settings.Deny.TheVariants.{RequireMeta, DenyPrefix, MaxSize, MaxChanges}
 use Rattle.lake_base.specs.declared.settings.HookRule.{HookRule}
-use Rattle.setting_forms.proofs.FormsLemmas.{passing-here, text_within-string}
+use Rattle.setting_forms.proofs.FormsLemmas.{option_filter-here, text_within-string}
 use Rattle.setting_forms.proofs.RulesLemmas.{rules_of-written}
 use Rattle.setting_forms.proofs.TextLemmas.{IsFlat, no_floats, flat, read-list, number_flat}
 use Rattle.hook_rules.specs.HookForms.{pattern, pattern_of, pattern_data, protection_of, protection_data, protection_text, denial, type_of, type_name, field_name, field_data, hook_of, hook_data, hooks_of, hooks_data, hooks_text, HasNumber}
@@ -24,7 +24,7 @@ all_again [] each = refl
 all_again (byte ∷ bytes) each = rw each.0 (all_again bytes each.1)
 
 pattern-string : (text : List ℕ) → IsPattern text → pattern (string text) ≡ Some text
-pattern-string text is = rw (text_within-string 1 255 text is.some is.few) (passing-here (list_all is_pattern_byte) text (all_again text is.bytes))
+pattern-string text is = rw (text_within-string 1 255 text is.some is.few) (option_filter-here (list_all is_pattern_byte) text (all_again text is.bytes))
 
 pattern_again : (rule : ℕ) (text : List ℕ) → IsPattern text → pattern_of rule (pattern_data text) ≡ Ok text
 pattern_again rule text is = rw (pattern-string text is)

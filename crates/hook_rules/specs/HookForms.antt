@@ -10,14 +10,14 @@ use Rattle.lake_base.specs.Settings.{is_pattern_byte}
 use Rattle.lake_base.specs.declared.settings.Deny.{Deny}
 use Rattle.lake_base.specs.declared.settings.Deny.TheVariants.{RequireMeta, DenyPrefix, MaxSize, MaxChanges}
 use Rattle.lake_base.specs.declared.settings.HookRule.{HookRule}
-use Rattle.setting_forms.specs.Forms.{in_turn, passing, text_within, whole_number, field_of, object_of, rules_of}
+use Rattle.setting_forms.specs.Forms.{in_turn, option_filter, text_within, whole_number, field_of, object_of, rules_of}
 use Rattle.setting_forms.specs.declared.fault.RuleFault.{RuleFault}
 use Rattle.hook_rules.specs.declared.hook_type.HookType.{HookType}
 use Rattle.hook_rules.specs.declared.hook_type.HookType.TheVariants as hook
 
 -- a pattern: 1 to 255 bytes of `[A-Za-z0-9_*-]`
 abbrev pub pattern : Data → Option (List ℕ)
-pattern value = passing (list_all is_pattern_byte) (text_within 1 255 value)
+pattern value = option_filter (list_all is_pattern_byte) (text_within 1 255 value)
 
 -- ---- protection
 

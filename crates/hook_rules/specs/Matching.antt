@@ -30,14 +30,14 @@ star_bytes longest (Some star) = length star.name.now
 
 -- the most steps that are left, of a pattern and a name of these lengths
 abbrev pub steps_left : ℕ → ℕ → Walk → ℕ
-steps_left most longest walk = star_bytes longest walk.star * (most + 1) + length walk.pattern.now
+steps_left most longest walk = star_bytes longest walk.star * most + length walk.pattern.now
 
 -- a walk over a pattern and a name of these lengths: if the last star can stand for more, what is left of the pattern matches later too
 pub record IsWalk (most longest : ℕ) (walk : Walk) : Type 0 where
   pub later : matches_again walk.star ≡ true → matches_later walk.pattern.now walk.name.now ≡ true
   pub name : length walk.name.now ≤ star_bytes longest walk.star
   pub pattern : length walk.pattern.now ≤ most
-  pub star : IfSome walk.star (λ star. length star.pattern.now ≤ most)
+  pub star : IfSome walk.star (λ star. length star.pattern.now < most)
 
 -- a step leads on: the outcome stays, and fewer steps are left
 pub record Leads (most longest : ℕ) (walk : Walk) (due : Bool) (next : Walk) : Type 0 where

@@ -8,7 +8,7 @@ use Rattle.serde_json.specs.Find.{get, as_str}
 use Rattle.serde_json.specs.View.{view, items_view}
 use Rattle.serde_json.specs.declared.value.Value.{Value}
 use Rattle.serde_json.proofs.Views.{items_len-items_view}
-use Rattle.setting_forms.specs.Forms.{in_turn, passing, is_within, text_within, field_of, few_of, rules_from}
+use Rattle.setting_forms.specs.Forms.{in_turn, option_filter, is_within, text_within, field_of, few_of, rules_from}
 use Rattle.setting_forms.specs.declared.fault.RuleFault.{RuleFault}
 use Rattle.setting_forms.specs.declared.fault.RuleFault.TheVariants.{Field, TooMany}
 
@@ -86,12 +86,12 @@ passed : {X : Type 0} (test : X → Bool) (x y : X) (b : Bool) → test y ≡ b 
 passed test x y true is e = let same : y ≡ x = cc in (same, ap test (sym same) ∙ is)
 passed test x y false is e = absurd (cc)
 
-pub passing-Some : {X : Type 0} (test : X → Bool) (o : Option X) (x : X) → passing test o ≡ Some x → (o ≡ Some x) × (test x ≡ true)
-passing-Some test None x e = absurd (cc)
-passing-Some test (Some y) x e = let p = passed test x y (test y) refl e in (ap Some p.0, p.1)
+pub option_filter-Some : {X : Type 0} (test : X → Bool) (o : Option X) (x : X) → option_filter test o ≡ Some x → (o ≡ Some x) × (test x ≡ true)
+option_filter-Some test None x e = absurd (cc)
+option_filter-Some test (Some y) x e = let p = passed test x y (test y) refl e in (ap Some p.0, p.1)
 
-pub passing-here : {X : Type 0} (test : X → Bool) (x : X) → test x ≡ true → passing test (Some x) ≡ Some x
-passing-here test x e = ap (λ b. cond b (Some x) None) e
+pub option_filter-here : {X : Type 0} (test : X → Bool) (x : X) → test x ≡ true → option_filter test (Some x) ≡ Some x
+option_filter-here test x e = ap (λ b. cond b (Some x) None) e
 
 pub is_within-true : (least most n : ℕ) → is_within least most n ≡ true → (least ≤ n) × (n ≤ most)
 is_within-true least most n e = let p = and_parts (nat_le least n) (nat_le n most) e in (leb-true least n p.0, leb-true n most p.1)
@@ -100,7 +100,7 @@ pub within : (least most n : ℕ) → least ≤ n → n ≤ most → is_within l
 within least most n low high = ap (λ b. b && nat_le n most) (le-leb least n low) ∙ le-leb n most high
 
 pub text_within-Some : (least most : ℕ) (value : Data) (text : List ℕ) → text_within least most value ≡ Some text → (least ≤ length text) × (length text ≤ most)
-text_within-Some least most value text e = is_within-true least most (length text) (passing-Some (λ t. is_within least most (length t)) (as_str value) text e).1
+text_within-Some least most value text e = is_within-true least most (length text) (option_filter-Some (λ t. is_within least most (length t)) (as_str value) text e).1
 
 pub text_within-string : (least most : ℕ) (text : List ℕ) → least ≤ length text → length text ≤ most → text_within least most (string text) ≡ Some text
-text_within-string least most text low high = passing-here (λ t. is_within least most (length t)) text (within least most (length text) low high)
+text_within-string least most text low high = option_filter-here (λ t. is_within least most (length t)) text (within least most (length text) low high)

@@ -17,9 +17,9 @@ abbrev pub in_turn : {X Y : Type 0} → Result X RuleFault → (X → Result Y R
 in_turn (Ok x) next = next x
 in_turn (Err fault) next = Err fault
 
--- a value that passes a test
-abbrev pub passing : {X : Type 0} → (X → Bool) → Option X → Option X
-passing test value = option_and_then (λ x. if test x then Some x else None) value
+-- the value, where it passes a test
+abbrev pub option_filter : {X : Type 0} → (X → Bool) → Option X → Option X
+option_filter test value = option_and_then (λ x. if test x then Some x else None) value
 
 -- a number between two, both included
 abbrev pub is_within : ℕ → ℕ → ℕ → Bool
@@ -27,7 +27,7 @@ is_within least most n = nat_le least n && nat_le n most
 
 -- a text of so many bytes
 abbrev pub text_within : ℕ → ℕ → Data → Option (List ℕ)
-text_within least most value = passing (λ text. is_within least most (length text)) (as_str value)
+text_within least most value = option_filter (λ text. is_within least most (length text)) (as_str value)
 
 -- a whole number of 64 bits, written without a sign, a fraction and an exponent
 abbrev pub whole_number : Data → Option ℕ
@@ -35,7 +35,7 @@ whole_number value = option_and_then as_u64 (as_number value)
 
 -- a whole number between these
 abbrev pub number_within : ℕ → ℕ → Data → Option ℕ
-number_within least most value = passing (is_within least most) (whole_number value)
+number_within least most value = option_filter (is_within least most) (whole_number value)
 
 -- the field of this name; or its fault: it is missing, of another kind or out of range
 abbrev pub field_of : {X : Type 0} → (Data → Option X) → List ℕ → ℕ → Data → Result X RuleFault
@@ -55,11 +55,11 @@ list_of value = in_turn (ok_or (as_array value) NotList) few_of
 
 -- the list of this name, empty where it is missing
 abbrev pub list_field_of : List ℕ → ℕ → Data → Result Items RuleFault
-list_field_of name rule value = in_turn (listed (get name value)) few_of
+list_field_of name rule value = in_turn (list_here (get name value)) few_of
   where
-    listed : Option Data → Result Items RuleFault
-    listed None = Ok no_items
-    listed (Some list) = ok_or (as_array list) (Field rule name)
+    list_here : Option Data → Result Items RuleFault
+    list_here None = Ok no_items
+    list_here (Some list) = ok_or (as_array list) (Field rule name)
 
 -- the rules of these values, which have the numbers from `rule` on; or the fault of the first that has one
 abbrev pub rules_from : {X : Type 0} → (ℕ → Data → Result X RuleFault) → ℕ → Items → Result (List X) RuleFault
