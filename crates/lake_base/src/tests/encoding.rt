@@ -1,4 +1,5 @@
 // Entries and their fields, to the byte of the format.
+use crate::copying::TryCopy;
 use crate::digest::Digest;
 use crate::encoding::*;
 use crate::entry::{Entry, Place};

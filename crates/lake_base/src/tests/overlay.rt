@@ -14,7 +14,6 @@ use crate::key_map::KeyMap;
 use crate::listing::{Page, PageQuery, page_over};
 use crate::names::Path;
 use crate::outside::NoMemory;
-use crate::sorted::compared;
 use std::alloc::Global;
 use std::cmp::Ordering;
 
@@ -75,7 +74,7 @@ fn order_of_first(entries: &[(Path, Entry)], path: &Path) -> Ordering
     ensures { result ≡ unwrap_or (option_map (λ e. byte_order e.0 path.now) (slice_get entries.now 0)) Greater }
 {
     match entries.first() {
-        Some(entry) => compared(&entry.0, path),
+        Some(entry) => entry.0.cmp(path),
         None => Ordering::Greater,
     }
 }

@@ -6,7 +6,7 @@ use Rattle.lake_base.proofs.listing.item_at.Goals as goal
 
 pub returns-in_default : goal.returns-in_default
 returns-in_default g c =
-    rw (c.in_ok-path.ensures.equal, c.in_ok-entry.ensures)
+    rw (c.in_ok-path.ensures.equal, c.in_ok-entry.ensures.equal)
     (object_listed c.args.query.now (c.args.path.now, c.args.entry.now) (g.C.EntryCursor.left c.args.cursor.now) c.requires.rest c.requires.under
     (ap (common_prefix c.args.query.now.prefix c.args.query.now.delimiter) (sym c.as_slice.ensures.bytes) ∙ sym c.in_default.ensures.name))
 

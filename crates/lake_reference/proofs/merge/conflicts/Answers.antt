@@ -29,4 +29,4 @@ loop-path-preserved c =
 pub returns : goal.returns
 returns c =
     conflicts_all c.args.base.now c.args.source.now c.args.dest.now c.in_ok-paths_of.field-0 c.as_slice-path-items.result.now c.loop-path.path-index
-    c.loop-path-test.false c.as_slice-path-items.ensures c.in_ok-paths_of.ensures c.of.result (c.of.ensures ∙ c.loop-path.invariant)
+    c.loop-path-test.false c.as_slice-path-items.ensures.changes c.in_ok-paths_of.ensures c.of.result (c.of.ensures ∙ c.loop-path.invariant)

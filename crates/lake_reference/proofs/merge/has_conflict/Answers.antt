@@ -21,4 +21,4 @@ returns-then-eq c =
 pub returns : goal.returns
 returns c =
     no_conflict c.args.base.now c.args.source.now c.args.dest.now c.args.paths.now c.as_slice-path-items.result.now c.loop-path.path-index
-    c.loop-path-test.false c.as_slice-path-items.ensures c.requires c.loop-path.invariant
+    c.loop-path-test.false c.as_slice-path-items.ensures.changes c.requires c.loop-path.invariant
