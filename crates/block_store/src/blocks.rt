@@ -27,7 +27,7 @@ pub trait Blocks: Drop {
         ensures put { OnOk result (IfSome (held self.old)
             (λ before. held self.new ≡ Some (map.insert before number bytes.now))) }
 
-        // After a failure of the store the number holds nothing or the bytes; want of memory changes nothing.
+        // After a failure of the store the number holds nothing or the bytes; running out of memory changes nothing.
         ensures failed { IsErrOf result trouble_failed → IfSome (held self.old)
             (λ before. IfSome (held self.new) (MayHavePut number bytes.now before)) }
         ensures no_memory { IsErrOf result trouble_no_memory → held self.new ≡ held self.old }

@@ -125,7 +125,7 @@ last_turn (byte ∷ next) moments lake in_line = ap (λ (l : List (List ℕ)). b
 absurd_high : {A : Type 0} (status : ℕ) → 2 ≤ status → status < 2 → A
 absurd_high status high low = absurd (omega (arith, high, low))
 
--- where memory was wanting, the status isn't below 2
+-- where memory ran out, the status isn't below 2
 starved_high : (final : Progress) (result : Result (Unit {0}) Failed) (status : ℕ) → Ended final.starved final.done result status → OnOk result (final.starved ≡ true) → 2 ≤ status
 starved_high final (Ok u) status is starved = omega (arith, is ∙ ap (λ b. status_of b final.done) starved)
 starved_high final (Err failed) status is starved = omega (arith, is)

@@ -23,7 +23,7 @@ quiet_rose a b quiet rose = let risen : a < b = rose quiet.counting in omega (ar
 low_status : (status : ℕ) → IsBatchStatus status → status ≢ 3 → status ≢ 4 → status ≢ 7 → status < 2
 low_status status is a b c = grind (arith, nat_tests)
 
--- where nothing failed and no memory was wanting, the batch was read to its end
+-- where nothing failed and memory sufficed, the batch was read to its end
 pub quiet_low : (status s0 s1 w0 w1 : ℕ) → IsBatchStatus status → (status ≡ 3 → Rose s0 s1) → (status ≡ 4 → Rose w0 w1) → Quiet s0 s1 → Quiet w0 w1 → status ≢ 7 → status < 2
 quiet_low status s0 s1 w0 w1 is source sink qs qw fed =
     low_status status is (λ e. quiet_rose s0 s1 qs (source e)) (λ e. quiet_rose w0 w1 qw (sink e)) fed

@@ -39,7 +39,7 @@ module _ (timing : Timing) (r0 r1 w0 w1 : Option (List ℕ)) (old new : Progress
         stays = λ was. tt;
       }
 
-  -- memory was wanting at a line
+  -- memory ran out at a line
   pub serves_want : (result : Result (Unit {0}) Failed) → text ≡ out_of_memory → new.starved ≡ true
       → OnOk result (IfSome w0 (λ written. w1 ≡ Some (written ++ text))) → OnErr result (WroteFront text w0 w1) → Serves timing r0 r1 w0 w1 old new line result
   serves_want (Ok u) is starved wrote front = record {

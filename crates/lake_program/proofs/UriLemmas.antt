@@ -12,7 +12,7 @@ path_of_by uri begins found is =
     ap (λ b. cond b (valid_path (drop (length branch_uri) uri) (path_fault (drop (length branch_uri) uri))) None) begins
     ∙ ap (valid_path (drop (length branch_uri) uri)) is
 
--- a refusal that isn't for want of memory is the first fault
+-- a refusal that isn't out of memory is the first fault
 pub fault_found : {X : Type 0} (P : X → Type 0) (fault : NameFault) (found : Option NameFault) → ReadsName (Err fault) found P → fault ≢ NoMemory → found ≡ Some fault
 fault_found P Empty found is other = is
 fault_found P TooShort found is other = is

@@ -9,7 +9,7 @@ use Rattle.lake_program.specs.Batch.{Lake, Served, turn, batch, before}
 use Rattle.lake_program.specs.Front.{IsPrefix, AsStated}
 use Rattle.lake_program.specs.Text.{out_of_memory}
 
--- what a batch has come to: its lake, whether each line was done, whether memory was wanting, and the line under way
+-- what a batch has come to: its lake, whether each line was done, whether memory ran out, and the line under way
 pub record Progress : Type 0 where
   pub lake : Lake
   pub done : Bool
@@ -75,7 +75,7 @@ pub record Feeds (timing : Timing) (earlier later written_before written_after :
 abbrev pub Turns : List ℕ → List ℕ → List ℕ → Bool → Lake → Lake → Type 0
 Turns line moments out done old new = (later : List ℕ) → turn line (moments ++ later) old ≡ record { text = out; done = done; lake = new; left = later }
 
--- what was written of a line where writing failed: a front of what it shows, or of the text of want of memory
+-- what was written of a line where writing failed: a front of what it shows, or of the text of out of memory
 abbrev pub IsCutTurn : List ℕ → List ℕ → List ℕ → Lake → Type 0
 IsCutTurn line moments out old = ((later : List ℕ) → IsPrefix out (turn line (moments ++ later) old).text) ⊎ IsPrefix out out_of_memory
 

@@ -12,10 +12,10 @@ pub record WantsMemory (out stated : List ℕ) : Type 0 where
   pub so_far : IsPrefix front stated
   pub text : IsPrefix (front ++ out_of_memory) out ⊎ IsPrefix out (front ++ out_of_memory)
 
--- All that is stated was written, or it was so far so when memory was wanting.
+-- All that is stated was written, or it was so far so when memory ran out.
 abbrev pub IsServed : List ℕ → List ℕ → Type 0
 IsServed out stated = (out ≡ stated) ⊎ WantsMemory out stated
 
--- It is a prefix of what is stated, or was so when memory was wanting.
+-- It is a prefix of what is stated, or was so when memory ran out.
 abbrev pub AsStated : List ℕ → List ℕ → Type 0
 AsStated out stated = IsPrefix out stated ⊎ WantsMemory out stated

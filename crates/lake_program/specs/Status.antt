@@ -4,11 +4,11 @@ use Rattle.lake_base.specs.declared.outside.Failed.{Failed}
 use Rattle.lake_program.specs.Front.{IsPrefix}
 use Rattle.lake_program.specs.Text.{usage}
 
--- the status of a batch that was read to its end, by whether memory was wanting and whether each line was done
+-- the status of a batch that was read to its end, by whether memory ran out and whether each line was done
 abbrev pub status_of : Bool → Bool → ℕ
 status_of starved done = if starved then 7 else if done then 0 else 1
 
--- done; a line was refused; the source failed; a sink failed; want of memory
+-- done; a line was refused; the source failed; a sink failed; out of memory
 abbrev pub IsBatchStatus : ℕ → Type 0
 IsBatchStatus status = IsTrue ((status == 0) || (status == 1) || (status == 3) || (status == 4) || (status == 7))
 

@@ -13,7 +13,7 @@ line text = text ++ 10 ∷ []
 abbrev pub not_built : List ℕ
 not_built = line (codes "Error: not built yet")
 
--- want of memory
+-- out of memory
 abbrev pub out_of_memory : List ℕ
 out_of_memory = line (codes "Error: out of memory [507]")
 

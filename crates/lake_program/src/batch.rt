@@ -22,11 +22,11 @@ use std::alloc::Global;
 pub struct Tally {
     /// Whether each was done, or passed over.
     pub done: bool,
-    /// Whether memory was wanting at one.
+    /// Whether memory ran out at one.
     pub starved: bool,
 }
 
-// The statuses of a run: the source failed, a sink failed, and memory was wanting.
+// The statuses of a run: the source failed, a sink failed, and memory ran out.
 const SOURCE_FAILED: u8 = 3;
 
 pub const SINK_FAILED: u8 = 4;

@@ -109,7 +109,7 @@ fn read_path(alloc: Global, uri: &[u8]) -> Result<Option<Path>, NoMemory>
     }
 }
 
-// There is no path, unless it couldn't be told for want of memory.
+// There is no path, unless memory ran out before it could be told.
 fn no_path(fault: NameFault) -> Result<Option<Path>, NoMemory>
     ensures { IfOk result (λ path. (path ≡ None) × (fault ≢ NameFault.NoMemory)) }
 {

@@ -31,8 +31,8 @@ const USAGE_STATUS: u8 = 2;
 ///
 /// The answer is the program's status: 0 where each line was done, 1 where one was refused or the
 /// batch was too long, 2 for a usage fault, 3 where the source failed, 4 where the sink or `errors`
-/// did, 7 where memory was wanting. The first that is met ends the run, but a line's refusal or want of
-/// memory doesn't.
+/// did, 7 where memory ran out. The first that is met ends the run, but a line that is refused or that
+/// finds no memory doesn't.
 pub fn run<R, S: Source, W: Sink, E: Sink, C: Clock, H: Host>(
     _rt: &R,
     alloc: Global,
@@ -43,7 +43,7 @@ pub fn run<R, S: Source, W: Sink, E: Sink, C: Clock, H: Host>(
     clock: &mut C,
     _host: &mut H,
 ) -> u8
-    // Where nothing failed and no memory was wanting, the sink got just what the lines come to on the
+    // Where nothing failed and memory sufficed, the sink got just what the lines come to on the
     // one-thread lake, from the fresh lake on; each request took one moment, the next.
     ensures batch { Quiet (S.faults source.old) (S.faults source.new) → Quiet (W.faults sink.old) (W.faults sink.new) → Quiet (E.faults errors.old) (E.faults errors.new) → result ≢ 7
         → IfSome (timing_of words.now) (λ timing. IfSome (S.left source.old) (λ input. IfSome (W.written sink.old) (λ before.

@@ -64,7 +64,7 @@ impl Session {
         })
     }
 
-    /// Serves a request that is made at this moment. After want of memory some entries of the request
+    /// Serves a request that is made at this moment. After it ran out of memory some entries of the request
     /// may stand, and its number may have been given out.
     pub fn serve(&mut self, command: Command<'_>, moment: u64) -> Result<Reply, NoMemory>
         requires { self.old.calls + 1 < 2 ^ 64 }
