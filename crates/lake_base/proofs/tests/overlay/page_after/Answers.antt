@@ -1,21 +1,21 @@
-use Rattle.std.proofs.Common.{◌≡◌, IfOk, take, length, nat_lt, sym, ap, subst, ◌∙◌}
-use Rattle.std.specs.FinMap.{entries, entries_sorted, from_sorted}
+use Rattle.std.proofs.Common.{◌≡◌, IfOk, take, length, nat_lt, ap, subst, ◌∙◌}
+use Rattle.std.specs.FinMap.{entries, from_sorted}
 use Rattle.lake_base.specs.KeyMap.{apply}
 use Rattle.lake_base.specs.Listing.{items_left}
-use Rattle.lake_base.specs.Maps.{byte_order, HasAscendingKeys}
+use Rattle.lake_base.specs.Maps.{byte_order}
 use Rattle.lake_base.proofs.MapsLemmas.{same_again}
 use Rattle.lake_base.proofs.OverlayLemmas.{changed}
 use Rattle.lake_base.proofs.tests.overlay.page_after.Goals as goal
 
 pub invariant_of-cursor : goal.invariant_of-cursor
 invariant_of-cursor c = record {
-  changes_ascend = subst HasAscendingKeys (sym c.as_slice.ensures) (entries_sorted c.args.changes.now);
-  entries_ascend = subst HasAscendingKeys (sym c.as_slice-2.ensures.entries) (entries_sorted c.args.map.now);
+  changes_ascend = c.as_slice.ensures.ascend;
+  entries_ascend = c.as_slice-2.ensures.ascend;
 }
 
 left_is : (c : goal.After-page_over) → changed c.as_slice.result.now c.as_slice-2.result.now ≡ entries (apply c.args.changes.now c.args.map.now)
 left_is c =
-    ap (λ cs. entries (apply (from_sorted {R = byte_order} cs) (from_sorted {R = byte_order} c.as_slice-2.result.now))) c.as_slice.ensures
+    ap (λ cs. entries (apply (from_sorted {R = byte_order} cs) (from_sorted {R = byte_order} c.as_slice-2.result.now))) c.as_slice.ensures.changes
     ∙ ap (λ m. entries (apply m (from_sorted {R = byte_order} c.as_slice-2.result.now))) (same_again c.args.changes.now)
     ∙ ap (λ es. entries (apply c.args.changes.now (from_sorted {R = byte_order} es))) c.as_slice-2.ensures.entries
     ∙ ap (λ m. entries (apply c.args.changes.now m)) (same_again c.args.map.now)
