@@ -3,7 +3,7 @@ use Rattle.std.proofs.Common.{Option, Some, Bor, MatchOption, ◌≡◌, ℕ, su
 use Rattle.std.specs.Bool.{◌==◌}
 use Rattle.std.specs.List.{list_all}
 use Rattle.std.proofs.lemmas.Bool.Decides.{Decides-eqb}
-use Rattle.lake_base.specs.HookDecisions.{begins_with_byte, matches}
+use Rattle.lake_values.specs.HookDecisions.{begins_with_byte, matches}
 use Rattle.hook_rules.specs.Matching.{matches_later, matches_after_one, matches_again, outcome, star_bytes, IsWalk, Leads}
 use Rattle.hook_rules.specs.declared.pattern.Walk.{Walk}
 

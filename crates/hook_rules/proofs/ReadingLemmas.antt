@@ -3,10 +3,10 @@ use Rattle.std.proofs.Common.{◌≡◌, ℕ, List, [], ◌∷◌, true, Option,
 use Rattle.std.specs.List.{list_all, AllByRecursion}
 use Rattle.std.proofs.lemmas.Bool.{and_parts}
 use Rattle.serde_json.specs.Data.{Data, Items}
-use Rattle.lake_base.specs.Settings.{is_pattern_byte, IsPattern, IsDeny, IsProtection, AreHooks}
-use Rattle.lake_base.specs.declared.settings.Deny.{Deny}
-use Rattle.lake_base.specs.declared.settings.Deny.TheVariants.{RequireMeta, DenyPrefix, MaxSize, MaxChanges}
-use Rattle.lake_base.specs.declared.settings.HookRule.{HookRule}
+use Rattle.lake_values.specs.Settings.{is_pattern_byte, IsPattern, IsDeny, IsProtection, AreHooks}
+use Rattle.lake_values.specs.declared.settings.Deny.{Deny}
+use Rattle.lake_values.specs.declared.settings.Deny.TheVariants.{RequireMeta, DenyPrefix, MaxSize, MaxChanges}
+use Rattle.lake_values.specs.declared.settings.HookRule.{HookRule}
 use Rattle.setting_forms.specs.Forms.{text_within, whole_number, field_of, object_of, list_of, rules_from}
 use Rattle.setting_forms.specs.declared.fault.RuleFault.{RuleFault}
 use Rattle.setting_forms.proofs.FormsLemmas.{in_turn-Ok, field_of-Ok, option_filter-Some, text_within-Some}

@@ -8,10 +8,10 @@ use Rattle.serde_json.specs.declared.value.Value.{Value, Array}
 use Rattle.serde_json.proofs.Views.{view-Array}
 use Rattle.serde_json.specs.Written.{has_float, compact_text}
 use Rattle.serde_json.proofs.Numbers.{number_of-decimal}
-use Rattle.lake_base.specs.Settings.{is_pattern_byte, IsPattern, IsDeny, IsProtection, AreHooks}
-use Rattle.lake_base.specs.declared.settings.Deny.{Deny}
-use Rattle.lake_base.specs.declared.settings.Deny.TheVariants.{RequireMeta, DenyPrefix, MaxSize, MaxChanges}
-use Rattle.lake_base.specs.declared.settings.HookRule.{HookRule}
+use Rattle.lake_values.specs.Settings.{is_pattern_byte, IsPattern, IsDeny, IsProtection, AreHooks}
+use Rattle.lake_values.specs.declared.settings.Deny.{Deny}
+use Rattle.lake_values.specs.declared.settings.Deny.TheVariants.{RequireMeta, DenyPrefix, MaxSize, MaxChanges}
+use Rattle.lake_values.specs.declared.settings.HookRule.{HookRule}
 use Rattle.setting_forms.proofs.FormsLemmas.{option_filter-here, text_within-string}
 use Rattle.setting_forms.proofs.RulesLemmas.{rules_of-written}
 use Rattle.setting_forms.proofs.TextLemmas.{IsFlat, no_floats, flat, read-list, number_flat}

@@ -6,10 +6,10 @@ use Rattle.serde_json.specs.Data.{Data, string, number, unsigned, array, object,
 use Rattle.serde_json.specs.Find.{as_str}
 use Rattle.serde_json.specs.View.{items_of}
 use Rattle.serde_json.specs.Written.{compact_text}
-use Rattle.lake_base.specs.Settings.{is_pattern_byte}
-use Rattle.lake_base.specs.declared.settings.Deny.{Deny}
-use Rattle.lake_base.specs.declared.settings.Deny.TheVariants.{RequireMeta, DenyPrefix, MaxSize, MaxChanges}
-use Rattle.lake_base.specs.declared.settings.HookRule.{HookRule}
+use Rattle.lake_values.specs.Settings.{is_pattern_byte}
+use Rattle.lake_values.specs.declared.settings.Deny.{Deny}
+use Rattle.lake_values.specs.declared.settings.Deny.TheVariants.{RequireMeta, DenyPrefix, MaxSize, MaxChanges}
+use Rattle.lake_values.specs.declared.settings.HookRule.{HookRule}
 use Rattle.setting_forms.specs.Forms.{in_turn, option_filter, text_within, whole_number, field_of, object_of, rules_of}
 use Rattle.setting_forms.specs.declared.fault.RuleFault.{RuleFault}
 use Rattle.hook_rules.specs.declared.hook_type.HookType.{HookType}

@@ -1,7 +1,7 @@
 -- What is left to do of the match of a pattern and a name.
 use Rattle.std.specs.Prelude.{◌≡◌, ◌+◌, ◌*◌, ◌≤◌, ◌<◌, ◌||◌, ℕ, Bool, true, false, List, [], ◌∷◌, length, Option, Some, None, IfSome}
 use Rattle.std.specs.List.{list_any}
-use Rattle.lake_base.specs.HookDecisions.{matches, suffixes}
+use Rattle.lake_values.specs.HookDecisions.{matches, suffixes}
 use Rattle.hook_rules.specs.declared.pattern.Star.{Star}
 use Rattle.hook_rules.specs.declared.pattern.Walk.{Walk}
 

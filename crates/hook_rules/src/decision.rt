@@ -2,16 +2,16 @@
 ghost use Rattle.std.specs.Prelude.{◌≡◌, is_none, nat_eq};
 ghost use Rattle.std.specs.FinMap.{entries, find};
 ghost use Rattle.std.specs.List.{list_any, starts_with};
-ghost use Rattle.lake_base.specs.HookDecisions.{protecting_pattern, puts_more, forbids, denies, denying_rule};
+ghost use Rattle.lake_values.specs.HookDecisions.{protecting_pattern, puts_more, forbids, denies, denying_rule};
 ghost use Rattle.lake_base.specs.Maps.{byte_order};
 ghost use Rattle.hook_rules.specs.HookDecision.{decision_of};
 
 use crate::pattern::matches;
-use lake_base::changes::Changes;
-use lake_base::entry::Change;
 use lake_base::names::RefName;
-use lake_base::pairs::Pairs;
-use lake_base::settings::{Deny, HookRule, HookRules, Protection};
+use lake_values::changes::Changes;
+use lake_values::entry::Change;
+use lake_values::pairs::Pairs;
+use lake_values::settings::{Deny, HookRule, HookRules, Protection};
 
 /// What hooks are asked of: a branch, the metadata of the commit that is to become its head, and the changes by
 /// which the new map differs from the head's.

@@ -19,5 +19,5 @@ mod tests;
 
 pub use decision::{Decision, Event, decide, protects};
 pub use hooks::{law_of_hooks, read_hooks, write_hooks};
-pub use lake_base::threads::hooks_cross;
+pub use lake_values::threads::hooks_cross;
 pub use protection::{law_of_protection, read_protection, write_protection};

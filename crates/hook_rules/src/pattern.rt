@@ -2,8 +2,8 @@
 ghost use Rattle.std.specs.Prelude.{◌≡◌, ◌∷◌, ℕ, false, MatchOption};
 ghost use Rattle.std.specs.List.{list_all};
 ghost use Rattle.serde_json.specs.View.{view};
-ghost use Rattle.lake_base.specs.HookDecisions.{matches};
-ghost use Rattle.lake_base.specs.Settings.{is_pattern_byte};
+ghost use Rattle.lake_values.specs.HookDecisions.{matches};
+ghost use Rattle.lake_values.specs.Settings.{is_pattern_byte};
 ghost use Rattle.setting_forms.specs.Forms.{IsReadAs, field_of};
 ghost use Rattle.hook_rules.specs.HookForms.{pattern};
 

@@ -2,15 +2,15 @@
 ghost use Rattle.std.specs.Prelude.{◌≡◌, ℕ, List, Ok, Some, IfOk, option_map};
 ghost use Rattle.serde_json.specs.Read.{read};
 ghost use Rattle.serde_json.specs.View.{view};
-ghost use Rattle.lake_base.specs.Settings.{IsProtection};
+ghost use Rattle.lake_values.specs.Settings.{IsProtection};
 ghost use Rattle.setting_forms.specs.Forms.{IsReadAs};
 ghost use Rattle.hook_rules.specs.HookForms.{pattern_of, protection_of, pattern_data, protection_data, protection_text};
 
 use crate::pattern::read_pattern;
 use lake_base::outside::NoMemory;
 use lake_base::sequence::Sequence;
-use lake_base::settings::Protection;
 use lake_base::text::Text;
+use lake_values::settings::Protection;
 use serde_json::{Map, Value};
 use setting_forms::{RuleFault, RuleObject, rule_list};
 use std::alloc::Global;

@@ -3,7 +3,8 @@ use crate::pattern::matches;
 use crate::{
     Decision, Event, decide, protects, read_hooks, read_protection, write_hooks, write_protection,
 };
-use lake_base::{Change, Changes, Digest, Entry, Pairs, Path, Place, RefName, Text};
+use lake_base::{Digest, Path, RefName, Text};
+use lake_values::{Change, Changes, Entry, Pairs, Place};
 use serde_json::Value;
 use setting_forms::RuleFault;
 use std::alloc::Global;

@@ -1,6 +1,7 @@
 //! Paths, and the names of repositories, branches and tags.
 ghost use Rattle.std.specs.Prelude.{◌≡◌, ◌+◌, ◌<◌, not, length, position, IfOk, None};
 ghost use Rattle.lake_base.specs.Names.{ReadsName, path_fault, repo_fault, ref_fault, bad_byte, begins_repo, continues_repo, begins_ref, continues_ref, is_hex, stray_hex, is_like_id};
+ghost use Rattle.lake_base.specs.declared.names.NameFault.TheVariants.{NoMemory as name_no_memory};
 
 use crate::copying::TryCopy;
 use crate::limits::{PATH_LIMIT, REF_NAME_LIMIT, REPO_NAME_LIMIT};
@@ -31,6 +32,14 @@ pub enum NameFault {
     /// No memory was left.
     #[error("out of memory")]
     NoMemory,
+}
+
+impl From<NoMemory> for NameFault {
+    ghost from_gives = { λ _ e. e ≡ name_no_memory };
+
+    fn from(_: NoMemory) -> Self {
+        NameFault::NoMemory
+    }
 }
 
 // Whether the name of a repository may begin with the byte: a lower-case letter or a digit.

@@ -1,14 +1,8 @@
 //! What stands outside the lake: sources, sinks and clocks.
 ghost use Rattle.std.specs.Prelude.{◌≡◌, ◌≤◌, ◌++◌, ◌∷◌, [], ℕ, List, Option, length, take, IfOk, IfSome, OnErr, IsSome};
 ghost use Rattle.lake_base.specs.Outside.{HasCause, Reads, Takes};
-ghost use Rattle.lake_base.specs.declared.fields.EntryFault.TheVariants.{NoMemory as entry_no_memory};
-ghost use Rattle.lake_base.specs.declared.names.NameFault.TheVariants.{NoMemory as name_no_memory};
 ghost use Rattle.lake_base.specs.declared.outside.Trouble.TheVariants.{NoMemory as trouble_no_memory};
-ghost use Rattle.lake_base.specs.declared.pairs.PairsFault.TheVariants.{NoMemory as pairs_no_memory};
 
-use crate::fields::EntryFault;
-use crate::names::NameFault;
-use crate::pairs::PairsFault;
 use std::alloc::{AllocError, AllocFailed};
 
 /// An object of the outside failed, and counted it.
@@ -51,30 +45,6 @@ impl<T: Drop> From<AllocFailed<T>> for Trouble {
 
     fn from(_: AllocFailed<T>) -> Self {
         Trouble::NoMemory
-    }
-}
-
-impl From<NoMemory> for NameFault {
-    ghost from_gives = { λ _ e. e ≡ name_no_memory };
-
-    fn from(_: NoMemory) -> Self {
-        NameFault::NoMemory
-    }
-}
-
-impl From<NoMemory> for PairsFault {
-    ghost from_gives = { λ _ e. e ≡ pairs_no_memory };
-
-    fn from(_: NoMemory) -> Self {
-        PairsFault::NoMemory
-    }
-}
-
-impl From<NoMemory> for EntryFault {
-    ghost from_gives = { λ _ e. e ≡ entry_no_memory };
-
-    fn from(_: NoMemory) -> Self {
-        EntryFault::NoMemory
     }
 }
 

@@ -1,12 +1,7 @@
 //! Tables of the words: what no clause says, and each call once with ample memory.
 mod copies;
-mod encoding;
-mod listing;
-mod maps;
 mod names;
 mod order;
-mod overlay;
-mod pairs;
 
 use super::*;
 use std::alloc::Global;
@@ -15,20 +10,4 @@ use std::test::Fail;
 // A text of at most 4,096 bytes.
 fn text(alloc: Global, bytes: &[u8]) -> Result<Text, NameFault> {
     Text::read(alloc, bytes, 4096)
-}
-
-// An own object of this size, with one pair of metadata.
-fn entry(alloc: Global, size: u64) -> Result<Entry, Fail> {
-    let mut metadata = Pairs::new(alloc);
-    metadata.set(text(alloc, b"k")?, text(alloc, b"v")?)?;
-    Ok(Entry {
-        place: Place::Own {
-            number: 7,
-            digest: Digest([9; 32]),
-        },
-        size,
-        mtime: 0,
-        content_type: Text::read(alloc, b"a/b", 255)?,
-        metadata,
-    })
 }

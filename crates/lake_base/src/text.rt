@@ -78,8 +78,8 @@ impl Text {
         }
     }
 
-    /// A text as it stands.
-    pub(crate) fn of(text: String) -> Text
+    /// The text of a string. It takes no memory.
+    pub fn of(text: String) -> Text
         ensures { result ≡ string_bytes text }
     {
         Text { text }

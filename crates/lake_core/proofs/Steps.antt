@@ -5,7 +5,7 @@ use Rattle.std.specs.FinMap.{FinMap, get, insert, remove, get-insert}
 use Rattle.std.specs.Ordering.{nat_cmp}
 use Rattle.std.specs.Cmp.{eq_by_cmp_equiv}
 use Rattle.std.specs.Cmp.Lexicographic.{nat_list_cmp_total}
-use Rattle.lake_base.specs.declared.entry.Change.{Change}
+use Rattle.lake_values.specs.declared.entry.Change.{Change}
 use Rattle.lake_model.specs.declared.history.By.{By}
 use Rattle.lake_model.specs.declared.history.HistoryEntry.{HistoryEntry}
 use Rattle.lake_model.specs.declared.history.EntryKind.TheVariants.{TicketTake, TicketDrop, Stage}
@@ -19,7 +19,7 @@ use Rattle.lake_model.specs.declared.reply.StepFault.{StepFault}
 use Rattle.lake_model.specs.declared.reply.StepFault.TheVariants.{NoRepo, NoRef}
 use Rattle.std.specs.Str.{bytes_eq}
 use Rattle.std.proofs.lemmas.Map.Text.{is_eq-slice_cmp}
-use Rattle.lake_base.specs.Entry.{EntryValue}
+use Rattle.lake_values.specs.Entry.{EntryValue}
 use Rattle.lake_model.proofs.Only.{ties, staged-only, named-only, there-only, refusal-only}
 use Rattle.lake_model.proofs.Refused.{room, there, refused-next}
 use Rattle.lake_model.proofs.Replay.{replay-push, IsLegal-push}

@@ -8,11 +8,12 @@ ghost use Rattle.lake_model.specs.Legal.{IsLegal, HasTicket, given};
 ghost use Rattle.lake_model.specs.Reply.{Gives, look_reply, versions_reply, ticket_reply, drop_reply, stage_reply, found_in, shown_by, full_refusal, branch_refusal, version_refusal};
 ghost use Rattle.lake_model.specs.declared.history.EntryKind.TheVariants.{TicketTake, TicketDrop, Stage};
 
-use lake_base::{Change, Changes, Entry, NoMemory, Path, Place, RefName, RepoName, TryCopy};
+use lake_base::{NoMemory, Path, RefName, RepoName, TryCopy};
 use lake_model::history::HISTORY_LIMIT;
 use lake_model::{
     By, EntryKind, FIRST_BRANCH, FIRST_REPO, HistoryEntry, Seen, StepFault, Versions,
 };
+use lake_values::{Change, Changes, Entry, Place};
 use std::alloc::Global;
 use std::collections::BTreeMap;
 use std::marker::Model;
@@ -223,20 +224,35 @@ impl PlainLake {
 
         // Take memory.
         let number = put_number(&change);
-        let kind = EntryKind::Stage {
-            repo: repo.copy(self.alloc)?,
-            branch: branch.copy(self.alloc)?,
-            path: path.copy(self.alloc)?,
-            change: change.copy(self.alloc)?,
-        };
+        let entry = stage_entry(self.alloc, by, repo, branch, &path, &change)?;
         self.history.reserve(1)?;
         self.staged.set(path, change)?;
 
         // Change.
         remove_ticket(&mut self.tickets, number);
-        append(&mut self.history, HistoryEntry { by, kind });
+        append(&mut self.history, entry);
         Ok(self.count())
     }
+}
+
+// The entry of a change that is staged.
+fn stage_entry(
+    alloc: Global,
+    by: By,
+    repo: &RepoName,
+    branch: &RefName,
+    path: &Path,
+    change: &Change,
+) -> Result<HistoryEntry, NoMemory>
+    ensures { IfOk result (λ entry. entry ≡ record { by = by; kind = Stage repo.now branch.now path.now change.now }) }
+{
+    let kind = EntryKind::Stage {
+        repo: repo.copy(alloc)?,
+        branch: branch.copy(alloc)?,
+        path: path.copy(alloc)?,
+        change: change.copy(alloc)?,
+    };
+    Ok(HistoryEntry { by, kind })
 }
 
 // The entry that the changes show at a path.

@@ -1,9 +1,8 @@
 //! What a plain lake answers and shows after a few steps.
 use crate::PlainLake;
-use lake_base::{
-    Change, Digest, Entry, NameFault, Pairs, Path, Place, RefName, RepoName, Text, TryCopy,
-};
+use lake_base::{Digest, NameFault, Path, RefName, RepoName, Text, TryCopy};
 use lake_model::{By, FIRST_BRANCH, FIRST_REPO, StepFault, Versions};
+use lake_values::{Change, Entry, Pairs, Place};
 use std::alloc::Global;
 use std::test::Fail;
 

@@ -6,7 +6,7 @@ use Rattle.std.specs.Option.{option_map_or, is_some}
 use Rattle.std.specs.Cmp.{Equal-is}
 use Rattle.std.specs.Ordering.{nat_cmp, eq_by_cmp}
 use Rattle.std.specs.Cmp.Lexicographic.{slice_cmp, nat_list_cmp_total}
-use Rattle.lake_base.specs.declared.entry.Change.{Change}
+use Rattle.lake_values.specs.declared.entry.Change.{Change}
 use Rattle.lake_base.specs.Maps.{ByteMap}
 use Rattle.lake_model.specs.State.{Branch, Repository, State, branch_of, only, fresh_repo, fresh_branch}
 use Rattle.lake_model.specs.After.{changed_at, staged_in}

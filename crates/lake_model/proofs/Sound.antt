@@ -4,7 +4,7 @@ use Rattle.std.specs.Prelude.{Option, Some, None, IsSome, IfSome, is_some}
 use Rattle.std.specs.FinMap.{FinMap, get, remove, empty, get-insert, get-remove, get-empty, nat_cmp-IsAntisymmetric}
 use Rattle.std.specs.Ordering.{nat_cmp, eq_by_cmp}
 use Rattle.std.specs.Cmp.{nat_cmp_total, Equal-is}
-use Rattle.lake_base.specs.declared.entry.Change.{Change}
+use Rattle.lake_values.specs.declared.entry.Change.{Change}
 use Rattle.lake_model.specs.declared.history.HistoryEntry.{HistoryEntry}
 use Rattle.lake_model.specs.declared.history.EntryKind.{EntryKind}
 use Rattle.lake_model.specs.declared.history.EntryKind.TheVariants.{TicketTake, TicketDrop, Stage}

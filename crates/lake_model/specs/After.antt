@@ -3,10 +3,10 @@ use Rattle.std.specs.Prelude.{ℕ, ◌+◌, List, [], ◌∷◌, Option, Some, N
 use Rattle.std.specs.Option.{option_map_or}
 use Rattle.std.specs.FinMap.{FinMap, get, insert, remove}
 use Rattle.std.specs.Ordering.{nat_cmp}
-use Rattle.lake_base.specs.declared.entry.Place.{Place}
-use Rattle.lake_base.specs.declared.entry.Place.TheVariants.{Own, External}
-use Rattle.lake_base.specs.declared.entry.Change.{Change}
-use Rattle.lake_base.specs.declared.entry.Change.TheVariants.{Put, Delete}
+use Rattle.lake_values.specs.declared.entry.Place.{Place}
+use Rattle.lake_values.specs.declared.entry.Place.TheVariants.{Own, External}
+use Rattle.lake_values.specs.declared.entry.Change.{Change}
+use Rattle.lake_values.specs.declared.entry.Change.TheVariants.{Put, Delete}
 use Rattle.lake_model.specs.declared.history.HistoryEntry.{HistoryEntry}
 use Rattle.lake_model.specs.declared.history.EntryKind.{EntryKind}
 use Rattle.lake_model.specs.declared.history.EntryKind.TheVariants.{TicketTake, TicketDrop, Stage}

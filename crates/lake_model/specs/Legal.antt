@@ -1,7 +1,7 @@
 -- Where an entry may stand, and what holds of every state that a legal history leads to.
 use Rattle.std.specs.Prelude.{◌≡◌, ◌<◌, ℕ, List, [], ◌∷◌, ◌++◌, Some, IsSome, IfSome}
 use Rattle.std.specs.FinMap.{get}
-use Rattle.lake_base.specs.declared.entry.Change.{Change}
+use Rattle.lake_values.specs.declared.entry.Change.{Change}
 use Rattle.lake_model.specs.declared.history.HistoryEntry.{HistoryEntry}
 use Rattle.lake_model.specs.declared.history.EntryKind.{EntryKind}
 use Rattle.lake_model.specs.declared.history.EntryKind.TheVariants.{TicketTake, TicketDrop, Stage}

@@ -1,9 +1,9 @@
 -- What the one-thread lake answers at a state.
 use Rattle.std.specs.Prelude.{◌≡◌, ◌+◌, ℕ, false, nat_lt, ◌==◌, if◌then◌else◌, List, Option, Some, None, option_and_then, is_some, Result, Ok, Err}
 use Rattle.std.specs.FinMap.{get, contains_key}
-use Rattle.lake_base.specs.Entry.{EntryValue}
-use Rattle.lake_base.specs.declared.entry.Change.{Change}
-use Rattle.lake_base.specs.declared.entry.Change.TheVariants.{Put, Delete}
+use Rattle.lake_values.specs.Entry.{EntryValue}
+use Rattle.lake_values.specs.declared.entry.Change.{Change}
+use Rattle.lake_values.specs.declared.entry.Change.TheVariants.{Put, Delete}
 use Rattle.lake_model.specs.declared.reply.Seen.{Seen}
 use Rattle.lake_model.specs.declared.reply.Versions.{Versions}
 use Rattle.lake_model.specs.declared.reply.StepFault.{StepFault}

@@ -3,7 +3,7 @@ use Rattle.std.specs.Prelude.{ℕ, List, Option, option_and_then, codes}
 use Rattle.std.specs.FinMap.{FinMap, empty, get, insert}
 use Rattle.std.specs.Ordering.{nat_cmp}
 use Rattle.lake_base.specs.Maps.{ByteMap}
-use Rattle.lake_base.specs.declared.entry.Change.{Change}
+use Rattle.lake_values.specs.declared.entry.Change.{Change}
 
 -- a branch: the changes that are staged on it
 pub record Branch : Type 0 where

@@ -1,6 +1,7 @@
 //! The entries of a history: each accepted change of the lake, as it was made.
 
-use lake_base::{Change, Path, RefName, RepoName};
+use lake_base::{Path, RefName, RepoName};
+use lake_values::Change;
 
 /// The most entries of one history. A change that finds so many is refused as HistoryFull.
 pub const HISTORY_LIMIT: u64 = 4_194_304;

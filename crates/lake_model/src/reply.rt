@@ -3,7 +3,8 @@
 ghost use Rattle.std.specs.Prelude.{◌≡◌};
 ghost use Rattle.lake_model.specs.declared.reply.StepFault.TheVariants.{NoMemory as step_no_memory};
 
-use lake_base::{Entry, NoMemory};
+use lake_base::NoMemory;
+use lake_values::Entry;
 use std::alloc::{AllocError, AllocFailed};
 
 /// Why a step of the lake was refused. Where several causes stand together, the one that stands

@@ -4,9 +4,9 @@ use Rattle.std.specs.List.{slice_split}
 use Rattle.std.specs.Str.Lines.{lines, strip_carriage_return}
 use Rattle.std.specs.FinMap.{empty, get, insert}
 use Rattle.lake_base.specs.Digest.{sha256}
-use Rattle.lake_base.specs.Entry.{EntryValue}
-use Rattle.lake_base.specs.declared.entry.Place.TheVariants.{Own}
-use Rattle.lake_base.specs.declared.entry.Change.TheVariants.{Put}
+use Rattle.lake_values.specs.Entry.{EntryValue}
+use Rattle.lake_values.specs.declared.entry.Place.TheVariants.{Own}
+use Rattle.lake_values.specs.declared.entry.Change.TheVariants.{Put}
 use Rattle.block_store.specs.Blocks.{HeldObjects}
 use Rattle.lake_model.specs.declared.history.HistoryEntry.{HistoryEntry}
 use Rattle.lake_model.specs.declared.history.EntryKind.{EntryKind}

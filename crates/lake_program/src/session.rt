@@ -3,16 +3,17 @@ ghost use Rattle.std.specs.Prelude.{◌≡◌, ◌≢◌, ◌+◌, ◌<◌, ◌^
 ghost use Rattle.lake_model.specs.State.{fresh_repo, fresh_branch};
 ghost use Rattle.lake_model.specs.Legal.{HasTicket};
 ghost use Rattle.lake_model.specs.Reply.{look_reply, ticket_reply, drop_reply, stage_reply};
-ghost use Rattle.lake_base.specs.declared.entry.Change.TheVariants.{Put};
+ghost use Rattle.lake_values.specs.declared.entry.Change.TheVariants.{Put};
 ghost use Rattle.lake_program.specs.Text.{refused, uploaded};
 ghost use Rattle.lake_program.specs.Batch.{entry_of};
 
 use crate::command::Command;
 use crate::text::{lost, no_path, refused, uploaded};
 use block_store::{Blocks, SureBlocks};
-use lake_base::{Change, Digest, Entry, NoMemory, Pairs, Path, Place, RefName, RepoName, Text};
+use lake_base::{Digest, NoMemory, Path, RefName, RepoName, Text};
 use lake_core::PlainLake;
 use lake_model::{By, FIRST_BRANCH, FIRST_REPO, StepFault};
+use lake_values::{Change, Entry, Pairs, Place};
 use std::alloc::Global;
 
 // How an uploaded text is kept.

@@ -6,8 +6,8 @@ use Rattle.std.specs.List.{Contains, list_any}
 use Rattle.std.specs.List.Sorted.{IsStrictlySortedBy}
 use Rattle.std.proofs.lemmas.List.Kept.{IsStrictlySortedBy-filter}
 use Rattle.std.proofs.lemmas.Slice.Eq.{bytes_eq-Decides}
-use Rattle.lake_base.specs.Commit.{CommitRecordValue}
-use Rattle.lake_base.specs.Ancestry.{Graph, commit_of, same_id, parents, generation, due_generation, IsGraph, Reaches, IsAncestor, is_reached, is_ancestor, log, log_order, ancestors_in_order}
+use Rattle.lake_values.specs.Commit.{CommitRecordValue}
+use Rattle.lake_values.specs.Ancestry.{Graph, commit_of, same_id, parents, generation, due_generation, IsGraph, Reaches, IsAncestor, is_reached, is_ancestor, log, log_order, ancestors_in_order}
 use Rattle.lake_base.specs.declared.digest.Digest.{Digest}
 use Rattle.lake_reference.specs.AncestrySteps.{IsReachedWithin}
 use Rattle.lake_reference.proofs.AncestryGraphLemmas.{parents_none}

@@ -3,8 +3,8 @@ use Rattle.std.proofs.Common.{◌≡◌, ℕ, ◌+◌, ◌<◌, ◌≤◌, Bool,
 use Rattle.std.specs.Option.{MatchOption}
 use Rattle.std.specs.List.{AllWithin}
 use Rattle.std.proofs.lemmas.List.Elements.{AllWithin-more, at_read}
-use Rattle.lake_base.specs.Commit.{CommitRecordValue}
-use Rattle.lake_base.specs.Ancestry.{Graph, graph_of, IsGraph, IsCommon, is_ancestor, comes_first, ancestors_in_order, base, IsBase}
+use Rattle.lake_values.specs.Commit.{CommitRecordValue}
+use Rattle.lake_values.specs.Ancestry.{Graph, graph_of, IsGraph, IsCommon, is_ancestor, comes_first, ancestors_in_order, base, IsBase}
 use Rattle.lake_base.specs.declared.digest.Digest.{Digest}
 use Rattle.lake_reference.specs.AncestrySteps.{first_of}
 use Rattle.lake_reference.proofs.OrderLemmas.{find_first, find_none, same_place}

@@ -8,9 +8,9 @@ use Rattle.std.specs.FinMap.{get-insert, get-empty}
 use Rattle.std.proofs.lemmas.Cmp.{nat_list_cmp_total}
 use Rattle.std.proofs.lemmas.Map.Text.{is_eq-slice_cmp}
 use Rattle.std.proofs.lemmas.Slice.Eq.{bytes_eq-Decides}
-use Rattle.lake_base.specs.Commit.{CommitRecordValue}
+use Rattle.lake_values.specs.Commit.{CommitRecordValue}
 use Rattle.lake_base.specs.Maps.{byte_order}
-use Rattle.lake_base.specs.Ancestry.{Graph, graph_of, commit_of, parents_in, parents, generation, date, due_generation}
+use Rattle.lake_values.specs.Ancestry.{Graph, graph_of, commit_of, parents_in, parents, generation, date, due_generation}
 use Rattle.lake_base.specs.declared.digest.Digest.{Digest}
 
 pub otherwise : (r : Bool) → (r ≡ true → ⊥) → r ≡ false

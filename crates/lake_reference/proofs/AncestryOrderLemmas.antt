@@ -10,9 +10,9 @@ use Rattle.std.specs.declared.cmp.Ordering.TheVariants.{Less, Equal, Greater}
 use Rattle.std.specs.FinMap.{IsAntisymmetric, get, keys, entries, from_entries, get-from_entries, contains_key-keys}
 use Rattle.std.specs.FinMap.Entries.{is_some-find}
 use Rattle.std.proofs.lemmas.Cmp.{nat_cmp_total, nat_list_cmp_total, on_total, then_total, back_total, tied_itself}
-use Rattle.lake_base.specs.Commit.{CommitRecordValue}
+use Rattle.lake_values.specs.Commit.{CommitRecordValue}
 use Rattle.lake_base.specs.Maps.{byte_order}
-use Rattle.lake_base.specs.Ancestry.{Graph, commit_of, id_of, id_order, ids, generation, log, log_order, comes_first}
+use Rattle.lake_values.specs.Ancestry.{Graph, commit_of, id_of, id_order, ids, generation, log, log_order, comes_first}
 use Rattle.lake_base.specs.declared.digest.Digest.{Digest}
 use Rattle.lake_base.proofs.MapsLemmas.{same_key}
 use Rattle.lake_reference.proofs.OrderLemmas.{Contains-map, Contains-from_map, keys_ascend, there_from_key, key_from_there}

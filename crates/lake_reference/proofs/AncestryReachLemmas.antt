@@ -7,8 +7,8 @@ use Rattle.std.specs.List.{Contains, AllWithin, HoldsAt}
 use Rattle.std.proofs.lemmas.List.{get_or_default}
 use Rattle.std.proofs.lemmas.List.Elements.{Contains-get_or, AllWithin-more, at_read}
 use Rattle.std.proofs.lemmas.Slice.Eq.{bytes_eq-Decides}
-use Rattle.lake_base.specs.Commit.{CommitRecordValue}
-use Rattle.lake_base.specs.Ancestry.{Graph, graph_of, commit_of, parents, IsDue, IsGraph, Reaches}
+use Rattle.lake_values.specs.Commit.{CommitRecordValue}
+use Rattle.lake_values.specs.Ancestry.{Graph, graph_of, commit_of, parents, IsDue, IsGraph, Reaches}
 use Rattle.lake_base.specs.declared.digest.Digest.{Digest}
 use Rattle.lake_reference.specs.AncestrySteps.{IsReachedWithin}
 use Rattle.lake_reference.proofs.OrderLemmas.{Contains-first, Contains-later}

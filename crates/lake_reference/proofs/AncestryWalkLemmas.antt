@@ -6,9 +6,9 @@ use Rattle.std.specs.List.{Contains}
 use Rattle.std.specs.Option.{option_and_then, option_copied, option_to_list, IsSome, is_some}
 use Rattle.std.proofs.lemmas.Option.{slice_get_past}
 use Rattle.std.proofs.lemmas.List.Elements.{Contains-append_cases, Contains-append_left, Contains-append_right}
-use Rattle.lake_base.specs.Ancestry.{Graph, commit_of, parents_in, parents, generation, date, due_generation, IsGraph, first_parent, back, IsOnWalk, walk_within, walk}
-use Rattle.lake_base.specs.Commit.{CommitRecordValue}
-use Rattle.lake_base.specs.Keeping.{IsFollower}
+use Rattle.lake_values.specs.Ancestry.{Graph, commit_of, parents_in, parents, generation, date, due_generation, IsGraph, first_parent, back, IsOnWalk, walk_within, walk}
+use Rattle.lake_values.specs.Commit.{CommitRecordValue}
+use Rattle.lake_values.specs.Keeping.{IsFollower}
 use Rattle.lake_base.specs.declared.digest.Digest.{Digest}
 use Rattle.lake_reference.proofs.OrderLemmas.{Contains-nothing, Contains-first, first_or_later}
 use Rattle.lake_reference.proofs.AncestryGraphLemmas.{due_some}

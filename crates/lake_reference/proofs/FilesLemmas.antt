@@ -3,16 +3,16 @@ use Rattle.std.proofs.Common.{T, ◌≡◌, ℕ, zero, suc, ◌-◌, ◌<◌, Li
 use Rattle.std.specs.FinMap.Entries.{below_all}
 use Rattle.std.proofs.lemmas.List.{append-nil}
 use Rattle.lake_base.specs.Digest.{sha256}
-use Rattle.lake_base.specs.Entry.{EntryValue}
-use Rattle.lake_base.specs.Spelling.{path_at, range_spelling, line_of, metarange_spelling, file_name}
-use Rattle.lake_base.specs.Cutting.{ranges, metarange_of, files, tree_id}
-use Rattle.lake_base.specs.KeyMap.{KeyMapValue}
+use Rattle.lake_values.specs.Entry.{EntryValue}
+use Rattle.lake_format.specs.Spelling.{path_at, range_spelling, line_of, metarange_spelling, file_name}
+use Rattle.lake_format.specs.Cutting.{ranges, metarange_of, files, tree_id}
+use Rattle.lake_values.specs.KeyMap.{KeyMapValue}
 use Rattle.lake_base.specs.Maps.{byte_order, HasAscendingKeys}
-use Rattle.lake_base.specs.declared.cut.Cut.{Cut}
+use Rattle.lake_format.specs.declared.cut.Cut.{Cut}
 use Rattle.lake_base.specs.declared.digest.Digest.{Digest}
-use Rattle.lake_base.specs.declared.range_line.RangeLine.{RangeLine}
+use Rattle.lake_format.specs.declared.range_line.RangeLine.{RangeLine}
 use Rattle.lake_base.proofs.MapsLemmas.{first, second, both, head_below, tail_ascends}
-use Rattle.lake_base.proofs.CutLemmas.{ranges_none}
+use Rattle.lake_format.proofs.CutLemmas.{ranges_none}
 
 -- ---- appends
 

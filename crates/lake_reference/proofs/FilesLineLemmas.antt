@@ -6,14 +6,14 @@ use Rattle.std.specs.Ordering.{is_gt}
 use Rattle.std.specs.declared.cmp.Ordering.TheVariants.{Less}
 use Rattle.std.proofs.lemmas.Cmp.{nat_list_cmp_total, tied_itself}
 use Rattle.std.proofs.lemmas.List.{length-take}
-use Rattle.lake_base.specs.Entry.{EntryValue}
+use Rattle.lake_values.specs.Entry.{EntryValue}
 use Rattle.lake_base.specs.Maps.{byte_order, HasAscendingKeys}
-use Rattle.lake_base.specs.Spelling.{path_at, line_of, IsSpan, IsBelowNext, FollowOn, AreInOrder}
-use Rattle.lake_base.specs.Cutting.{first_len, ranges_within, ranges}
-use Rattle.lake_base.specs.declared.cut.Cut.{Cut}
-use Rattle.lake_base.specs.declared.range_line.RangeLine.{RangeLine}
+use Rattle.lake_format.specs.Spelling.{path_at, line_of, IsSpan, IsBelowNext, FollowOn, AreInOrder}
+use Rattle.lake_format.specs.Cutting.{first_len, ranges_within, ranges}
+use Rattle.lake_format.specs.declared.cut.Cut.{Cut}
+use Rattle.lake_format.specs.declared.range_line.RangeLine.{RangeLine}
 use Rattle.lake_base.proofs.MapsLemmas.{second, below_at, head_below, tail_ascends, ascends_drop}
-use Rattle.lake_base.proofs.CutLemmas.{first_some, first_below}
+use Rattle.lake_format.proofs.CutLemmas.{first_some, first_below}
 use Rattle.lake_reference.proofs.FilesLemmas.{path_is, all_done, ascends_take}
 
 -- what holds of all holds of the one at a place

@@ -10,7 +10,7 @@ use Rattle.std.proofs.lemmas.Bool.Decides.{Decides-eqb, same_from_decides}
 use Rattle.std.proofs.lemmas.Map.Text.{is_eq-slice_cmp}
 use Rattle.std.proofs.lemmas.Slice.Eq.{bytes_eq-Decides}
 use Rattle.lake_base.specs.Maps.{byte_order}
-use Rattle.lake_base.specs.HookDecisions.{suffixes, begins_with_byte, matches}
+use Rattle.lake_values.specs.HookDecisions.{suffixes, begins_with_byte, matches}
 use Rattle.lake_reference.proofs.AncestryGraphLemmas.{otherwise}
 
 -- ---- what is left of a name

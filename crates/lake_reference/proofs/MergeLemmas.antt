@@ -13,20 +13,20 @@ use Rattle.std.proofs.lemmas.Cmp.{nat_list_cmp_total}
 use Rattle.std.proofs.lemmas.List.Folds.{list_any-append, list_any_more}
 use Rattle.std.proofs.lemmas.List.{take_all, take_more, map-append}
 use Rattle.std.specs.FinMap.{find, get, entries, from_entries, insert, empty, get-empty, get-entries, get-from_entries, get-insert, get-remove, keys, contains_key, contains_key-keys}
-use Rattle.lake_base.specs.Entry.{EntryValue}
+use Rattle.lake_values.specs.Entry.{EntryValue}
 use Rattle.lake_base.specs.Maps.{byte_order, ByteMap, IsAscending}
-use Rattle.lake_base.specs.KeyMap.{KeyMapValue, ChangesValue, apply, value_after}
-use Rattle.lake_base.specs.Merging.{merged_map, merged_map_at, merged_value, map_with, side_of, is_neither, is_conflict, paths_of, conflicts, is_refused, IsConflict, AreConflicts}
-use Rattle.lake_base.specs.declared.entry.Change.{Change}
-use Rattle.lake_base.specs.declared.entry.Change.TheVariants.{Put, Delete}
+use Rattle.lake_values.specs.KeyMap.{KeyMapValue, ChangesValue, apply, value_after}
+use Rattle.lake_values.specs.Merging.{merged_map, merged_map_at, merged_value, map_with, side_of, is_neither, is_conflict, paths_of, conflicts, is_refused, IsConflict, AreConflicts}
+use Rattle.lake_values.specs.declared.entry.Change.{Change}
+use Rattle.lake_values.specs.declared.entry.Change.TheVariants.{Put, Delete}
 use denote.Enum.Bare.{sameb}
-use Rattle.lake_base.specs.contracts.merge.Side.{the_type}
-use Rattle.lake_base.specs.declared.merge.Side.{Side}
-use Rattle.lake_base.specs.declared.merge.Side.TheVariants.{Source, Destination, Neither}
-use Rattle.lake_base.specs.declared.commit.Strategy.{Strategy}
-use Rattle.lake_base.specs.declared.commit.Strategy.TheVariants.{Refuse, SourceWins, DestWins}
+use Rattle.lake_values.specs.contracts.merge.Side.{the_type}
+use Rattle.lake_values.specs.declared.merge.Side.{Side}
+use Rattle.lake_values.specs.declared.merge.Side.TheVariants.{Source, Destination, Neither}
+use Rattle.lake_values.specs.declared.commit.Strategy.{Strategy}
+use Rattle.lake_values.specs.declared.commit.Strategy.TheVariants.{Refuse, SourceWins, DestWins}
 use Rattle.lake_base.proofs.MapsLemmas.{same_key}
-use Rattle.lake_base.proofs.KeyMapLemmas.{same, get_apply}
+use Rattle.lake_values.proofs.KeyMapLemmas.{same, get_apply}
 use Rattle.lake_reference.specs.MergeSteps.{Leaves, ArePathsOf, HasPathsToo}
 use Rattle.lake_reference.proofs.OrderLemmas.{Contains-filter, Contains-from_filter, Contains-first, Contains-nothing, keys_ascend, same_ascending}
 

@@ -11,8 +11,8 @@ use Rattle.std.specs.FinMap.{IsAntisymmetric}
 use Rattle.std.specs.FinMap.Entries.{by_order}
 use Rattle.std.specs.List.{Contains, AllByRecursion, AllWithin, insert}
 use Rattle.std.specs.List.Sorted.{IsStrictlySortedBy}
-use Rattle.lake_base.specs.Ancestry.{graph_of, commit_of}
-use Rattle.lake_base.specs.Commit.{CommitRecordValue}
+use Rattle.lake_values.specs.Ancestry.{graph_of, commit_of}
+use Rattle.lake_values.specs.Commit.{CommitRecordValue}
 use Rattle.lake_base.specs.declared.digest.Digest.{Digest}
 use Rattle.std.specs.Option.{IsSome}
 use Rattle.lake_reference.specs.OrderSteps.{with_item}

@@ -5,9 +5,9 @@ use Rattle.std.specs.List.Sorted.{IsStrictlySortedBy}
 use Rattle.std.proofs.lemmas.Bool.{leb-true, le-leb}
 use Rattle.std.proofs.lemmas.List.Kept.{IsStrictlySortedBy-filter}
 use Rattle.std.proofs.lemmas.Slice.Eq.{bytes_eq-Decides}
-use Rattle.lake_base.specs.Ancestry.{Graph, IsGraph, id_order, ids, same_id, date, first_parent, walk}
-use Rattle.lake_base.specs.Keeping.{cutoff, days_of, IsHead, IsFollower, IsFollowed, IsYoung, IsKeptBy, IsKept, is_id, is_head, is_follower, is_followed, is_young, is_kept, kept}
-use Rattle.lake_base.specs.Settings.{RulesValue}
+use Rattle.lake_values.specs.Ancestry.{Graph, IsGraph, id_order, ids, same_id, date, first_parent, walk}
+use Rattle.lake_values.specs.Keeping.{cutoff, days_of, IsHead, IsFollower, IsFollowed, IsYoung, IsKeptBy, IsKept, is_id, is_head, is_follower, is_followed, is_young, is_kept, kept}
+use Rattle.lake_values.specs.Settings.{RulesValue}
 use Rattle.lake_base.specs.declared.digest.Digest.{Digest}
 use Rattle.lake_reference.proofs.AncestryOrderLemmas.{ids_from, ids_to, ids_ascend}
 use Rattle.lake_reference.proofs.AncestryReachLemmas.{differ}

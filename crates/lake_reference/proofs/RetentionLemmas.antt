@@ -5,7 +5,7 @@ use Rattle.std.specs.Str.{bytes_eq}
 use Rattle.std.specs.Bool.{Decides}
 use Rattle.std.proofs.lemmas.List.Elements.{at_read, AllWithin-more}
 use Rattle.std.proofs.lemmas.Slice.Eq.{bytes_eq-Decides}
-use Rattle.lake_base.specs.Keeping.{IsHead}
+use Rattle.lake_values.specs.Keeping.{IsHead}
 use Rattle.lake_base.specs.declared.digest.Digest.{Digest}
 
 -- no number is below 0

@@ -3,9 +3,9 @@ use Rattle.std.proofs.Common.{◌≡◌, ℕ, zero, suc, ◌+◌, ◌<◌, Bool,
 use Rattle.std.specs.List.{list_all, list_any, filter, sum_by}
 use Rattle.std.proofs.lemmas.List.Sums.{sum_by-cons}
 use Rattle.std.proofs.lemmas.Bool.{cases_Bool, and_parts, not-true}
-use Rattle.lake_base.specs.Entry.{EntryValue}
-use Rattle.lake_base.specs.declared.cut.Cut.{Cut}
-use Rattle.lake_base.specs.Cutting.{is_break, segments, segments_with, last_path, with_paths_before, placed_segments, same_segment, ranges}
+use Rattle.lake_values.specs.Entry.{EntryValue}
+use Rattle.lake_format.specs.declared.cut.Cut.{Cut}
+use Rattle.lake_format.specs.Cutting.{is_break, segments, segments_with, last_path, with_paths_before, placed_segments, same_segment, ranges}
 
 abbrev pub Row : Type 0
 Row = List ℕ × EntryValue

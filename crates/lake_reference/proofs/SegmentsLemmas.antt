@@ -5,9 +5,9 @@ use Rattle.std.proofs.lemmas.Bool.{cases_Bool}
 use Rattle.std.proofs.lemmas.List.{append-nil, length-append, length-drop, take-append-le, drop-append-le}
 use Rattle.std.proofs.lemmas.List.Folds.{list_all-append}
 use Rattle.std.proofs.Math.Seq.{drop-nil, take-append-add}
-use Rattle.lake_base.specs.declared.cut.Cut.{Cut}
-use Rattle.lake_base.specs.Cutting.{is_break, is_range, longest_front, first_len, ranges, segments, segments_with}
-use Rattle.lake_base.proofs.CutLemmas.{first_some, first_below, ranges_none, ranges_cons}
+use Rattle.lake_format.specs.declared.cut.Cut.{Cut}
+use Rattle.lake_format.specs.Cutting.{is_break, is_range, longest_front, first_len, ranges, segments, segments_with}
+use Rattle.lake_format.proofs.CutLemmas.{first_some, first_below, ranges_none, ranges_cons}
 use Rattle.lake_reference.proofs.SegmentRunLemmas.{Row, unbroken}
 
 -- ---- the first range

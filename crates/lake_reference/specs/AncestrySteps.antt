@@ -1,6 +1,6 @@
 -- What the searches through a graph have of its commits so far.
 use Rattle.std.specs.Prelude.{◌≤◌, ℕ, Option, Some, None, if◌then◌else◌}
-use Rattle.lake_base.specs.Ancestry.{Graph, Reaches, comes_first}
+use Rattle.lake_values.specs.Ancestry.{Graph, Reaches, comes_first}
 use Rattle.lake_base.specs.declared.digest.Digest.{Digest}
 
 -- reached in at most so many steps

@@ -1,10 +1,10 @@
 -- What the steps of a merge have: the paths of two maps, and the change that a path is given.
 use Rattle.std.specs.Prelude.{◌≡◌, ◌||◌, ℕ, List, Option, Some, None}
 use Rattle.std.specs.FinMap.{contains_key}
-use Rattle.lake_base.specs.Entry.{EntryValue}
-use Rattle.lake_base.specs.KeyMap.{KeyMapValue, ChangesValue}
-use Rattle.lake_base.specs.declared.entry.Change.{Change}
-use Rattle.lake_base.specs.declared.entry.Change.TheVariants.{Put, Delete}
+use Rattle.lake_values.specs.Entry.{EntryValue}
+use Rattle.lake_values.specs.KeyMap.{KeyMapValue, ChangesValue}
+use Rattle.lake_values.specs.declared.entry.Change.{Change}
+use Rattle.lake_values.specs.declared.entry.Change.TheVariants.{Put, Delete}
 
 -- a change that leaves this value at its path
 abbrev pub Leaves : Change → Option EntryValue → Type 0

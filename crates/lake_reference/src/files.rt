@@ -12,23 +12,23 @@ ghost use Rattle.std.specs.Prelude.{◌≡◌, ◌++◌, ◌<◌, ◌^◌, ◌�
 ghost use Rattle.std.specs.FinMap.{len, entries};
 ghost use Rattle.std.specs.List.{flat_map, AllByRecursion};
 ghost use Rattle.std.specs.Int.{w16, w32, to_be_bytes};
-ghost use Rattle.lake_base.specs.Cutting.{ranges, files, tree_id};
+ghost use Rattle.lake_format.specs.Cutting.{ranges, files, tree_id};
 ghost use Rattle.lake_base.specs.Digest.{sha256};
 ghost use Rattle.lake_base.specs.Maps.{HasAscendingKeys};
-ghost use Rattle.lake_base.specs.Spelling.{row_spelling, range_spelling, line_of, line_spelling, metarange_spelling, commit_spelling, commit_id, IsDigest, IsRow, IsRange, IsSpan, AreInOrder, IsLine, IsMetarange, IsSpelledCommit};
+ghost use Rattle.lake_format.specs.Spelling.{row_spelling, range_spelling, line_of, line_spelling, metarange_spelling, commit_spelling, commit_id, IsDigest, IsRow, IsRange, IsSpan, AreInOrder, IsLine, IsMetarange, IsSpelledCommit};
 
 use lake_base::TryCopy;
-use lake_base::commit::{CommitId, CommitRecord};
-use lake_base::cut::{Cut, first_range};
 use lake_base::digest::Digest;
-use lake_base::encoding::put_row;
-use lake_base::entry::Entry;
-use lake_base::fields::{put_digest, put_long_text, put_metadata, put_text};
-use lake_base::key_map::KeyMap;
 use lake_base::names::Path;
 use lake_base::outside::NoMemory;
-use lake_base::range_line::{RangeLine, put_range_line};
 use lake_base::sequence::Sequence;
+use lake_format::cut::{Cut, first_range};
+use lake_format::encoding::put_row;
+use lake_format::fields::{put_digest, put_long_text, put_metadata, put_text};
+use lake_format::range_line::{RangeLine, put_range_line};
+use lake_values::commit::{CommitId, CommitRecord};
+use lake_values::entry::Entry;
+use lake_values::key_map::KeyMap;
 use std::alloc::Global;
 
 /// The spelling of a range of these rows. There is at least one row, and fewer than 2^32, and their paths

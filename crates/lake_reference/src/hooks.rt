@@ -2,14 +2,14 @@
 ghost use Rattle.std.specs.Prelude.{◌≡◌, is_none, nat_eq};
 ghost use Rattle.std.specs.FinMap.{entries, find};
 ghost use Rattle.std.specs.List.{list_any, starts_with};
-ghost use Rattle.lake_base.specs.HookDecisions.{matches, protecting_pattern, puts_more, forbids, denies, denying_rule};
+ghost use Rattle.lake_values.specs.HookDecisions.{matches, protecting_pattern, puts_more, forbids, denies, denying_rule};
 ghost use Rattle.lake_base.specs.Maps.{byte_order};
 
-use lake_base::changes::Changes;
-use lake_base::entry::Change;
 use lake_base::names::RefName;
-use lake_base::pairs::Pairs;
-use lake_base::settings::{Deny, HookRule, HookRules, Protection};
+use lake_values::changes::Changes;
+use lake_values::entry::Change;
+use lake_values::pairs::Pairs;
+use lake_values::settings::{Deny, HookRule, HookRules, Protection};
 
 /// Whether a pattern matches a name: a star stands for any bytes, none included, and every other byte for
 /// itself. So `ma*` matches `ma` and `main`, `*in` matches `main`, and `m*` doesn't match `dev`. It takes no

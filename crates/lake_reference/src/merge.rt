@@ -1,21 +1,21 @@
 //! The three-way merge of key maps, plainly and slowly: what tests and readers hold a faster one against.
 ghost use Rattle.std.specs.Prelude.{◌≡◌, ◌↔◌, nat_lt, length, ℕ, List, IfOk, OnOk, IsTrue, option_copied};
 ghost use Rattle.std.specs.FinMap.{get};
-ghost use Rattle.lake_base.specs.Entry.{EntryValue};
-ghost use Rattle.lake_base.specs.KeyMap.{KeyMapValue};
-ghost use Rattle.lake_base.specs.Merging.{base_map, side_of, merged_map, merged_value, IsConflict, AreConflicts, conflicts, is_refused, merge_answer};
+ghost use Rattle.lake_values.specs.Entry.{EntryValue};
+ghost use Rattle.lake_values.specs.KeyMap.{KeyMapValue};
+ghost use Rattle.lake_values.specs.Merging.{base_map, side_of, merged_map, merged_value, IsConflict, AreConflicts, conflicts, is_refused, merge_answer};
 ghost use Rattle.lake_reference.specs.MergeSteps.{Leaves, ArePathsOf, HasPathsToo};
-ghost use Rattle.lake_base.specs.declared.commit.Strategy.{Strategy as Choice};
+ghost use Rattle.lake_values.specs.declared.commit.Strategy.{Strategy as Choice};
 
 use lake_base::TryCopy;
-use lake_base::changes::Changes;
-use lake_base::commit::Strategy;
-use lake_base::entry::Change;
-use lake_base::key_map::KeyMap;
-use lake_base::merge::{Side, side_of};
 use lake_base::names::Path;
 use lake_base::outside::NoMemory;
 use lake_base::sequence::Sequence;
+use lake_values::changes::Changes;
+use lake_values::commit::Strategy;
+use lake_values::entry::Change;
+use lake_values::key_map::KeyMap;
+use lake_values::merge::{Side, side_of};
 use std::alloc::Global;
 
 /// The map of the merge base of two commits: the empty map, where they have no common ancestor.

@@ -8,19 +8,19 @@
 ghost use Rattle.std.specs.Prelude.{◌≡◌, ◌↔◌, ◌≤◌, ℕ, List, Option, length, IsTrue, IfOk, OnOk, OnErr, MatchOption, Some, option_copied};
 ghost use Rattle.std.specs.List.{Contains, insert};
 ghost use Rattle.std.specs.List.Sorted.{IsStrictlySortedBy};
-ghost use Rattle.lake_base.specs.Ancestry.{Graph, graph_of, IsGraph, id_order};
-ghost use Rattle.lake_base.specs.Keeping.{cutoff, days_of, IsHead, IsFollower, IsFollowed, IsYoung, IsKept, IsKeptBy, kept};
-ghost use Rattle.lake_base.specs.Settings.{RulesValue};
+ghost use Rattle.lake_values.specs.Ancestry.{Graph, graph_of, IsGraph, id_order};
+ghost use Rattle.lake_values.specs.Keeping.{cutoff, days_of, IsHead, IsFollower, IsFollowed, IsYoung, IsKept, IsKeptBy, kept};
+ghost use Rattle.lake_values.specs.Settings.{RulesValue};
 ghost use Rattle.lake_base.specs.declared.digest.Digest.{Digest as Id};
 ghost use Rattle.lake_reference.specs.OrderSteps.{with_item};
 
 use crate::ancestry::{commit_of, date, first_parent, generation, is_on_walk};
-use lake_base::commit::{CommitId, CommitRecord};
 use lake_base::names::RefName;
 use lake_base::outside::NoMemory;
-use lake_base::retention::{cutoff, days_of};
 use lake_base::sequence::Sequence;
-use lake_base::settings::Rules;
+use lake_values::commit::{CommitId, CommitRecord};
+use lake_values::retention::{cutoff, days_of};
+use lake_values::settings::Rules;
 use std::alloc::Global;
 use std::cmp::Ordering;
 

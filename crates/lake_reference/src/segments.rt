@@ -12,14 +12,14 @@
 ghost use Rattle.std.specs.Prelude.{◌≡◌, ◌<◌, ◌∷◌, ℕ, List, length, Option, option_copied};
 ghost use Rattle.std.specs.Cmp.Lexicographic.{pointwise};
 ghost use Rattle.std.specs.List.{flat_map, list_any};
-ghost use Rattle.lake_base.specs.declared.cut.Cut.{Cut as AnyCut};
-ghost use Rattle.lake_base.specs.Entry.{EntryValue};
-ghost use Rattle.lake_base.specs.Sameness.{same_row};
-ghost use Rattle.lake_base.specs.Cutting.{ranges, segments, last_path, placed_segments, same_before, same_segment, changed_ranges};
+ghost use Rattle.lake_format.specs.declared.cut.Cut.{Cut as AnyCut};
+ghost use Rattle.lake_values.specs.Entry.{EntryValue};
+ghost use Rattle.lake_values.specs.Sameness.{same_row};
+ghost use Rattle.lake_format.specs.Cutting.{ranges, segments, last_path, placed_segments, same_before, same_segment, changed_ranges};
 
-use lake_base::cut::{Cut, first_range, is_break};
-use lake_base::entry::{Entry, same_entry};
 use lake_base::names::Path;
+use lake_format::cut::{Cut, first_range, is_break};
+use lake_values::entry::{Entry, same_entry};
 
 /// The first segment of these rows, and the rows after it: up to and with the first break key, or all of them
 /// where there is none. There is at least one row. It takes no memory.

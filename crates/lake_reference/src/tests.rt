@@ -5,15 +5,15 @@ mod merge;
 mod retention;
 mod segments;
 
-use lake_base::changes::Changes;
-use lake_base::commit::{CommitId, CommitRecord};
 use lake_base::digest::Digest;
-use lake_base::entry::{Change, Entry, Place};
-use lake_base::key_map::KeyMap;
 use lake_base::names::Path;
-use lake_base::pairs::Pairs;
 use lake_base::sequence::Sequence;
 use lake_base::text::Text;
+use lake_values::changes::Changes;
+use lake_values::commit::{CommitId, CommitRecord};
+use lake_values::entry::{Change, Entry, Place};
+use lake_values::key_map::KeyMap;
+use lake_values::pairs::Pairs;
 use std::alloc::Global;
 use std::test::Fail;
 

@@ -1,8 +1,8 @@
 // Ancestors, bases and walks in small graphs. A commit is written with a letter, its generation and its parents.
-ghost use Rattle.lake_base.specs.Ancestry.{graph_of, IsGraph};
+ghost use Rattle.lake_values.specs.Ancestry.{graph_of, IsGraph};
 
-use super::*;
 use crate::ancestry::{ancestors, back, base, commit_of, is_ancestor, is_graph, is_on_walk};
+use super::*;
 use std::process::Abort;
 
 // A first commit, two upon it, and two merges of these, whose parents stand the one and the other way round.

@@ -2,18 +2,18 @@
 ghost use Rattle.std.specs.Prelude.{◌<◌};
 
 use crate::files::*;
-use lake_base::changes::Changes;
-use lake_base::commit::CommitRecord;
-use lake_base::cut::*;
 use lake_base::digest::Digest;
-use lake_base::encoding::{entry_read, row_len};
-use lake_base::entry::Change;
-use lake_base::key_map::KeyMap;
 use lake_base::names::Path;
-use lake_base::pairs::Pairs;
-use lake_base::range_line::RangeLine;
 use lake_base::sequence::Sequence;
 use lake_base::text::Text;
+use lake_format::cut::*;
+use lake_format::encoding::{entry_read, row_len};
+use lake_format::range_line::RangeLine;
+use lake_values::changes::Changes;
+use lake_values::commit::CommitRecord;
+use lake_values::entry::Change;
+use lake_values::key_map::KeyMap;
+use lake_values::pairs::Pairs;
 use std::alloc::Global;
 use std::cmp::Ordering;
 use std::test::Fail;

@@ -1,8 +1,8 @@
 // Patterns, protected branches and hooks.
-use super::*;
 use crate::hooks::{denied_by, denies, matches, protected_by};
+use super::*;
 use lake_base::names::RefName;
-use lake_base::settings::{Deny, HookRule, HookRules, Protection};
+use lake_values::settings::{Deny, HookRule, HookRules, Protection};
 
 // A pattern, a name, and whether it matches.
 const PATTERNS: [(&str, &str, bool); 18] = [

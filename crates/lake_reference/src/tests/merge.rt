@@ -1,7 +1,7 @@
 // Merges of small maps. A map is written with its paths and the sizes of their entries, as `a1 b2`.
-use super::*;
 use crate::merge::{base_map, conflicts, merge};
-use lake_base::commit::Strategy;
+use super::*;
+use lake_values::commit::Strategy;
 
 // Base, source, destination, the merged map where the source wins and where the destination does, and the paths
 // that conflict. At `p` the three are equal, different and not there in all fifteen ways.

@@ -1,9 +1,9 @@
 // Which commits are kept, at their cutoffs.
-use super::*;
 use crate::ancestry::is_graph;
 use crate::retention::{is_kept, kept};
+use super::*;
 use lake_base::names::RefName;
-use lake_base::settings::{BranchDays, Rules};
+use lake_values::settings::{BranchDays, Rules};
 use std::process::Abort;
 
 // X stands on R and Y on X.

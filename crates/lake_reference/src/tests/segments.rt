@@ -1,7 +1,7 @@
 // Segments of small maps: FNV-1a makes `50` and `nq` break keys of the usual cut, and `a`, `b` and `z` none.
-use super::*;
 use crate::segments::{changed_ranges, first_segment};
-use lake_base::cut::USUAL_CUT;
+use super::*;
+use lake_format::cut::USUAL_CUT;
 
 // A map, and how many rows its segments have.
 const SEGMENTS: [(&str, &[usize]); 5] = [

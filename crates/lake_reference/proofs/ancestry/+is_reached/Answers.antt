@@ -1,7 +1,7 @@
 use Rattle.std.proofs.Common.{◌-◌, ◌<◌, [], get_or, subst, sym, ◌∙◌, arith}
 use Rattle.std.specs.List.{Contains}
 use Rattle.std.proofs.lemmas.List.Elements.{Contains-get_or}
-use Rattle.lake_base.specs.Ancestry.{graph_of, parents}
+use Rattle.lake_values.specs.Ancestry.{graph_of, parents}
 use Rattle.lake_base.specs.declared.digest.Digest.{Digest}
 use Rattle.lake_reference.specs.AncestrySteps.{IsReachedWithin}
 use Rattle.lake_reference.proofs.AncestryReachLemmas.{true_for, false_for, same_bytes, other_bytes, reached_here, reached_not, reached_through, reached_never, one_more, within_contains, differ}

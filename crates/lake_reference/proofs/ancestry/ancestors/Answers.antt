@@ -1,5 +1,5 @@
 use Rattle.std.proofs.Common.{◌+◌, ap, subst, sym, ◌∙◌}
-use Rattle.lake_base.specs.Ancestry.{graph_of, IsAncestor, log_order, ancestors_in_order}
+use Rattle.lake_values.specs.Ancestry.{graph_of, IsAncestor, log_order, ancestors_in_order}
 use Rattle.lake_reference.proofs.AncestorsLemmas.{ancestors_from, ancestors_to, ancestors_ascend}
 use Rattle.lake_reference.proofs.AncestryOrderLemmas.{log_total, log_same}
 use Rattle.lake_reference.proofs.AncestryReachLemmas.{differ}

@@ -1,4 +1,4 @@
-use Rattle.lake_base.specs.Ancestry.{graph_of, IsAncestor, log_order}
+use Rattle.lake_values.specs.Ancestry.{graph_of, IsAncestor, log_order}
 use Rattle.lake_reference.proofs.OrderPlaceLemmas.{HasThose}
 use Rattle.lake_reference.proofs.ancestry.ancestors.Given as goal
 

@@ -1,5 +1,5 @@
 use Rattle.std.proofs.Common.{◌≡◌, Some}
-use Rattle.lake_base.specs.Ancestry.{graph_of, back}
+use Rattle.lake_values.specs.Ancestry.{graph_of, back}
 use Rattle.lake_reference.proofs.ancestry.back.Given as goal
 
 -- it stands so many steps back

@@ -1,5 +1,5 @@
 use Rattle.std.proofs.Common.{◌+◌, sym, subst, ◌∙◌, ap, Some}
-use Rattle.lake_base.specs.Ancestry.{graph_of}
+use Rattle.lake_values.specs.Ancestry.{graph_of}
 use Rattle.lake_reference.proofs.AncestryBaseLemmas.{BestOf, best_stays, best_more, best_of_all, base_answered}
 use Rattle.lake_reference.proofs.AncestryReachLemmas.{differ}
 use Rattle.lake_reference.proofs.ancestry.base.Goals as goal

@@ -1,4 +1,4 @@
-use Rattle.lake_base.specs.Ancestry.{graph_of}
+use Rattle.lake_values.specs.Ancestry.{graph_of}
 use Rattle.lake_reference.proofs.AncestryBaseLemmas.{BestOf}
 use Rattle.lake_reference.proofs.ancestry.base.Given as goal
 

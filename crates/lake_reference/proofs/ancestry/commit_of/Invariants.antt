@@ -1,5 +1,5 @@
 use Rattle.std.proofs.Common.{◌≡◌, drop}
-use Rattle.lake_base.specs.Ancestry.{graph_of, commit_of}
+use Rattle.lake_values.specs.Ancestry.{graph_of, commit_of}
 use Rattle.lake_reference.proofs.ancestry.commit_of.Given as goal
 
 -- it stands in what is left

@@ -1,6 +1,6 @@
 use Rattle.std.proofs.Common.{◌≡◌, ◌≤◌, drop}
 use Rattle.std.specs.Prelude.{max}
-use Rattle.lake_base.specs.Ancestry.{graph_of, due_generation}
+use Rattle.lake_values.specs.Ancestry.{graph_of, due_generation}
 use Rattle.lake_reference.proofs.ancestry.due_after.Given as goal
 
 -- the greatest of what is due so far and what is due after the parents that are left

@@ -1,6 +1,6 @@
 use Rattle.std.proofs.Common.{rules, tests}
 use Rattle.std.proofs.lemmas.Iterator.{cases_from_all, YieldsList-from_slice}
-use Rattle.lake_base.specs.Ancestry.{graph_of, IsDue}
+use Rattle.lake_values.specs.Ancestry.{graph_of, IsDue}
 use Rattle.lake_reference.proofs.AncestryReachLemmas.{graph_tested}
 use Rattle.lake_reference.proofs.ancestry.is_graph.Goals as goal
 

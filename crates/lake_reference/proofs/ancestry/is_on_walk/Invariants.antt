@@ -1,5 +1,5 @@
 use Rattle.std.proofs.Common.{◌≡◌, ◌<◌, ℕ, Some}
-use Rattle.lake_base.specs.Ancestry.{graph_of, back}
+use Rattle.lake_values.specs.Ancestry.{graph_of, back}
 use Rattle.lake_reference.proofs.ancestry.is_on_walk.Given as goal
 
 -- it stands so many steps back, and the commit stands at none before

@@ -1,5 +1,5 @@
 use Rattle.std.proofs.Common.{◌≡◌, ◌++◌, take, drop}
-use Rattle.lake_base.specs.Ancestry.{graph_of, log_order}
+use Rattle.lake_values.specs.Ancestry.{graph_of, log_order}
 use Rattle.lake_reference.specs.OrderSteps.{with_item}
 use Rattle.lake_reference.proofs.ancestry.place_in_log.Given as goal
 

@@ -1,7 +1,7 @@
 use Rattle.std.proofs.Common.{[], ◌∷◌, ap, ◌∙◌, ◌++◌, length}
 use Rattle.std.specs.Int.{w16, w64, to_be_bytes}
 use Rattle.std.specs.List.{flat_map}
-use Rattle.lake_base.specs.Spelling.{commit_spelling, short_text, long_text, pairs_spelling}
+use Rattle.lake_format.specs.Spelling.{commit_spelling, short_text, long_text, pairs_spelling}
 use Rattle.lake_reference.proofs.FilesLemmas.{eight}
 use Rattle.lake_reference.proofs.files.commit_bytes.Goals as goal
 

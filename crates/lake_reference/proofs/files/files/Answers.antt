@@ -2,11 +2,11 @@ use Rattle.std.proofs.Common.{◌∷◌, ◌++◌, length, map, ap, sym, subst, 
 use Rattle.std.proofs.lemmas.List.{length_push}
 use Rattle.std.specs.FinMap.{len-entries, entries_sorted}
 use Rattle.std.specs.List.{AllByRecursion}
-use Rattle.lake_base.specs.Cutting.{files, ranges, first_len}
+use Rattle.lake_format.specs.Cutting.{files, ranges, first_len}
 use Rattle.lake_base.specs.Maps.{HasAscendingKeys}
-use Rattle.lake_base.specs.Spelling.{range_spelling, line_of, metarange_spelling, AreInOrder, IsRange, IsMetarange}
+use Rattle.lake_format.specs.Spelling.{range_spelling, line_of, metarange_spelling, AreInOrder, IsRange, IsMetarange}
 use Rattle.lake_base.proofs.MapsLemmas.{ascends_drop}
-use Rattle.lake_base.proofs.CutLemmas.{IsFirst, first_of, ranges_none, ranges_few, some_left, none_left}
+use Rattle.lake_format.proofs.CutLemmas.{IsFirst, first_of, ranges_none, ranges_few, some_left, none_left}
 use Rattle.lake_reference.proofs.FilesLineLemmas.{lines_in_order}
 use Rattle.lake_reference.proofs.FilesLemmas.{one_more, all_done, tree_is, ascends_take}
 use Rattle.lake_reference.proofs.files.files.Goals as goal

@@ -1,8 +1,8 @@
 use Rattle.std.proofs.Common.{◌≡◌, ◌+◌, ◌≤◌, ◌++◌, length, map}
 use Rattle.std.specs.List.{AllByRecursion}
-use Rattle.lake_base.specs.Cutting.{ranges}
+use Rattle.lake_format.specs.Cutting.{ranges}
 use Rattle.lake_base.specs.Maps.{HasAscendingKeys}
-use Rattle.lake_base.specs.Spelling.{range_spelling, line_of, IsRange}
+use Rattle.lake_format.specs.Spelling.{range_spelling, line_of, IsRange}
 use Rattle.lake_reference.proofs.files.files.Given as goal
 
 -- the files and the lines so far are those of the ranges before the rest, whose paths ascend

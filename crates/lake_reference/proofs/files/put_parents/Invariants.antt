@@ -1,7 +1,7 @@
 use Rattle.std.proofs.Common.{◌≡◌, ◌++◌, length, take}
 use Rattle.std.specs.Int.{w16, to_be_bytes}
 use Rattle.std.specs.List.{flat_map, AllByRecursion}
-use Rattle.lake_base.specs.Spelling.{IsDigest}
+use Rattle.lake_format.specs.Spelling.{IsDigest}
 use Rattle.lake_reference.proofs.files.put_parents.Given as goal
 
 -- the parents so far are written, each of 32 bytes

@@ -1,5 +1,5 @@
 use Rattle.std.proofs.Common.{arith}
-use Rattle.lake_base.specs.Spelling.{line_spelling, IsSpan, IsLine}
+use Rattle.lake_format.specs.Spelling.{line_spelling, IsSpan, IsLine}
 use Rattle.lake_base.proofs.ListLemmas.{flat_more, all_more}
 use Rattle.lake_reference.proofs.FilesLineLemmas.{all_at}
 use Rattle.lake_reference.proofs.files.put_range_lines.Goals as goal

@@ -1,6 +1,6 @@
 use Rattle.std.proofs.Common.{◌≡◌, ◌++◌, take}
 use Rattle.std.specs.List.{flat_map, AllByRecursion}
-use Rattle.lake_base.specs.Spelling.{line_spelling, IsLine}
+use Rattle.lake_format.specs.Spelling.{line_spelling, IsLine}
 use Rattle.lake_reference.proofs.files.put_range_lines.Given as goal
 
 -- the lines so far are written, and they are within their limits

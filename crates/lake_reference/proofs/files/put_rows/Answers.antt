@@ -1,5 +1,5 @@
 use Rattle.std.proofs.Common.{arith}
-use Rattle.lake_base.specs.Spelling.{row_spelling, IsRow}
+use Rattle.lake_format.specs.Spelling.{row_spelling, IsRow}
 use Rattle.lake_base.proofs.ListLemmas.{flat_more, all_more}
 use Rattle.lake_reference.proofs.files.put_rows.Goals as goal
 

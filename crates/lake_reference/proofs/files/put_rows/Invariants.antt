@@ -1,6 +1,6 @@
 use Rattle.std.proofs.Common.{◌≡◌, ◌++◌, take}
 use Rattle.std.specs.List.{flat_map, AllByRecursion}
-use Rattle.lake_base.specs.Spelling.{row_spelling, IsRow}
+use Rattle.lake_format.specs.Spelling.{row_spelling, IsRow}
 use Rattle.lake_reference.proofs.files.put_rows.Given as goal
 
 -- the rows so far are written, and they are within their limits

@@ -1,5 +1,5 @@
 use Rattle.std.proofs.Common.{◌≡◌, ◌≤◌, false, drop, length, sym, ap, ◌∙◌, arith, below_more}
-use Rattle.lake_base.specs.HookDecisions.{matches}
+use Rattle.lake_values.specs.HookDecisions.{matches}
 use Rattle.lake_reference.proofs.HooksLemmas.{nothing_left, star_found, star_never, byte_there, byte_other, byte_missing}
 use Rattle.lake_reference.proofs.hooks.+matches.Goals as goal
 

@@ -1,5 +1,5 @@
 use Rattle.std.proofs.Common.{◌≡◌, ℕ, ◌<◌, false, drop, length}
-use Rattle.lake_base.specs.HookDecisions.{matches}
+use Rattle.lake_values.specs.HookDecisions.{matches}
 use Rattle.lake_reference.proofs.hooks.+matches.Given as goal
 
 -- the pattern that is left

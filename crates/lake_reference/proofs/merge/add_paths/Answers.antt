@@ -1,5 +1,5 @@
 use Rattle.std.specs.FinMap.{contains_key}
-use Rattle.lake_base.specs.declared.entry.Change.TheVariants.{Delete}
+use Rattle.lake_values.specs.declared.entry.Change.TheVariants.{Delete}
 use Rattle.lake_reference.proofs.MergeLemmas.{or_nothing, paths_next, paths_all}
 use Rattle.lake_reference.proofs.merge.add_paths.Goals as goal
 

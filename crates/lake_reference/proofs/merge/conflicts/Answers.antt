@@ -1,7 +1,7 @@
 use Rattle.std.proofs.Common.{◌≡◌, ◌∙◌, ◌++◌, ◌∷◌, [], List, ℕ, take, sym, ap}
 use Rattle.std.proofs.lemmas.Bool.{false≢true}
 use Rattle.lake_reference.proofs.merge.conflicts.Goals.{then-eq+in_ok-copy+in_ok-push, else-eq}
-use Rattle.lake_base.specs.Merging.{is_conflict, is_neither}
+use Rattle.lake_values.specs.Merging.{is_conflict, is_neither}
 use Rattle.lake_reference.proofs.MergeLemmas.{told_neither, conflicting, conflicting_next, conflicts_all}
 use Rattle.lake_reference.proofs.merge.conflicts.Goals as goal
 

@@ -1,6 +1,6 @@
 use Rattle.std.proofs.Common.{◌≡◌, ◌∙◌, ap, sym}
 use Rattle.std.proofs.lemmas.Bool.{false≢true}
-use Rattle.lake_base.specs.Merging.{is_conflict, is_neither}
+use Rattle.lake_values.specs.Merging.{is_conflict, is_neither}
 use Rattle.lake_reference.proofs.MergeLemmas.{told_neither, neither, conflicting_next, no_conflict, some_conflict}
 use Rattle.lake_reference.proofs.merge.has_conflict.Goals as goal
 

@@ -1,7 +1,7 @@
 use Rattle.std.proofs.Common.{◌≡◌, ◌∙◌}
 use Rattle.std.proofs.lemmas.Result.{IfOk-weaker}
-use Rattle.lake_base.specs.KeyMap.{apply}
-use Rattle.lake_base.specs.Merging.{merged_map}
+use Rattle.lake_values.specs.KeyMap.{apply}
+use Rattle.lake_values.specs.Merging.{merged_map}
 use Rattle.lake_reference.proofs.MergeLemmas.{nothing_said, merges_next, merges_all}
 use Rattle.lake_reference.proofs.merge.merge_along.Goals as goal
 

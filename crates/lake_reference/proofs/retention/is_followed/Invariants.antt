@@ -1,6 +1,6 @@
 use Rattle.std.specs.List.{AllWithin}
-use Rattle.lake_base.specs.Ancestry.{graph_of}
-use Rattle.lake_base.specs.Keeping.{cutoff, days_of, IsFollower}
+use Rattle.lake_values.specs.Ancestry.{graph_of}
+use Rattle.lake_values.specs.Keeping.{cutoff, days_of, IsFollower}
 use Rattle.lake_reference.proofs.retention.is_followed.Given as goal
 
 -- it is a follower on no walk so far

@@ -1,6 +1,6 @@
 use Rattle.std.proofs.Common.{◌≡◌, ◌≤◌, ℕ, Some, subst, ◌∙◌, arith, below_more}
 use Rattle.std.specs.Option.{IsSome}
-use Rattle.lake_base.specs.Ancestry.{graph_of, commit_of, first_parent, date}
+use Rattle.lake_values.specs.Ancestry.{graph_of, commit_of, first_parent, date}
 use Rattle.lake_reference.proofs.RetentionLemmas.{told_apart, refuted}
 use Rattle.lake_reference.proofs.AncestryWalkLemmas.{there_where_found, none_where_none, starts, no_follower_started, back_next, FollowsAt, follows_here, no_follower_ended, no_follower_whole}
 use Rattle.lake_reference.proofs.retention.is_follower.Goals as goal

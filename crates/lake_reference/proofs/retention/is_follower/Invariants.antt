@@ -1,5 +1,5 @@
 use Rattle.std.proofs.Common.{◌≡◌, ◌<◌, ℕ, Some}
-use Rattle.lake_base.specs.Ancestry.{graph_of, back}
+use Rattle.lake_values.specs.Ancestry.{graph_of, back}
 use Rattle.lake_reference.proofs.AncestryWalkLemmas.{FollowsAt}
 use Rattle.lake_reference.proofs.retention.is_follower.Given as goal
 

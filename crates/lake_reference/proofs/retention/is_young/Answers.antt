@@ -1,8 +1,8 @@
 use Rattle.std.proofs.Common.{◌≡◌, ◌≤◌, ℕ, List, true, subst, ap, ◌∙◌, arith}
 use Rattle.std.proofs.lemmas.Bool.{leb-true, le-leb}
-use Rattle.lake_base.specs.Ancestry.{graph_of, IsOnWalk, date}
-use Rattle.lake_base.specs.Keeping.{cutoff, IsYoung}
-use Rattle.lake_base.specs.Settings.{RulesValue}
+use Rattle.lake_values.specs.Ancestry.{graph_of, IsOnWalk, date}
+use Rattle.lake_values.specs.Keeping.{cutoff, IsYoung}
+use Rattle.lake_values.specs.Settings.{RulesValue}
 use Rattle.lake_base.specs.declared.digest.Digest.{Digest}
 use Rattle.lake_reference.proofs.RetentionLemmas.{stands_in, none_more, none_stands, refuted}
 use Rattle.lake_reference.proofs.retention.is_young.Goals as goal

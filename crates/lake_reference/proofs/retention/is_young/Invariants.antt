@@ -1,5 +1,5 @@
 use Rattle.std.specs.List.{AllWithin}
-use Rattle.lake_base.specs.Ancestry.{graph_of, IsOnWalk}
+use Rattle.lake_values.specs.Ancestry.{graph_of, IsOnWalk}
 use Rattle.lake_reference.proofs.retention.is_young.Given as goal
 
 -- it lies on no walk so far

@@ -1,7 +1,7 @@
 use Rattle.std.proofs.Common.{◌+◌, ap, subst, sym, ◌∙◌}
 use Rattle.std.specs.Option.{option_copied}
-use Rattle.lake_base.specs.Ancestry.{graph_of, id_order}
-use Rattle.lake_base.specs.Keeping.{IsKept, kept}
+use Rattle.lake_values.specs.Ancestry.{graph_of, id_order}
+use Rattle.lake_values.specs.Keeping.{IsKept, kept}
 use Rattle.lake_reference.proofs.AncestryOrderLemmas.{ids_total, ids_same}
 use Rattle.lake_reference.proofs.AncestryReachLemmas.{differ}
 use Rattle.lake_reference.proofs.OrderPlaceLemmas.{HasThose, those_start, those_more, those_same, those_all}

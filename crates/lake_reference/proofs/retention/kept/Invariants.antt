@@ -1,6 +1,6 @@
 use Rattle.std.specs.Option.{option_copied}
-use Rattle.lake_base.specs.Ancestry.{graph_of, id_order}
-use Rattle.lake_base.specs.Keeping.{IsKept}
+use Rattle.lake_values.specs.Ancestry.{graph_of, id_order}
+use Rattle.lake_values.specs.Keeping.{IsKept}
 use Rattle.lake_reference.proofs.OrderPlaceLemmas.{HasThose}
 use Rattle.lake_reference.proofs.retention.kept.Given as goal
 

@@ -1,5 +1,5 @@
 use Rattle.std.proofs.Common.{option_copied, arith}
-use Rattle.lake_base.proofs.CutLemmas.{ranges_few}
+use Rattle.lake_format.proofs.CutLemmas.{ranges_few}
 use Rattle.lake_reference.proofs.SegmentRunLemmas.{parted, changed_more, changed_over}
 use Rattle.lake_reference.proofs.segments.changed_ranges.Goals as goal
 use Rattle.lake_reference.proofs.segments.changed_ranges.Goals.{then-not-is_carried, else-not-is_carried}

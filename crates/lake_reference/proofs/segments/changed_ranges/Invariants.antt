@@ -1,5 +1,5 @@
 use Rattle.std.proofs.Common.{◌≡◌, ◌+◌, ◌≤◌, length, option_copied}
-use Rattle.lake_base.specs.Cutting.{changed_ranges}
+use Rattle.lake_format.specs.Cutting.{changed_ranges}
 use Rattle.lake_reference.proofs.SegmentRunLemmas.{passed, changed}
 use Rattle.lake_reference.proofs.segments.changed_ranges.Given as goal
 

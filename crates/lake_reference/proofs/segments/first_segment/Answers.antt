@@ -1,6 +1,6 @@
 use Rattle.std.proofs.Common.{◌≡◌, ◌+◌, [], ◌∷◌, true, length, take, drop, ap, sym, ◌∙◌, add-one, arith}
 use Rattle.std.proofs.lemmas.List.{take_all, drop_all}
-use Rattle.lake_base.specs.Cutting.{segments, is_break}
+use Rattle.lake_format.specs.Cutting.{segments, is_break}
 use Rattle.lake_reference.proofs.SegmentRunLemmas.{unbroken, segment_at, segment_whole}
 use Rattle.lake_reference.proofs.segments.first_segment.Goals as goal
 

@@ -1,6 +1,6 @@
 use Rattle.std.proofs.Common.{◌≡◌, length, option_copied}
 use Rattle.std.specs.List.{list_any}
-use Rattle.lake_base.specs.Cutting.{with_paths_before, segments, placed_segments, same_segment}
+use Rattle.lake_format.specs.Cutting.{with_paths_before, segments, placed_segments, same_segment}
 use Rattle.lake_reference.proofs.segments.is_carried.Given as goal
 
 -- the rest has such a segment just where all the old rows have one

@@ -1,6 +1,6 @@
 use Rattle.std.proofs.Common.{length, ap, arith}
-use Rattle.lake_base.specs.Cutting.{ranges}
-use Rattle.lake_base.proofs.CutLemmas.{first_of, ranges_few, ranges_none, some_left, none_left}
+use Rattle.lake_format.specs.Cutting.{ranges}
+use Rattle.lake_format.proofs.CutLemmas.{first_of, ranges_few, ranges_none, some_left, none_left}
 use Rattle.lake_reference.proofs.segments.range_count.Goals as goal
 
 pub overflow_add-count : goal.overflow_add-count

@@ -1,5 +1,5 @@
 use Rattle.std.proofs.Common.{◌≡◌, ◌+◌, length}
-use Rattle.lake_base.specs.Cutting.{ranges}
+use Rattle.lake_format.specs.Cutting.{ranges}
 use Rattle.lake_reference.proofs.segments.range_count.Given as goal
 
 -- the ranges before the rest are counted

@@ -1,6 +1,6 @@
 use Rattle.std.proofs.Common.{sym, refl, ◌∙◌, arith}
-use Rattle.lake_base.specs.Sameness.{same_row}
-use Rattle.lake_base.proofs.SamenessLemmas.{same_end}
+use Rattle.lake_values.specs.Sameness.{same_row}
+use Rattle.lake_values.proofs.SamenessLemmas.{same_end}
 use Rattle.lake_reference.proofs.segments.same_rows.Goals as goal
 
 pub loop-at-init : goal.loop-at-init

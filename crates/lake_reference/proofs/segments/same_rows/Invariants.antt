@@ -1,6 +1,6 @@
 use Rattle.std.proofs.Common.{◌≡◌, drop, length}
 use Rattle.std.specs.Cmp.Lexicographic.{pointwise}
-use Rattle.lake_base.specs.Sameness.{same_row}
+use Rattle.lake_values.specs.Sameness.{same_row}
 use Rattle.lake_reference.proofs.segments.same_rows.Given as goal
 
 -- whether all are the same is told by the rows to come

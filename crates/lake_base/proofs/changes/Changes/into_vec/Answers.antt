@@ -1,7 +1,0 @@
-use Rattle.std.proofs.Common.{ap, sym, ◌∙◌}
-use Rattle.std.specs.FinMap.{entries, entries-from_sorted}
-use Rattle.lake_base.specs.Maps.{byte_order}
-use Rattle.lake_base.proofs.changes.Changes.into_vec.Goals as goal
-
-pub returns-clause-changes : goal.returns-clause-changes
-returns-clause-changes c = sym (entries-from_sorted byte_order c.self.inside.changes.items c.self.invariant.0) ∙ ap entries c.self.view_is

@@ -1,5 +1,0 @@
-use Rattle.lake_base.proofs.EncodingLemmas.{entry_again, apart, found}
-use Rattle.lake_base.proofs.encoding.laws_of_spelling.Goals as goal
-
-pub returns : goal.returns
-returns c = record { again = entry_again; apart = apart; found = found }

@@ -1,7 +1,0 @@
-use Rattle.std.proofs.Common.{ap, sym, ◌∙◌}
-use Rattle.std.specs.FinMap.{entries, entries-from_sorted}
-use Rattle.lake_base.specs.Maps.{byte_order}
-use Rattle.lake_base.proofs.key_map.KeyMap.into_vec.Goals as goal
-
-pub returns-clause-entries : goal.returns-clause-entries
-returns-clause-entries c = sym (entries-from_sorted byte_order c.self.inside.entries.items c.self.invariant.0) ∙ ap entries c.self.view_is

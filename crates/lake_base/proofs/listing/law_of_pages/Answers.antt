@@ -1,5 +1,0 @@
-use Rattle.lake_base.proofs.ListingPageLemmas.{all_pages}
-use Rattle.lake_base.proofs.listing.law_of_pages.Goals as goal
-
-pub returns : goal.returns
-returns c = all_pages

@@ -1,0 +1,2 @@
+//! Tables of the formats: each field, entry and row as bytes, and each fault with its place.
+mod encoding;

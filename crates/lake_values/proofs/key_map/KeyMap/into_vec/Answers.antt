@@ -1,0 +1,7 @@
+use Rattle.std.proofs.Common.{ap, sym, ◌∙◌}
+use Rattle.std.specs.FinMap.{entries, entries-from_sorted}
+use Rattle.lake_base.specs.Maps.{byte_order}
+use Rattle.lake_values.proofs.key_map.KeyMap.into_vec.Goals as goal
+
+pub returns-clause-entries : goal.returns-clause-entries
+returns-clause-entries c = sym (entries-from_sorted byte_order c.self.inside.entries.items c.self.invariant.0) ∙ ap entries c.self.view_is

@@ -1,0 +1,14 @@
+pub mod Ancestry
+pub mod Body
+pub mod Commit
+pub mod Cursor
+pub mod Entry
+pub mod HookDecisions
+pub mod Join
+pub mod Keeping
+pub mod KeyMap
+pub mod Merging
+pub mod Pairs
+pub mod Reset
+pub mod Sameness
+pub mod Settings
