@@ -2,9 +2,10 @@
 """Checks the spelling of entries against an independent one: checks/entries.py [COUNT [SEED]]
 
 Makes COUNT random entries (10,000 by default). Spells each by the format as it is written down in docs/FORMATS.md, has
-lake_base's `entry_read` read all of them back, and compares every field; then has `entry_bytes` spell the same
+lake_format's `entry_read` read all of them back, and compares every field; then has `entry_bytes` spell the same
 entries from their fields, reads those bytes by a reader of its own, and compares every field again. Nothing is
-stored: a scratch repository in a temporary folder has lake_base and a program over it. It needs rt.
+stored: a scratch repository in a temporary folder has lake_base, lake_values, lake_format and a program over them. It
+needs rt.
 """
 import hashlib
 import os
@@ -17,10 +18,20 @@ import tempfile
 
 HERE = os.path.dirname(os.path.dirname(os.path.abspath(__file__)))
 
+# The crates that the program stands on, each with its line of crates.txt, and the program's own line.
+CRATES = {
+    'lake_base': 'sha2 hex thiserror',
+    'lake_values': 'lake_base thiserror',
+    'lake_format': 'lake_base lake_values hex thiserror',
+}
+BELOW = 'lake_base lake_values lake_format hex'
+
 PROGRAM = r'''//! Reads spelled entries and shows their fields, a line each; or spells the entries of such lines.
 #![tactic(auto)]
 
-use lake_base::{Digest, Entry, Pairs, Place, Text, entry_bytes, entry_read};
+use lake_base::{Digest, Text};
+use lake_format::{entry_bytes, entry_read};
+use lake_values::{Entry, Pairs, Place};
 use std::alloc::Global;
 use std::env;
 use std::io::{self, BufWriter, Read, Write};
@@ -235,14 +246,17 @@ class Reader:
 
 
 def scratch(folder):
-    """A repository with lake_base and the program."""
-    for part in ('src', 'specs', 'proofs'):
-        shutil.copytree(os.path.join(HERE, 'crates/lake_base', part), os.path.join(folder, 'crates/lake_base', part))
+    """A repository with the crates and the program."""
+    for crate in CRATES:
+        for part in ('src', 'specs', 'proofs'):
+            shutil.copytree(os.path.join(HERE, 'crates', crate, part), os.path.join(folder, 'crates', crate, part))
     os.makedirs(os.path.join(folder, 'crates/entries/src'))
     with open(os.path.join(folder, 'crates/entries/src/main.rt'), 'w') as file:
         file.write(PROGRAM)
     with open(os.path.join(folder, 'crates.txt'), 'w') as file:
-        file.write('lake_base: sha2 hex thiserror\nentries: lake_base hex\n')
+        for crate, below in CRATES.items():
+            file.write(f'{crate}: {below}\n')
+        file.write(f'entries: {BELOW}\n')
 
 
 def built(folder):
