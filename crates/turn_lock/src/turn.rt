@@ -2,6 +2,7 @@ ghost use Rattle.std.specs.Prelude.{◌≡◌, ℕ, ◌+◌, ◌<◌, ◌≤◌,
 ghost use Rattle.std.specs.Fn.{FnOnceTakesAt, FnOnceReturnsAt};
 ghost use mathlib.Core.List.{IsPrefix};
 ghost use Rattle.turn_lock.specs.Seats.{by_seat, KnowsOwn, Meets, Adds, OnlyAdds, TakesChange, GivesChange, new_seat, seat_after, seat_beside, seat_after_draw, seat_when_full, seat_limit, longer_of};
+ghost use Rattle.turn_lock.specs.declared.turn.SplitFault.TheVariants.{NoMemory as split_no_memory};
 
 use crate::rule::{Opening, SplitOff, TurnRule};
 use crate::seat::Seat;
@@ -33,6 +34,14 @@ pub enum SplitFault {
     Full,
     /// Out of memory. A split takes none, so this never comes.
     NoMemory,
+}
+
+impl From<NoMemory> for SplitFault {
+    ghost from_gives = { λ _ fault. fault ≡ split_no_memory };
+
+    fn from(_: NoMemory) -> SplitFault {
+        SplitFault::NoMemory
+    }
 }
 
 /// A value that threads share, one seat at a time. To a contract it is a name, which its seats show.
