@@ -3,7 +3,7 @@ use crate::pattern::matches;
 use crate::{
     Decision, Event, decide, protects, read_hooks, read_protection, write_hooks, write_protection,
 };
-use lake_base::{Digest, Path, RefName, Text};
+use lake_base::{Digest, NameFault, Path, RefName, Text};
 use lake_values::{Change, Changes, Entry, Pairs, Place};
 use serde_json::Value;
 use setting_forms::RuleFault;
@@ -40,7 +40,7 @@ fn kept_protection(alloc: Global, text: &str) -> Result<String, Fail> {
 }
 
 // Texts of hooks, with what is kept of them or the fault: the rule's number and the field.
-const HOOKS: [(&str, &str); 26] = [
+static HOOKS: [(&str, &str); 26] = [
     ("[]", "[]"),
     (
         "[{\"type\": \"require_meta\", \"branch\": \"ma*\", \"key\": \"owner\", \"more\": 1}]",
@@ -124,7 +124,7 @@ const HOOKS: [(&str, &str); 26] = [
 ];
 
 // The same of protection.
-const PROTECTION: [(&str, &str); 6] = [
+static PROTECTION: [(&str, &str); 6] = [
     (
         "[{\"pattern\": \"ma*\", \"type\": 1}, {\"pattern\": \"a_b-9\"}]",
         "[{\"pattern\":\"ma*\"},{\"pattern\":\"a_b-9\"}]",
@@ -138,10 +138,12 @@ const PROTECTION: [(&str, &str); 6] = [
 
 #[test]
 fn settings_are_read_and_kept(rt: HostRuntime) -> Result<(), Fail> {
-    for (text, kept) in HOOKS {
+    for row in &HOOKS {
+        let (text, kept) = *row;
         assert!(rt; kept_hooks(rt.alloc(), text)?.as_str() == kept, "{text}");
     }
-    for (text, kept) in PROTECTION {
+    for row in &PROTECTION {
+        let (text, kept) = *row;
         assert!(rt;
             kept_protection(rt.alloc(), text)?.as_str() == kept,
             "{text}"
@@ -171,7 +173,7 @@ fn the_length_is_tested_first(rt: HostRuntime) -> Result<(), Fail> {
 }
 
 // Patterns, names, and whether they match.
-const MATCHES: [(&str, &str, bool); 8] = [
+static MATCHES: [(&str, &str, bool); 8] = [
     ("a*b*", "ab", true),
     ("a*b*", "axxbyy", true),
     ("a*b*", "ba", false),
@@ -184,7 +186,8 @@ const MATCHES: [(&str, &str, bool); 8] = [
 
 #[test]
 fn patterns_match(rt: HostRuntime) {
-    for (pattern, name, is) in MATCHES {
+    for row in &MATCHES {
+        let (pattern, name, is) = *row;
         assert_eq!(rt;
             matches(pattern.as_bytes(), name.as_bytes()),
             is,
@@ -214,39 +217,49 @@ fn a_hostile_pattern_ends(rt: HostRuntime) -> Result<(), Fail> {
     Ok(())
 }
 
+// The first pattern that protects a branch.
+fn protecting(alloc: Global, text: &str, name: &[u8]) -> Result<Option<usize>, Fail> {
+    let value = Value::from_str(alloc, text)?;
+    let protection = read_protection(alloc, &value)?;
+    Ok(protects(&protection, &branch(alloc, name)?))
+}
+
 #[test]
 fn the_first_pattern_protects(rt: HostRuntime) -> Result<(), Fail> {
-    let alloc = rt.alloc();
-    let value = Value::from_str(alloc, "[{\"pattern\":\"x\"},{\"pattern\":\"a*\"}]")?;
-    let protection = read_protection(alloc, &value)?;
-    assert_eq!(rt;
-        protects(&protection, &RefName::read(alloc, b"ab")?),
-        Some(1)
-    );
-    assert_eq!(rt; protects(&protection, &RefName::read(alloc, b"ba")?), None);
+    let patterns = "[{\"pattern\":\"x\"},{\"pattern\":\"a*\"}]";
+    assert_eq!(rt; protecting(rt.alloc(), patterns, b"ab")?, Some(1));
+    assert_eq!(rt; protecting(rt.alloc(), patterns, b"ba")?, None);
     Ok(())
+}
+
+fn object(alloc: Global, content_type: &[u8]) -> Result<Entry, NameFault> {
+    let content_type = Text::read(alloc, content_type, 255)?;
+    Ok(Entry {
+        place: Place::Own {
+            number: 1,
+            digest: Digest([0; 32]),
+        },
+        size: 5,
+        mtime: 0,
+        content_type,
+        metadata: Pairs::new(alloc),
+    })
+}
+
+fn path(alloc: Global, bytes: &[u8]) -> Result<Path, NameFault> {
+    Path::read(alloc, bytes)
 }
 
 // An object of 5 bytes put at `p/1`, and `p/2` deleted.
 fn changes(alloc: Global) -> Result<Changes, Fail> {
     let mut changes = Changes::new(alloc);
-    let entry = Entry {
-        place: Place::Own {
-            number: 1,
-            digest: Digest::of(b"hello"),
-        },
-        size: 5,
-        mtime: 0,
-        content_type: Text::read(alloc, b"text/plain", 255)?,
-        metadata: Pairs::new(alloc),
-    };
-    changes.set(Path::read(alloc, b"p/1")?, Change::Put(entry))?;
-    changes.set(Path::read(alloc, b"p/2")?, Change::Delete)?;
+    changes.set(path(alloc, b"p/1")?, Change::Put(object(alloc, b"a/b")?))?;
+    changes.set(path(alloc, b"p/2")?, Change::Delete)?;
     Ok(changes)
 }
 
 // Hooks, and what they decide of those two changes on `main` with the metadata `owner`: `x`.
-const DECISIONS: [(&str, Decision); 12] = [
+static DECISIONS: [(&str, Decision); 12] = [
     ("[]", Decision::Allow),
     (
         "[{\"type\":\"require_meta\",\"branch\":\"ma*\",\"key\":\"owner\"}]",
@@ -294,24 +307,38 @@ const DECISIONS: [(&str, Decision); 12] = [
     ),
 ];
 
+// Metadata of one pair.
+fn one(alloc: Global, key: &[u8], value: &[u8]) -> Result<Pairs, Fail> {
+    let mut metadata = Pairs::new(alloc);
+    metadata.set(
+        Text::read(alloc, key, 128)?,
+        Text::read(alloc, value, 1024)?,
+    )?;
+    Ok(metadata)
+}
+
+// What hooks decide of an event.
+fn decided(alloc: Global, text: &str, event: &Event) -> Result<Decision, Fail> {
+    let value = Value::from_str(alloc, text)?;
+    let rules = read_hooks(alloc, &value)?;
+    Ok(decide(&rules, event))
+}
+
+fn branch(alloc: Global, bytes: &[u8]) -> Result<RefName, NameFault> {
+    RefName::read(alloc, bytes)
+}
+
 #[test]
 fn hooks_decide(rt: HostRuntime) -> Result<(), Fail> {
     let alloc = rt.alloc();
-    let branch = RefName::read(alloc, b"main")?;
-    let mut metadata = Pairs::new(alloc);
-    metadata.set(
-        Text::read(alloc, b"owner", 128)?,
-        Text::read(alloc, b"x", 1024)?,
-    )?;
-    let changes = changes(alloc)?;
     let event = Event {
-        branch: &branch,
-        metadata: &metadata,
-        changes: &changes,
+        branch: &branch(alloc, b"main")?,
+        metadata: &one(alloc, b"owner", b"x")?,
+        changes: &changes(alloc)?,
     };
-    for (text, decision) in DECISIONS {
-        let rules = read_hooks(alloc, &Value::from_str(alloc, text)?)?;
-        assert_eq!(rt; decide(&rules, &event), decision, "{text}");
+    for row in &DECISIONS {
+        let (text, decision) = *row;
+        assert_eq!(rt; decided(alloc, text, &event)?, decision, "{text}");
     }
     Ok(())
 }

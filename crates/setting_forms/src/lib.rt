@@ -15,5 +15,5 @@ mod object;
 mod tests;
 
 pub use fault::RuleFault;
-pub use list::{RULE_LIMIT, rule_list};
+pub use list::rule_list;
 pub use object::{RuleObject, text_of};

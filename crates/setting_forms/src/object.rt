@@ -1,7 +1,8 @@
 //! An object with a rule's number, and the readers of its fields.
-ghost use Rattle.std.specs.Prelude.{◌≡◌, ◌⊎◌, IfOk};
+ghost use Rattle.std.specs.Prelude.{◌≡◌, ◌≢◌, ◌⊎◌, IfOk, IfErr};
 ghost use Rattle.serde_json.specs.View.{view, items_view};
 ghost use Rattle.setting_forms.specs.Forms.{IsReadAs, object_of, field_of, text_within, whole_number, number_within, list_field_of};
+ghost use Rattle.setting_forms.specs.declared.fault.RuleFault.TheVariants.{NoMemory as rule_no_memory};
 
 use crate::fault::RuleFault;
 use crate::list::few;
@@ -32,6 +33,7 @@ impl<'a> RuleObject<'a> {
     pub fn of(value: &'a Value, rule: usize) -> Result<RuleObject<'a>, RuleFault>
         ensures object { IsReadAs (λ o. view o.object.now) result (object_of rule (view value.now)) }
         ensures number { IfOk result (λ o. o.rule ≡ rule) }
+        ensures sure { IfErr result (λ fault. fault ≢ rule_no_memory) }
     {
         if value.is_object() {
             Ok(RuleObject {

@@ -33,7 +33,7 @@ fn read(alloc: Global, text: &str) -> Result<String, Fail> {
 }
 
 // Texts of retention, with the default days and the number of branches, or the fault.
-const RETENTION: [(&str, &str); 12] = [
+static RETENTION: [(&str, &str); 12] = [
     ("{\"default_retention_days\":5}", "5 0"),
     (
         "{\"branches\":[{\"branch_id\":\"main\",\"retention_days\":36500}],\"default_retention_days\":1}",
@@ -77,7 +77,8 @@ const RETENTION: [(&str, &str); 12] = [
 
 #[test]
 fn retention_is_read_by_these_words(rt: HostRuntime) -> Result<(), Fail> {
-    for (text, is) in RETENTION {
+    for row in &RETENTION {
+        let (text, is) = *row;
         assert!(rt; read(rt.alloc(), text)?.as_str() == is, "{text}");
     }
     Ok(())
