@@ -47,14 +47,14 @@ pub fn run<R, S: Source, W: Sink, E: Sink, C: Clock, H: Host>(
     // one-thread lake, from the fresh lake on; each request took one moment, the next.
     ensures batch { Quiet (S.faults source.old) (S.faults source.new) → Quiet (W.faults sink.old) (W.faults sink.new) → Quiet (E.faults errors.old) (E.faults errors.new) → result ≢ 7
         → IfSome (timing_of words.now) (λ timing. IfSome (S.left source.old) (λ input. IfSome (W.written sink.old) (λ before.
-        (moments : List ℕ) × Moments timing (C.readings clock.old) (C.readings clock.new) moments × TakesJust BATCH_LIMIT input moments
-        × (W.written sink.new ≡ Some (before ++ (batch_of BATCH_LIMIT input moments).text))
-        × (result ≡ (if (batch_of BATCH_LIMIT input moments).done then 0 else 1))))) }
+        (moments : List ℕ) × Moments timing (C.readings clock.old) (C.readings clock.new) moments × TakesJust 1073741824 input moments
+        × (W.written sink.new ≡ Some (before ++ (batch_of 1073741824 input moments).text))
+        × (result ≡ (if (batch_of 1073741824 input moments).done then 0 else 1))))) }
 
     // Whatever failed, the sink got a prefix of that, up to a line that found no memory. Where the source
     // failed, it got all of the lines that had ended.
     ensures prefix { IfSome (timing_of words.now) (λ timing. IfSome (S.left source.old) (λ input.
-        Outcome timing BATCH_LIMIT (C.readings clock.old) (C.readings clock.new) (W.written sink.old) (W.written sink.new) (S.left source.new) input result)) }
+        Outcome timing 1073741824 (C.readings clock.old) (C.readings clock.new) (W.written sink.old) (W.written sink.new) (S.left source.new) input result)) }
 
     // Other words are a usage fault, and nothing else is done.
     ensures usage { (result ≡ 2 → IsNone (timing_of words.now)) × (IsNone (timing_of words.now) → ShowsUsage (E.written errors.old) (E.written errors.new) result
