@@ -1,8 +1,10 @@
-//! The limits of names, texts and lists (this project's profile). Each is the greatest count that is taken.
+//! The limits of names, texts and lists (this project's profile). Each but `REPO_NAME_LEAST` is the greatest count that is taken.
 ghost use Rattle.std.specs.Prelude.{◌≡◌};
 
 /// Bytes of the name of a repository.
 pub const REPO_NAME_LIMIT: usize = 63;
+/// The fewest bytes of the name of a repository.
+pub const REPO_NAME_LEAST: usize = 3;
 /// Bytes of the name of a branch or a tag.
 pub const REF_NAME_LIMIT: usize = 255;
 /// Bytes of a path.
@@ -25,6 +27,8 @@ pub const COMMITTER_LIMIT: usize = 128;
 pub const MESSAGE_LIMIT: usize = 65536;
 /// Members of a list among the settings of a repository.
 pub const SETTING_LIMIT: usize = 256;
+/// Bytes of a prefix of paths among the settings of a repository.
+pub const PREFIX_LIMIT: usize = 1024;
 /// Bytes of a pattern of branches.
 pub const PATTERN_LIMIT: usize = 255;
 /// Days of retention.
@@ -32,9 +36,9 @@ pub const DAYS_LIMIT: u32 = 36500;
 
 /// The limits as numbers. (A law: it does nothing.)
 pub fn limits_are_pinned()
-    ensures names { (REPO_NAME_LIMIT ≡ 63) × (REF_NAME_LIMIT ≡ 255) × (PATH_LIMIT ≡ 1024) }
+    ensures names { (REPO_NAME_LEAST ≡ 3) × (REPO_NAME_LIMIT ≡ 63) × (REF_NAME_LIMIT ≡ 255) × (PATH_LIMIT ≡ 1024) }
     ensures pairs { (PAIRS_LIMIT ≡ 64) × (KEY_LIMIT ≡ 128) × (VALUE_LIMIT ≡ 1024) }
     ensures entries { (CONTENT_TYPE_LIMIT ≡ 255) × (ADDRESS_LIMIT ≡ 2048) × (CHECKSUM_LIMIT ≡ 128) }
     ensures remarks { (COMMITTER_LIMIT ≡ 128) × (MESSAGE_LIMIT ≡ 65536) }
-    ensures settings { (SETTING_LIMIT ≡ 256) × (PATTERN_LIMIT ≡ 255) × (DAYS_LIMIT ≡ 36500) }
+    ensures settings { (SETTING_LIMIT ≡ 256) × (PREFIX_LIMIT ≡ 1024) × (PATTERN_LIMIT ≡ 255) × (DAYS_LIMIT ≡ 36500) }
 {}

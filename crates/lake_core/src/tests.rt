@@ -1,19 +1,23 @@
 //! What a plain lake answers and shows after a few steps.
 use crate::PlainLake;
 use lake_base::{Digest, NameFault, Path, RefName, RepoName, Text, TryCopy};
-use lake_model::{By, FIRST_BRANCH, FIRST_REPO, StepFault, Versions};
+use lake_model::{By, StepFault, Versions};
 use lake_values::{Change, Entry, Pairs, Place};
 use std::alloc::Global;
 use std::test::Fail;
 
 const BY: By = By { seat: 3, call: 1 };
 
+// A repository's name and a branch's.
+fn names(alloc: Global, repo: &[u8], branch: &[u8]) -> Result<(RepoName, RefName), NameFault> {
+    let repo = RepoName::read(alloc, repo)?;
+    let branch = RefName::read(alloc, branch)?;
+    Ok((repo, branch))
+}
+
 // The repository and the branch that a fresh lake has.
 fn first(alloc: Global) -> Result<(RepoName, RefName), NameFault> {
-    Ok((
-        RepoName::read(alloc, FIRST_REPO)?,
-        RefName::read(alloc, FIRST_BRANCH)?,
-    ))
+    names(alloc, b"quickstart", b"main")
 }
 
 // Uploads an object of this size: a ticket is taken, and the entry is staged.
@@ -138,13 +142,18 @@ fn other_names_are_not_there(rt: HostRuntime) -> Result<(), Fail> {
     Ok(())
 }
 
+// Takes a ticket and drops it: the number, and the places of the two entries.
+fn passing(alloc: Global, lake: &mut PlainLake) -> Result<(u64, u64, u64), Fail> {
+    let (repo, branch) = first(alloc)?;
+    let (taken, number) = lake.take_ticket(BY, &repo, &branch)?;
+    let dropped = lake.drop_ticket(BY, number)?;
+    Ok((number, taken, dropped))
+}
+
 #[test]
 fn each_ticket_has_a_number_of_its_own(rt: HostRuntime) -> Result<(), Fail> {
     let mut lake = PlainLake::fresh(rt.alloc())?;
-    let (repo, branch) = first(rt.alloc())?;
-    assert_eq!(rt; lake.take_ticket(BY, &repo, &branch)?, (1, 0));
-    let (at, number) = lake.take_ticket(BY, &repo, &branch)?;
-    assert_eq!(rt; (at, number), (2, 1));
-    assert_eq!(rt; lake.drop_ticket(BY, number)?, 3);
+    assert_eq!(rt; passing(rt.alloc(), &mut lake)?, (0, 1, 2));
+    assert_eq!(rt; passing(rt.alloc(), &mut lake)?, (1, 3, 4));
     Ok(())
 }

@@ -31,6 +31,11 @@ pub const USUAL_CUT: Cut = Cut {
     modulus: 1024,
 };
 
+/// The usual cut in numbers. (A law: it does nothing.)
+pub fn usual_cut_is_pinned()
+    ensures { (USUAL_CUT.max_bytes ≡ 1048576) × (USUAL_CUT.modulus ≡ 1024) }
+{}
+
 /// FNV-1a of 64 bits (Fowler, Noll and Vo). It takes no memory.
 #[tactic(auto, unfolding(crate::specs::Cutting::fnv1a))]
 pub fn fnv1a(bytes: &[u8]) -> u64

@@ -5,7 +5,7 @@
 //! count, a text with its length, a key of metadata that isn't above the one before. A writer reserves room for
 //! the whole field first, so that a refused call leaves its buffer as it was.
 ghost use Rattle.std.specs.Prelude.{◌≡◌, ◌≢◌, ◌++◌, ◌+◌, ◌<◌, ◌≤◌, ◌^◌, length, None, OnOk, OnErr, IfErr, option_copied};
-ghost use Rattle.std.specs.Int.{w16, w32, w64};
+ghost use Rattle.std.specs.Int.{w16, w32, w64, to_be_bytes};
 ghost use Rattle.lake_format.specs.Spelling.{short_text, long_text, pairs_spelling, IsDigest, IsMetadata};
 ghost use Rattle.lake_format.specs.Writing.{HasRoom, Appends};
 ghost use Rattle.lake_format.specs.Reading.{ReadsAs, fault_place, entry_fault, read_number, read_bytes, read_utf8, read_text, read_long_text, read_path, is_next, last_key, read_key, read_pair, read_pairs, read_metadata};
@@ -330,6 +330,33 @@ pub fn read_metadata(alloc: Global, bytes: &[u8]) -> Result<(Pairs, &[u8]), Fiel
     }
     let (pairs, rest) = read_pairs(alloc, rest, count)?;
     Ok((Pairs::from_vec(pairs), rest))
+}
+
+/// Appends a number of two bytes.
+pub fn put_u16(out: &mut Vec<u8>, number: u16) -> Result<(), NoMemory>
+    ensures spelled { OnOk result (out.new.items ≡ out.old.items ++ to_be_bytes w16 number) }
+    ensures unchanged { OnErr result (out.new.items ≡ out.old.items) }
+{
+    out.extend_from_slice(&number.to_be_bytes())?;
+    Ok(())
+}
+
+/// Appends a number of four bytes.
+pub fn put_u32(out: &mut Vec<u8>, number: u32) -> Result<(), NoMemory>
+    ensures spelled { OnOk result (out.new.items ≡ out.old.items ++ to_be_bytes w32 number) }
+    ensures unchanged { OnErr result (out.new.items ≡ out.old.items) }
+{
+    out.extend_from_slice(&number.to_be_bytes())?;
+    Ok(())
+}
+
+/// Appends a number of eight bytes.
+pub fn put_u64(out: &mut Vec<u8>, number: u64) -> Result<(), NoMemory>
+    ensures spelled { OnOk result (out.new.items ≡ out.old.items ++ to_be_bytes w64 number) }
+    ensures unchanged { OnErr result (out.new.items ≡ out.old.items) }
+{
+    out.extend_from_slice(&number.to_be_bytes())?;
+    Ok(())
 }
 
 /// Appends a text behind two bytes of length.

@@ -54,11 +54,8 @@ pub struct Page {
     pub has_more: bool,
 }
 
-impl PageQuery {
-    /// An equal query.
-    pub fn copy(&self, alloc: Global) -> Result<PageQuery, NoMemory>
-        ensures { IfOk result (λ copy. copy ≡ self.now) }
-    {
+impl TryCopy for PageQuery {
+    fn copy(&self, alloc: Global) -> Result<PageQuery, NoMemory> {
         Ok(PageQuery {
             prefix: self.prefix.copy(alloc)?,
             after: self.after.copy(alloc)?,
@@ -78,11 +75,10 @@ impl Item {
             Item::Prefix(text) => text.as_slice(),
         }
     }
+}
 
-    /// An equal item.
-    pub fn copy(&self, alloc: Global) -> Result<Item, NoMemory>
-        ensures { IfOk result (λ copy. copy ≡ self.now) }
-    {
+impl TryCopy for Item {
+    fn copy(&self, alloc: Global) -> Result<Item, NoMemory> {
         match self {
             Item::Object { path, entry } => Ok(Item::Object {
                 path: path.copy(alloc)?,
@@ -93,14 +89,10 @@ impl Item {
     }
 }
 
-impl Page {
-    /// An equal page.
-    pub fn copy(&self, alloc: Global) -> Result<Page, NoMemory>
-        ensures { IfOk result (λ copy. copy ≡ self.now) }
-    {
-        let items = copied(alloc, self.items.as_slice())?;
+impl TryCopy for Page {
+    fn copy(&self, alloc: Global) -> Result<Page, NoMemory> {
         Ok(Page {
-            items: Sequence::of(items),
+            items: self.items.copy(alloc)?,
             has_more: self.has_more,
         })
     }
@@ -283,15 +275,4 @@ fn text_of(alloc: Global, bytes: &[u8]) -> Result<Text, NoMemory>
         Err(NameFault::NoMemory) => Err(NoMemory),
         Err(_) => unreachable!(),
     }
-}
-
-// The same items.
-fn copied(alloc: Global, items: &[Item]) -> Result<Vec<Item>, NoMemory>
-    ensures { IfOk result (λ copy. copy.items ≡ items.now) }
-{
-    let mut copy = Vec::with_capacity(alloc, items.len())?;
-    for item in items {
-        copy.push(item.copy(alloc)?)?;
-    }
-    Ok(copy)
 }

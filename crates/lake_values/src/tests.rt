@@ -14,11 +14,19 @@ fn text(alloc: Global, bytes: &[u8]) -> Result<Text, NameFault> {
     Text::read(alloc, bytes, 4096)
 }
 
+fn path(alloc: Global, bytes: &[u8]) -> Result<Path, NameFault> {
+    Path::read(alloc, bytes)
+}
+
 // An own object of this size, with one pair of metadata.
 fn entry(alloc: Global, size: u64) -> Result<Entry, Fail> {
     let mut metadata = Pairs::new(alloc);
     metadata.set(text(alloc, b"k")?, text(alloc, b"v")?)?;
-    let content_type = Text::read(alloc, b"a/b", 255)?;
+    Ok(typed(alloc, size, b"a/b", metadata)?)
+}
+
+fn typed(alloc: Global, size: u64, kind: &[u8], metadata: Pairs) -> Result<Entry, NameFault> {
+    let content_type = Text::read(alloc, kind, 255)?;
     Ok(Entry {
         place: Place::Own {
             number: 7,

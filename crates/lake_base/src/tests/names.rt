@@ -13,7 +13,7 @@ fn front(bytes: &'static [u8], len: usize) -> &'static [u8] {
 // Bytes, and their first fault as a name or as a path.
 type Row = (&'static [u8], Option<NameFault>);
 
-const REPOSITORIES: [Row; 9] = [
+static REPOSITORIES: [Row; 9] = [
     (b"", Some(NameFault::Empty)),
     (b"a", Some(NameFault::TooShort)),
     (b"ab", Some(NameFault::TooShort)),
@@ -25,7 +25,7 @@ const REPOSITORIES: [Row; 9] = [
     (b"abC", Some(NameFault::BadByte(2))),
 ];
 
-const BRANCHES: [Row; 6] = [
+static BRANCHES: [Row; 6] = [
     (b"", Some(NameFault::Empty)),
     (b"_", None),
     (b"A9_-", None),
@@ -34,7 +34,7 @@ const BRANCHES: [Row; 6] = [
     (b"_-a.", Some(NameFault::BadByte(3))),
 ];
 
-const PATHS: [Row; 4] = [
+static PATHS: [Row; 4] = [
     (b"", Some(NameFault::Empty)),
     (b"a/b", None),
     (b"\xc3\xa9", None),
@@ -119,7 +119,7 @@ fn lengths_of_texts(rt: HostRuntime) {
     }
 }
 
-const TEXTS: [(&[u8], bool); 7] = [
+static TEXTS: [(&[u8], bool); 7] = [
     (b"", true),
     (b"\xc3\xa9", true),
     (b"\xf4\x8f\xbf\xbf", true),
@@ -150,7 +150,7 @@ fn names_like_ids(rt: HostRuntime) -> Result<(), Fail> {
 }
 
 // The digests of the standard's examples.
-const DIGESTS: [(&[u8], &str); 2] = [
+static DIGESTS: [(&[u8], &str); 2] = [
     (
         b"",
         "e3b0c44298fc1c149afbf4c8996fb92427ae41e4649b934ca495991b7852b855",
@@ -171,7 +171,7 @@ fn digests(rt: HostRuntime) -> Result<(), Fail> {
     Ok(())
 }
 
-const NO_DIGESTS: [(&[u8], usize); 4] = [(b"", 0), (b"0g", 1), (b"0f", 2), (b"0F", 1)];
+static NO_DIGESTS: [(&[u8], usize); 4] = [(b"", 0), (b"0g", 1), (b"0f", 2), (b"0F", 1)];
 
 #[test]
 fn texts_that_are_no_digests(rt: HostRuntime) {

@@ -6,7 +6,7 @@ use std::cmp::Ordering;
 use std::collections::BTreeMap;
 
 // Two names, and how they compare.
-const ROWS: [(&[u8], &[u8], Ordering); 4] = [
+static ROWS: [(&[u8], &[u8], Ordering); 4] = [
     (b"b", b"aa", Ordering::Greater),
     (b"a", b"aa", Ordering::Less),
     (b"Z", b"a", Ordering::Less),
@@ -49,4 +49,10 @@ fn paths_are_keys(rt: HostRuntime) -> Result<(), Fail> {
     let path = Path::read(rt.alloc(), b"a/b")?;
     assert_eq!(rt; counted(rt.alloc(), &path, 3)?, Some(3));
     Ok(())
+}
+
+#[test]
+fn digests_are_ordered_by_bytes(rt: HostRuntime) {
+    assert_eq!(rt; Digest([1; 32]).cmp(&Digest([2; 32])), Ordering::Less);
+    assert_eq!(rt; Digest([255; 32]).cmp(&Digest([2; 32])), Ordering::Greater);
 }

@@ -13,14 +13,14 @@ use std::cmp::Ordering;
 use std::test::Fail;
 
 // The object of 5 bytes at `s3://x`, with no checksum, content type or metadata.
-const EXTERNAL: [u8; 31] = [
+static EXTERNAL: [u8; 31] = [
     1, 0, 6, 115, 51, 58, 47, 47, 120, 0, 0, 0, 0, 0, 0, 0, 0, 0, 5, 0, 0, 0, 0, 0, 0, 0, 0, 0, 0,
     0, 0,
 ];
 
 // Where the field begins that ends outside, in each shorter front of it: the place, the address, the checksum, the
 // size, the time, the content type, the count of pairs.
-const PLACES: [usize; 31] = [
+static PLACES: [usize; 31] = [
     0, 1, 1, 1, 1, 1, 1, 1, 1, 9, 9, 11, 11, 11, 11, 11, 11, 11, 11, 19, 19, 19, 19, 19, 19, 19,
     19, 27, 27, 29, 29,
 ];
@@ -31,19 +31,19 @@ const SUM: Digest = Digest([
 ]);
 
 // Number 258, that digest, 5 bytes, the moment 1,700,000,000, `a/b`, and two pairs: `k` with `v`, `l` with nothing.
-const OWN: [u8; 75] = [
+static OWN: [u8; 75] = [
     0, 0, 0, 0, 0, 0, 0, 1, 2, 1, 2, 3, 4, 5, 6, 7, 8, 9, 10, 11, 12, 13, 14, 15, 16, 17, 18, 19,
     20, 21, 22, 23, 24, 25, 26, 27, 28, 29, 30, 31, 32, 0, 0, 0, 0, 0, 0, 0, 5, 0, 0, 0, 0, 101,
     83, 241, 0, 0, 3, 97, 47, 98, 0, 2, 0, 1, 107, 0, 1, 118, 0, 1, 108, 0, 0,
 ];
 
 // The fronts of entries at the address `a`, up to the content type, and up to the metadata.
-const TO_TYPE: &[u8] =
+static TO_TYPE: &[u8] =
     b"\x01\x00\x01a\x00\x00\x00\x00\x00\x00\x00\x00\x00\x00\x00\x00\x00\x00\x00\x00\x00\x00";
 
 // What follows such a front, and the place at which it is bad: a content type of 256 bytes, one that isn't UTF-8, 65
 // pairs, a key of none and of 129 bytes, one that isn't UTF-8, a value of 1,025 bytes, keys out of order, a key twice.
-const BAD_AFTER_TIME: [(&[u8], usize); 9] = [
+static BAD_AFTER_TIME: [(&[u8], usize); 9] = [
     (b"\x01\x00", 22),
     (b"\x00\x01\xff\x00\x00", 22),
     (b"\x00\x00\x00\x41", 24),
@@ -57,7 +57,7 @@ const BAD_AFTER_TIME: [(&[u8], usize); 9] = [
 
 // Bad places: another first byte, no address, one of 2,049 bytes, one that isn't UTF-8, one that begins with
 // `lake://`, a checksum of 129 bytes.
-const BAD_PLACES: [(&[u8], usize); 6] = [
+static BAD_PLACES: [(&[u8], usize); 6] = [
     (b"\x02", 0),
     (b"\x01\x00\x00", 1),
     (b"\x01\x08\x01", 1),
@@ -95,17 +95,17 @@ fn each_shorter_front_is_short(rt: HostRuntime) {
 
 #[test]
 fn a_bad_place_is_bad_where_its_field_begins(rt: HostRuntime) {
-    for (bytes, place) in BAD_PLACES {
-        assert_eq!(rt; bad_place(rt.alloc(), bytes), Some(place));
+    for (bytes, place) in &BAD_PLACES {
+        assert_eq!(rt; bad_place(rt.alloc(), *bytes), Some(*place));
     }
 }
 
 #[test]
 fn a_bad_field_is_bad_where_it_begins(rt: HostRuntime) -> Result<(), Fail> {
-    for (after, place) in BAD_AFTER_TIME {
+    for (after, place) in &BAD_AFTER_TIME {
         let mut bytes = Vec::from_slice(rt.alloc(), TO_TYPE)?;
-        bytes.extend_from_slice(after)?;
-        assert_eq!(rt; bad_place(rt.alloc(), bytes.as_slice()), Some(place));
+        bytes.extend_from_slice(*after)?;
+        assert_eq!(rt; bad_place(rt.alloc(), bytes.as_slice()), Some(*place));
     }
     Ok(())
 }
@@ -213,7 +213,7 @@ fn an_entry_holds_what_is_within_its_limits(rt: HostRuntime) -> Result<(), Fail>
 }
 
 // `x`, and then `ab` behind two bytes of length, `c` behind four, no metadata, and the digest.
-const WRITTEN: [u8; 44] = [
+static WRITTEN: [u8; 44] = [
     120, 0, 2, 97, 98, 0, 0, 0, 1, 99, 0, 0, 1, 2, 3, 4, 5, 6, 7, 8, 9, 10, 11, 12, 13, 14, 15, 16,
     17, 18, 19, 20, 21, 22, 23, 24, 25, 26, 27, 28, 29, 30, 31, 32,
 ];
@@ -231,7 +231,7 @@ fn writers_append_to_what_is_there(rt: HostRuntime) -> Result<(), Fail> {
 }
 
 // The object at `s3://x` under `a`, as a row.
-const ROW: [u8; 34] = [
+static ROW: [u8; 34] = [
     0, 1, 97, 1, 0, 6, 115, 51, 58, 47, 47, 120, 0, 0, 0, 0, 0, 0, 0, 0, 0, 5, 0, 0, 0, 0, 0, 0, 0,
     0, 0, 0, 0, 0,
 ];
@@ -293,7 +293,7 @@ fn plain_fields_are_read_from_the_front(rt: HostRuntime) -> Result<(), Fail> {
 }
 
 // What is said of a range of seven rows from `a` to `b`, whose file has that digest.
-const LINE: [u8; 42] = [
+static LINE: [u8; 42] = [
     1, 2, 3, 4, 5, 6, 7, 8, 9, 10, 11, 12, 13, 14, 15, 16, 17, 18, 19, 20, 21, 22, 23, 24, 25, 26,
     27, 28, 29, 30, 31, 32, 0, 0, 0, 7, 0, 1, 97, 0, 1, 98,
 ];

@@ -1,8 +1,9 @@
 // Pages under prefixes and delimiters, after names and of several amounts.
 use super::overlay::page_after;
 use crate::listing::{Item, Page, PageQuery, page_of};
+use lake_base::TryCopy;
 use lake_base::digest::Digest;
-use lake_base::names::Path;
+use lake_base::names::{NameFault, Path};
 use lake_base::text::Text;
 use lake_values::changes::Changes;
 use lake_values::entry::{Change, Entry, Place};
@@ -53,13 +54,17 @@ fn puts_of(alloc: Global, keys: &str) -> Result<Changes, Fail> {
     let mut puts = Changes::new(alloc);
     for key in keys.split_whitespace() {
         let path = Path::read(alloc, key.as_bytes())?;
-        puts.set(path, Change::Put(entry(alloc)?))?;
+        puts.set(path, Change::Put(entry(alloc, "")?))?;
     }
     Ok(puts)
 }
 
-fn entry(alloc: Global) -> Result<Entry, Fail> {
-    let content_type = Text::read(alloc, b"", 255)?;
+fn text(alloc: Global, text: &str) -> Result<Text, NameFault> {
+    Text::read(alloc, text.as_bytes(), 255)
+}
+
+fn entry(alloc: Global, content_type: &str) -> Result<Entry, NameFault> {
+    let content_type = Text::read(alloc, content_type.as_bytes(), 255)?;
     Ok(Entry {
         place: Place::Own {
             number: 0,
@@ -80,10 +85,10 @@ fn query_of(
     delimiter: &str,
 ) -> Result<PageQuery, Fail> {
     Ok(PageQuery {
-        prefix: Text::read(alloc, prefix.as_bytes(), 1024)?,
-        after: Text::read(alloc, after.as_bytes(), 1024)?,
+        prefix: text(alloc, prefix)?,
+        after: text(alloc, after)?,
         amount,
-        delimiter: Text::read(alloc, delimiter.as_bytes(), 1024)?,
+        delimiter: text(alloc, delimiter)?,
     })
 }
 

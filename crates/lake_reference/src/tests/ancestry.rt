@@ -1,15 +1,15 @@
 // Ancestors, bases and walks in small graphs. A commit is written with a letter, its generation and its parents.
 ghost use Rattle.lake_values.specs.Ancestry.{graph_of, IsGraph};
 
-use crate::ancestry::{ancestors, back, base, commit_of, is_ancestor, is_graph, is_on_walk};
 use super::*;
+use crate::ancestry::{ancestors, back, base, commit_of, is_ancestor, is_graph, is_on_walk};
 use std::process::Abort;
 
 // A first commit, two upon it, and two merges of these, whose parents stand the one and the other way round.
 const CROSSED: &str = "N3YX M3XY Y2R X2R R1";
 
 // A letter, its ancestors in the order of the log, and its walk. Z is no commit.
-const WAYS: [(u8, &str, &str); 6] = [
+static WAYS: [(u8, &str, &str); 6] = [
     (b'M', "MXYR", "MXR"),
     (b'N', "NXYR", "NYR"),
     (b'X', "XR", "XR"),
@@ -19,7 +19,7 @@ const WAYS: [(u8, &str, &str); 6] = [
 ];
 
 // Two letters and that of their base.
-const CROSSED_BASES: [(u8, u8, u8); 5] = [
+static CROSSED_BASES: [(u8, u8, u8); 5] = [
     (b'M', b'N', b'X'),
     (b'R', b'M', b'R'),
     (b'M', b'M', b'M'),
@@ -31,7 +31,7 @@ const CROSSED_BASES: [(u8, u8, u8); 5] = [
 // it stands first among the parents of one of them only.
 const UNEVEN: &str = "A4BY B2R N4YB M4BY Y3Z Z2R R1";
 
-const UNEVEN_BASES: [(u8, u8, u8); 3] = [
+static UNEVEN_BASES: [(u8, u8, u8); 3] = [
     (b'M', b'N', b'Y'),
     (b'M', b'B', b'B'),
     (b'Z', b'B', b'R'),
@@ -40,10 +40,14 @@ const UNEVEN_BASES: [(u8, u8, u8); 3] = [
 // Two first commits with one upon each.
 const APART: &str = "R1 X1 Y2X";
 
-const APART_BASES: [(u8, u8, u8); 3] = [(b'R', b'X', b'-'), (b'R', b'Y', b'-'), (b'X', b'Y', b'X')];
+static APART_BASES: [(u8, u8, u8); 3] = [
+    (b'R', b'X', b'-'),
+    (b'R', b'Y', b'-'),
+    (b'X', b'Y', b'X'),
+];
 
 // No graph: a parent is missing, or a generation isn't the one due.
-const BROKEN: [&str; 4] = ["X2R", "R2", "R1 X3R", "R1 X2R M2XR"];
+static BROKEN: [&str; 4] = ["X2R", "R2", "R1 X3R", "R1 X2R M2XR"];
 
 fn bases(rt: &impl Abort, commits: &[(CommitId, CommitRecord)], rows: &[(u8, u8, u8)]) {
     assert!(rt; is_graph(commits));
@@ -104,7 +108,7 @@ fn ancestors_and_walks_are_those_of_the_table(rt: HostRuntime) -> Result<(), Fai
 
 #[test]
 fn parents_are_there_and_generations_are_due(rt: HostRuntime) -> Result<(), Fail> {
-    for words in BROKEN {
+    for words in &BROKEN {
         assert!(rt; !is_graph(commits(rt.alloc(), words, &[])?.as_slice()));
     }
     Ok(())

@@ -19,26 +19,26 @@ use std::cmp::Ordering;
 use std::test::Fail;
 
 // The object of 5 bytes at `s3://x`, with no checksum, content type or metadata.
-const ENTRY: [u8; 31] = [
+static ENTRY: [u8; 31] = [
     1, 0, 6, 115, 51, 58, 47, 47, 120, 0, 0, 0, 0, 0, 0, 0, 0, 0, 5, 0, 0, 0, 0, 0, 0, 0, 0, 0, 0,
     0, 0,
 ];
 
 // The range of that object under `a` and `z`.
-const RANGE: [u8; 73] = [
+static RANGE: [u8; 73] = [
     1, 0, 0, 0, 2, 0, 1, 97, 1, 0, 6, 115, 51, 58, 47, 47, 120, 0, 0, 0, 0, 0, 0, 0, 0, 0, 5, 0, 0,
     0, 0, 0, 0, 0, 0, 0, 0, 0, 0, 0, 1, 122, 1, 0, 6, 115, 51, 58, 47, 47, 120, 0, 0, 0, 0, 0, 0,
     0, 0, 0, 5, 0, 0, 0, 0, 0, 0, 0, 0, 0, 0, 0, 0,
 ];
 
 // The metarange of that range: its SHA-256 (by Python's hashlib), two rows, `a` and `z`.
-const METARANGE: [u8; 47] = [
+static METARANGE: [u8; 47] = [
     1, 0, 0, 0, 1, 20, 54, 219, 115, 178, 4, 251, 223, 70, 192, 245, 5, 24, 107, 97, 141, 22, 58,
     223, 252, 255, 35, 30, 1, 162, 33, 89, 78, 220, 251, 140, 98, 0, 0, 0, 2, 0, 1, 97, 0, 1, 122,
 ];
 
 // A merge of generation 4 and the moment 1,700,000,000, by `me`, with the message `hi` and the pair of `k` and `v`.
-const MERGE: [u8; 133] = [
+static MERGE: [u8; 133] = [
     1, 17, 17, 17, 17, 17, 17, 17, 17, 17, 17, 17, 17, 17, 17, 17, 17, 17, 17, 17, 17, 17, 17, 17,
     17, 17, 17, 17, 17, 17, 17, 17, 17, 0, 0, 0, 0, 0, 0, 0, 4, 0, 0, 0, 0, 101, 83, 241, 0, 0, 2,
     2, 2, 2, 2, 2, 2, 2, 2, 2, 2, 2, 2, 2, 2, 2, 2, 2, 2, 2, 2, 2, 2, 2, 2, 2, 2, 2, 2, 2, 2, 2, 2,
@@ -47,14 +47,14 @@ const MERGE: [u8; 133] = [
 ];
 
 // FNV-1a of its authors' test vectors.
-const SUMS: [(&[u8], u64); 3] = [
+static SUMS: [(&[u8], u64); 3] = [
     (b"", 0xcbf29ce484222325),
     (b"a", 0xaf63dc4c8601ec8c),
     (b"foobar", 0x85944171f73967e8),
 ];
 
 // FNV-1a modulo 1,024: 0 for a break key.
-const RESTS: [(&[u8], u64); 5] = [
+static RESTS: [(&[u8], u64); 5] = [
     (b"a", 140),
     (b"b", 421),
     (b"z", 621),
@@ -64,10 +64,12 @@ const RESTS: [(&[u8], u64); 5] = [
 
 #[test]
 fn sums_are_fnv1a(rt: HostRuntime) -> Result<(), Fail> {
-    for (bytes, sum) in SUMS {
+    for row in &SUMS {
+        let (bytes, sum) = *row;
         assert_eq!(rt; fnv1a(bytes), sum);
     }
-    for (path, rest) in RESTS {
+    for row in &RESTS {
+        let (path, rest) = *row;
         assert_eq!(rt; fnv1a(path) % 1024, rest);
         assert_eq!(rt;
             is_break(&Path::read(rt.alloc(), path)?, &USUAL_CUT),
@@ -109,7 +111,7 @@ fn range_lens(alloc: Global, map: &KeyMap, cut: &Cut) -> Result<Vec<usize>, Fail
 }
 
 // Maps, the most bytes of rows, and how many rows their ranges have.
-const CUTS: [(&[u8], u64, &[usize]); 8] = [
+static CUTS: [(&[u8], u64, &[usize]); 8] = [
     (b"", 1048576, &[]),
     (b"az", 1048576, &[2]),
     (b"anz", 1048576, &[2, 1]),
@@ -123,7 +125,8 @@ const CUTS: [(&[u8], u64, &[usize]); 8] = [
 #[test]
 fn ranges_end_after_break_keys_and_have_room_for_their_rows(rt: HostRuntime) -> Result<(), Fail> {
     let alloc = rt.alloc();
-    for (paths, max_bytes, lens) in CUTS {
+    for row in &CUTS {
+        let (paths, max_bytes, lens) = *row;
         let map = map_of(alloc, paths)?;
         let cut = Cut {
             max_bytes,

@@ -1,11 +1,11 @@
 // Patterns, protected branches and hooks.
-use crate::hooks::{denied_by, denies, matches, protected_by};
 use super::*;
+use crate::hooks::{denied_by, denies, matches, protected_by};
 use lake_base::names::RefName;
 use lake_values::settings::{Deny, HookRule, HookRules, Protection};
 
 // A pattern, a name, and whether it matches.
-const PATTERNS: [(&str, &str, bool); 18] = [
+static PATTERNS: [(&str, &str, bool); 18] = [
     ("ma*", "main", true),
     ("ma*", "ma", true),
     ("ma*", "dev", false),
@@ -44,7 +44,11 @@ fn protection(alloc: Global) -> Result<Protection, Fail> {
 }
 
 // A branch, and the place of its pattern.
-const PROTECTED: [(&str, Option<usize>); 3] = [("main", Some(1)), ("dev", Some(0)), ("test", None)];
+static PROTECTED: [(&str, Option<usize>); 3] = [
+    ("main", Some(1)),
+    ("dev", Some(0)),
+    ("test", None),
+];
 
 fn place(alloc: Global, branch: &str) -> Result<Option<usize>, Fail> {
     let protection = protection(alloc)?;
@@ -63,7 +67,7 @@ fn the_first_pattern_counts(rt: HostRuntime) -> Result<(), Fail> {
 type Row = (u8, &'static str, u64, &'static str, &'static str, bool);
 
 // The rule for `ma*`, the branch, the changes, and whether a commit with the metadata `owner` is denied.
-const RULES: [Row; 12] = [
+static RULES: [Row; 12] = [
     (b'k', "owner", 0, "main", "", false),
     (b'k', "key", 0, "main", "", true),
     (b'k', "key", 0, "dev", "", false),
@@ -140,7 +144,7 @@ fn hooks(alloc: Global) -> Result<HookRules, Fail> {
 }
 
 // A branch, whether the commit has an owner, and the place of the rule that denies a commit of one change.
-const DENIED: [(&str, bool, Option<usize>); 3] = [
+static DENIED: [(&str, bool, Option<usize>); 3] = [
     ("main", false, Some(0)),
     ("main", true, Some(1)),
     ("dev", true, None),

@@ -1,6 +1,6 @@
 // Merges of small maps. A map is written with its paths and the sizes of their entries, as `a1 b2`.
-use crate::merge::{base_map, conflicts, merge};
 use super::*;
+use crate::merge::{base_map, conflicts, merge};
 use lake_values::commit::Strategy;
 
 // Base, source, destination, the merged map where the source wins and where the destination does, and the paths
@@ -14,7 +14,7 @@ type Row = (
     &'static str,
 );
 
-const MERGES: [Row; 17] = [
+static MERGES: [Row; 17] = [
     ("", "", "", "", "", ""),
     ("", "", "p1", "p1", "p1", ""),
     ("", "p1", "", "p1", "p1", ""),

@@ -1,7 +1,7 @@
 // Which commits are kept, at their cutoffs.
+use super::*;
 use crate::ancestry::is_graph;
 use crate::retention::{is_kept, kept};
-use super::*;
 use lake_base::names::RefName;
 use lake_values::settings::{BranchDays, Rules};
 use std::process::Abort;
@@ -10,15 +10,15 @@ use std::process::Abort;
 const CHAIN: &str = "Y3X R1 X2R";
 
 // Dates of Y, R and X, so that a branch keeps X by the date of Y, and so that it doesn't by that of X itself.
-const RISING: [u64; 3] = [1100000, 0, 1000000];
+static RISING: [u64; 3] = [1100000, 0, 1000000];
 
-const FALLING: [u64; 3] = [0, 0, 1300000];
+static FALLING: [u64; 3] = [0, 0, 1300000];
 
 // The branch whose head is Y, where there is one; the tagged commits; now; and the kept ones. A branch keeps one
 // day, and `dev` three, and five by a later rule, which doesn't count.
 type Row = (&'static str, &'static str, u64, &'static str);
 
-const KEPT: [Row; 11] = [
+static KEPT: [Row; 11] = [
     ("main", "", 1300000, "Y"),
     ("main", "R", 1300000, "RY"),
     ("main", "ZX", 1300000, "XY"),
@@ -32,7 +32,7 @@ const KEPT: [Row; 11] = [
     ("", "", 86400, "RXY"),
 ];
 
-const KEPT_OF_FALLING: [Row; 2] = [("main", "", 1300000, "RY"), ("", "", 1300000, "X")];
+static KEPT_OF_FALLING: [Row; 2] = [("main", "", 1300000, "RY"), ("", "", 1300000, "X")];
 
 fn days(alloc: Global, branch: &[u8], days: u32) -> Result<BranchDays, Fail> {
     let branch = RefName::read(alloc, branch)?;

@@ -1,10 +1,10 @@
 // Segments of small maps: FNV-1a makes `50` and `nq` break keys of the usual cut, and `a`, `b` and `z` none.
-use crate::segments::{changed_ranges, first_segment};
 use super::*;
+use crate::segments::{changed_ranges, first_segment};
 use lake_format::cut::USUAL_CUT;
 
 // A map, and how many rows its segments have.
-const SEGMENTS: [(&str, &[usize]); 5] = [
+static SEGMENTS: [(&str, &[usize]); 5] = [
     ("", &[]),
     ("a1 z1", &[2]),
     ("nq1", &[1]),
@@ -13,7 +13,7 @@ const SEGMENTS: [(&str, &[usize]); 5] = [
 ];
 
 // Maps before and after, and how many ranges are in changed segments.
-const CHANGED: [(&str, &str, usize); 6] = [
+static CHANGED: [(&str, &str, usize); 6] = [
     ("501 a1 nq1 z1", "501 a1 z1", 1),
     ("501 a1 nq1 z1", "501 a1 nq1 z1", 0),
     ("", "501 a1 nq1 z1", 3),

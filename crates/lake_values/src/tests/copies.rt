@@ -25,7 +25,7 @@ fn entries_are_copied(rt: HostRuntime) -> Result<(), Fail> {
 // A map of one entry, and its entry.
 fn one(alloc: Global) -> Result<KeyMap, Fail> {
     let mut changes = Changes::new(alloc);
-    changes.set(Path::read(alloc, b"a")?, Change::Put(entry(alloc, 5)?))?;
+    changes.set(path(alloc, b"a")?, Change::Put(entry(alloc, 5)?))?;
     Ok(KeyMap::new(alloc).apply(alloc, &changes.copy(alloc)?)?)
 }
 
@@ -39,42 +39,46 @@ fn maps_are_copied(rt: HostRuntime) -> Result<(), Fail> {
 fn resets_are_copied(rt: HostRuntime) -> Result<(), Fail> {
     let alloc = rt.alloc();
     assert!(rt; has_copy(alloc, ResetWhat::All));
-    assert!(rt; has_copy(alloc, ResetWhat::Object(Path::read(alloc, b"a")?)));
+    assert!(rt; has_copy(alloc, ResetWhat::Object(path(alloc, b"a")?)));
     assert!(rt; has_copy(alloc, ResetWhat::Prefix(text(alloc, b"p/")?)));
     Ok(())
 }
 
-fn about(alloc: Global) -> Result<About, Fail> {
+fn about(alloc: Global, committer: &[u8], message: &[u8]) -> Result<About, NameFault> {
+    let committer = Text::read(alloc, committer, 128)?;
+    let message = Text::read(alloc, message, 65536)?;
     Ok(About {
-        committer: Text::read(alloc, b"me", 128)?,
-        message: Text::read(alloc, b"hi", 65536)?,
+        committer,
+        message,
         metadata: Pairs::new(alloc),
         date: 5,
     })
 }
 
-fn commit(alloc: Global) -> Result<CommitRecord, Fail> {
+fn commit(alloc: Global, about: About) -> Result<CommitRecord, Fail> {
+    let parents = Vec::from_slice(alloc, &[Digest([2; 32])])?;
     Ok(CommitRecord {
         meta_range: Digest([1; 32]),
         generation: 2,
-        date: 5,
-        parents: Sequence::of(Vec::from_slice(alloc, &[Digest([2; 32])])?),
-        committer: Text::read(alloc, b"me", 128)?,
-        message: Text::read(alloc, b"hi", 65536)?,
-        metadata: Pairs::new(alloc),
+        date: about.date,
+        parents: Sequence::of(parents),
+        committer: about.committer,
+        message: about.message,
+        metadata: about.metadata,
     })
 }
 
 #[test]
 fn commits_are_copied(rt: HostRuntime) -> Result<(), Fail> {
-    assert!(rt; has_copy(rt.alloc(), about(rt.alloc())?));
-    assert!(rt; has_copy(rt.alloc(), commit(rt.alloc())?));
+    let alloc = rt.alloc();
+    assert!(rt; has_copy(alloc, about(alloc, b"me", b"hi")?));
+    assert!(rt; has_copy(alloc, commit(alloc, about(alloc, b"me", b"hi")?)?));
     Ok(())
 }
 
-fn retention(alloc: Global) -> Result<Note, Fail> {
+fn retention(alloc: Global, branch: &[u8]) -> Result<Note, Fail> {
     let mut branches = Vec::new(alloc);
-    let branch = RefName::read(alloc, b"dev")?;
+    let branch = RefName::read(alloc, branch)?;
     branches.push(BranchDays { branch, days: 7 })?;
     Ok(Note::Retention(Rules {
         default_days: 30,
@@ -82,18 +86,19 @@ fn retention(alloc: Global) -> Result<Note, Fail> {
     }))
 }
 
-fn protection(alloc: Global) -> Result<Note, Fail> {
+fn protection(alloc: Global, pattern: &[u8]) -> Result<Note, Fail> {
     let mut patterns = Vec::new(alloc);
-    patterns.push(Text::read(alloc, b"ma*", 255)?)?;
+    patterns.push(Text::read(alloc, pattern, 255)?)?;
     Ok(Note::Protection(Protection {
         patterns: Sequence::of(patterns),
     }))
 }
 
-fn hooks(alloc: Global) -> Result<Note, Fail> {
+fn hooks(alloc: Global, branch: &[u8]) -> Result<Note, Fail> {
     let mut rules = Vec::new(alloc);
+    let branch = Text::read(alloc, branch, 255)?;
     rules.push(HookRule {
-        branch: Text::read(alloc, b"*", 255)?,
+        branch,
         deny: Deny::MaxSize(9),
     })?;
     Ok(Note::Hooks(HookRules {
@@ -103,9 +108,9 @@ fn hooks(alloc: Global) -> Result<Note, Fail> {
 
 #[test]
 fn settings_are_copied(rt: HostRuntime) -> Result<(), Fail> {
-    assert!(rt; has_copy(rt.alloc(), retention(rt.alloc())?));
-    assert!(rt; has_copy(rt.alloc(), protection(rt.alloc())?));
-    assert!(rt; has_copy(rt.alloc(), hooks(rt.alloc())?));
+    assert!(rt; has_copy(rt.alloc(), retention(rt.alloc(), b"dev")?));
+    assert!(rt; has_copy(rt.alloc(), protection(rt.alloc(), b"ma*")?));
+    assert!(rt; has_copy(rt.alloc(), hooks(rt.alloc(), b"*")?));
     Ok(())
 }
 

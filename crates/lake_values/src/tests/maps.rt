@@ -6,7 +6,8 @@ type Row = (&'static str, u64);
 fn map_of(alloc: Global, rows: &[Row]) -> Result<KeyMap, Fail> {
     let mut entries = Vec::new(alloc);
     for (path, size) in rows {
-        entries.push((Path::read(alloc, path.as_bytes())?, entry(alloc, *size)?))?;
+        let path = Path::read(alloc, path.as_bytes())?;
+        entries.push((path, entry(alloc, *size)?))?;
     }
     if has_ascending_keys(entries.as_slice()) {
         Ok(KeyMap::from_vec(entries))
@@ -74,7 +75,7 @@ fn changes_are_set_in_any_order(rt: HostRuntime) -> Result<(), Fail> {
     let alloc = rt.alloc();
     let changes = changes_of(alloc, &[("b", 3), ("aa", 0), ("a", 9), ("a", 1)])?;
     assert!(rt; are_changes(&changes, &[("a", 1), ("aa", 0), ("b", 3)]));
-    assert!(rt; changes.get(&Path::read(alloc, b"ab")?).is_none());
+    assert!(rt; changes.get(&path(alloc, b"ab")?).is_none());
     Ok(())
 }
 
@@ -143,7 +144,7 @@ fn left(alloc: Global, what: &ResetWhat, rows: &[Row]) -> Result<bool, Fail> {
 fn resets_drop_changes(rt: HostRuntime) -> Result<(), Fail> {
     let alloc = rt.alloc();
     assert!(rt; left(alloc, &ResetWhat::All, &[])?);
-    let one = ResetWhat::Object(Path::read(alloc, b"a")?);
+    let one = ResetWhat::Object(path(alloc, b"a")?);
     assert!(rt; left(alloc, &one, &[("ab", 0), ("b/a", 1)])?);
     for (prefix, rows) in [
         (b"".as_slice(), [].as_slice()),
@@ -164,10 +165,7 @@ fn keys_of_lists_ascend(rt: HostRuntime) -> Result<(), Fail> {
         (b"b", b"aa", false),
         (b"a", b"a", false),
     ] {
-        let rows = [
-            (Path::read(alloc, first)?, 1),
-            (Path::read(alloc, second)?, 2),
-        ];
+        let rows = [(path(alloc, first)?, 1), (path(alloc, second)?, 2)];
         assert_eq!(rt; has_ascending_keys(rows.as_slice()), ascend);
     }
     Ok(())

@@ -22,8 +22,8 @@ fn through_a_tree(alloc: Global, changes: Changes) -> Result<Option<Changes>, No
 fn changes_go_through_a_tree(rt: HostRuntime) -> Result<(), Fail> {
     let alloc = rt.alloc();
     let mut changes = Changes::new(alloc);
-    changes.set(Path::read(alloc, b"b")?, Change::Delete)?;
-    changes.set(Path::read(alloc, b"aa")?, Change::Delete)?;
+    changes.set(path(alloc, b"b")?, Change::Delete)?;
+    changes.set(path(alloc, b"aa")?, Change::Delete)?;
     let Some(changes) = through_a_tree(alloc, changes)? else {
         return Ok(assert!(rt; false));
     };
