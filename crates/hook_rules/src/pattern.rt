@@ -113,7 +113,7 @@ impl<'a> Walk<'a> {
 /// Whether a pattern matches a name: a star stands for any bytes, none included, and every other byte for
 /// itself. It takes no memory, and at most as many steps as the bytes of the pattern times one more than those of
 /// the name. A star is passed once, and only the bytes behind the last one are gone over again: a pattern of 255
-/// bytes, 128 of them stars, takes fewer than 65,025 steps on a name of 255.
+/// bytes, 128 of them stars, takes at most 65,280 steps on a name of 255.
 pub fn matches<'a>(pattern: &'a [u8], name: &'a [u8]) -> bool
     ensures { result ≡ matches pattern.now name.now }
 {

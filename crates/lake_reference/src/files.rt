@@ -33,7 +33,7 @@ use std::alloc::Global;
 
 /// The spelling of a range of these rows. There is at least one row, and fewer than 2^32, and their paths
 /// strictly ascend.
-#[tactic(auto, unfolding(lake_base::specs::Spelling::range_spelling))]
+#[tactic(auto, unfolding(lake_format::specs::Spelling::range_spelling))]
 pub fn range_bytes(alloc: Global, rows: &[(Path, Entry)]) -> Result<Vec<u8>, NoMemory>
     requires some { 0 < length rows.now }
     requires few { length rows.now < 2 ^ 32 }
@@ -69,7 +69,7 @@ fn put_rows(out: &mut Vec<u8>, rows: &[(Path, Entry)]) -> Result<(), NoMemory>
 
 /// The spelling of a metarange that says this of its ranges. There are fewer than 2^32, each with a row and a
 /// first path that is at most its last and above the last path of the range before.
-#[tactic(auto, unfolding(lake_base::specs::Spelling::metarange_spelling))]
+#[tactic(auto, unfolding(lake_format::specs::Spelling::metarange_spelling))]
 pub fn metarange_bytes(alloc: Global, lines: &[RangeLine]) -> Result<Vec<u8>, NoMemory>
     requires few { length lines.now < 2 ^ 32 }
     requires order { AreInOrder lines.now }

@@ -1,8 +1,8 @@
 //! The reference: merges, commit graphs, retention, the files of trees, and rules, plainly and slowly.
 //!
-//! Each function's contract is a definition of `lake_base`, and its body looks at all that there is, in the order
+//! Each function's contract is a definition of `lake_values` or `lake_format`, and its body looks at all that there is, in the order
 //! of the definition. Tests run it on worked values, which shows that the definitions say what was meant; a reader
-//! holds a faster function of the crates above against it. No program stands on this crate.
+//! holds a faster function of the crates above against it. No program runs them; their laws may be cited.
 //!
 //! - `ancestry`: ancestors, the merge base and the walk of first parents, over a list of commits. Laws say what the
 //!   functions of the definition mean in a graph, and that generations fall along every way back.

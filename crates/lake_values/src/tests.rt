@@ -1,5 +1,6 @@
 //! Tables of the values: what no clause says, and each call once with ample memory.
 mod copies;
+mod limits;
 mod maps;
 mod order;
 mod pairs;

@@ -1,6 +1,6 @@
 //! What the settings of a repository are as JSON: lists of rules, each an object with named fields.
 //!
-//! - `fault`: why a value isn't a setting, with the first rule and in it the first field that is to blame.
+//! - `fault`: why a value isn't a setting, with a rule and in it a field that is to blame.
 //! - `object`: an object with a rule's number, and the readers of its fields.
 //! - `list`: lists of rules.
 //!

@@ -4,8 +4,8 @@
 //! - `turn`: the lock, `Turn`. Its calls are made with a seat.
 //! - `seat`: what the holder of a `Seat` carries, and what contracts see of it.
 //! - `laws`: what holds of every step, as functions that do nothing.
-//! - `steps`: the eight kinds of atomic step, over the crate `atomic_table`.
-//! - `rule`: the rule that every step keeps, and what each step tells. It runs no code.
+//! - `steps`: the calls on the crate `atomic_table`.
+//! - `rule`: the eight kinds of atomic step, the rule that each keeps, and what it tells. It runs no code.
 //! - `threads`: turns and seats may go from thread to thread.
 //!
 //! The promise to the layer above: all seats of a turn have one origin. What a seat has seen begins

@@ -5,7 +5,6 @@ use crate::range_line::{RangeLine, put_range_line};
 use lake_base::copying::TryCopy;
 use lake_base::digest::Digest;
 use lake_base::names::Path;
-use lake_base::text::Text;
 use lake_values::entry::{Entry, Place};
 use lake_values::pairs::Pairs;
 use std::alloc::Global;
@@ -172,43 +171,6 @@ fn an_own_address_has_16_lower_case_hex_digits(rt: HostRuntime) -> Result<(), Fa
     ] {
         assert_eq!(rt; own_address(rt.alloc(), number)?.as_str(), address);
     }
-    Ok(())
-}
-
-// Whether there is an entry of this address, this checksum and this content type.
-fn can_hold(alloc: Global, at: &[u8], checksum: &[u8], content_type: &[u8]) -> Result<bool, Fail> {
-    let place = Place::External {
-        at: Text::read(alloc, at, 3000)?,
-        checksum: Text::read(alloc, checksum, 3000)?,
-    };
-    let content_type = Text::read(alloc, content_type, 3000)?;
-    Ok(entry_of(alloc, place, content_type).is_some())
-}
-
-// The entry of this place and this content type, where it can hold them.
-fn entry_of(alloc: Global, place: Place, content_type: Text) -> Option<Entry> {
-    if !Entry::can_hold(&place, &content_type) {
-        return None;
-    }
-    Some(Entry {
-        place,
-        size: 0,
-        mtime: 0,
-        content_type,
-        metadata: Pairs::new(alloc),
-    })
-}
-
-#[test]
-fn an_entry_holds_what_is_within_its_limits(rt: HostRuntime) -> Result<(), Fail> {
-    let alloc = rt.alloc();
-    assert!(rt; can_hold(alloc, b"a", b"", b"")?);
-    assert!(rt; can_hold(alloc, &[b'a'; 2048], &[b'a'; 128], &[b'a'; 255])?);
-    assert!(rt; !can_hold(alloc, b"", b"", b"")?);
-    assert!(rt; !can_hold(alloc, &[b'a'; 2049], b"", b"")?);
-    assert!(rt; !can_hold(alloc, b"lake://x", b"", b"")?);
-    assert!(rt; !can_hold(alloc, b"a", &[b'a'; 129], b"")?);
-    assert!(rt; !can_hold(alloc, b"a", b"", &[b'a'; 256])?);
     Ok(())
 }
 

@@ -46,39 +46,6 @@ static MERGE: [u8; 133] = [
     0, 2, 109, 101, 0, 0, 0, 2, 104, 105, 0, 1, 0, 1, 107, 0, 1, 118,
 ];
 
-// FNV-1a of its authors' test vectors.
-static SUMS: [(&[u8], u64); 3] = [
-    (b"", 0xcbf29ce484222325),
-    (b"a", 0xaf63dc4c8601ec8c),
-    (b"foobar", 0x85944171f73967e8),
-];
-
-// FNV-1a modulo 1,024: 0 for a break key.
-static RESTS: [(&[u8], u64); 5] = [
-    (b"a", 140),
-    (b"b", 421),
-    (b"z", 621),
-    (b"50", 0),
-    (b"nq", 0),
-];
-
-#[test]
-fn sums_are_fnv1a(rt: HostRuntime) -> Result<(), Fail> {
-    for row in &SUMS {
-        let (bytes, sum) = *row;
-        assert_eq!(rt; fnv1a(bytes), sum);
-    }
-    for row in &RESTS {
-        let (path, rest) = *row;
-        assert_eq!(rt; fnv1a(path) % 1024, rest);
-        assert_eq!(rt;
-            is_break(&Path::read(rt.alloc(), path)?, &USUAL_CUT),
-            rest == 0
-        );
-    }
-    Ok(())
-}
-
 // A map with the object of 5 bytes at each path, of one byte or, for `5` and `n`, `50` and `nq`.
 fn map_of(alloc: Global, paths: &[u8]) -> Result<KeyMap, Fail> {
     let mut changes = Changes::new(alloc);
