@@ -1,10 +1,11 @@
 -- Steps of a match: what is left to do after each, and how little.
-use Rattle.std.proofs.Common.{Option, Some, Bor, MatchOption, ◌≡◌, ℕ, suc, ◌+◌, ◌*◌, ◌<◌, ◌≤◌, Bool, true, false, cond, List, [], ◌∷◌, length, ◌||◌, ◌&&◌, refl, sym, ap, ◌∙◌, arith, mul-le-mul_right}
+use Rattle.std.proofs.Common.{Option, Some, None, IfSome, Bor, MatchOption, ◌≡◌, ℕ, suc, ◌+◌, ◌*◌, ◌<◌, ◌≤◌, Bool, true, false, cond, List, [], ◌∷◌, length, ◌||◌, ◌&&◌, refl, sym, ap, ◌∙◌, arith, mul-le-mul_right}
 use Rattle.std.specs.Bool.{◌==◌}
 use Rattle.std.specs.List.{list_all}
 use Rattle.std.proofs.lemmas.Bool.Decides.{Decides-eqb}
 use Rattle.lake_values.specs.HookDecisions.{begins_with_byte, matches}
-use Rattle.hook_rules.specs.Matching.{matches_later, matches_after_one, matches_again, outcome, star_bytes, IsWalk, Leads}
+use Rattle.hook_rules.specs.Matching.{matches_later, matches_after_one, matches_again, outcome, plain_bytes, star_bytes, HasPassed, IsWalk, Leads}
+use Rattle.hook_rules.specs.declared.pattern.Star.{Star}
 use Rattle.hook_rules.specs.declared.pattern.Walk.{Walk}
 
 -- ---- tests
@@ -105,20 +106,35 @@ unfolding matches
 none_other c [] name left e is = ap (matches []) is
 none_other c (byte ∷ pattern) name left e is = absurd (omega arith)
 
+-- a star is no plain byte
+plain_star : (byte : ℕ) (rest : List ℕ) → byte ≡ 42 → plain_bytes (byte ∷ rest) ≡ plain_bytes rest
+plain_star byte rest e = ap (λ b. cond b (plain_bytes rest) (plain_bytes rest + 1)) ((Decides-eqb byte 42).1 e)
+
+-- another byte is one
+plain_byte : (byte : ℕ) (rest : List ℕ) → (byte ≡ 42 → ⊥) → plain_bytes (byte ∷ rest) ≡ plain_bytes rest + 1
+plain_byte byte rest ne = ap (λ b. cond b (plain_bytes rest) (plain_bytes rest + 1)) (differ byte 42 ne)
+
+-- a plain byte more is passed
+passed : (most : ℕ) (left rest : List ℕ) (star : Option Star) → length left ≡ suc (length rest) → plain_bytes left ≡ plain_bytes rest + 1
+    → IfSome star (HasPassed most left) → IfSome star (HasPassed most rest)
+passed most left rest None longer plain was = was
+passed most left rest (Some star) longer plain was = record { plain = omega (arith, longer, plain, was.plain); few = was.few }
+
 module _ (most longest : ℕ) (walk : Walk) (going : IsWalk most longest walk) where
   -- a step over a star
   pub over_star : (byte : ℕ) (rest : Bor (List ℕ)) → walk.pattern.now ≡ byte ∷ rest.now → byte ≡ 42
       → Leads most longest walk (outcome walk) (record { pattern = rest; name = walk.name; star = Some (record { pattern = rest; name = walk.name }) })
   over_star byte rest begins star =
       let longer : length walk.pattern.now ≡ suc (length rest.now) = ap length begins in
-      let short : length rest.now < most = omega (arith, longer, going.pattern) in
+      let plain : plain_bytes walk.pattern.now ≡ plain_bytes rest.now = ap plain_bytes begins ∙ plain_star byte rest.now star in
+      let short : plain_bytes rest.now < most = omega (arith, plain, going.pattern) in
       record {
         same = star_same byte walk.pattern.now rest.now walk.name.now (matches_again walk.star) star begins going.later;
         going = record {
           later = after_one_later rest.now walk.name.now;
           name = omega arith;
-          pattern = omega arith;
-          star = short;
+          pattern = short;
+          star = record { plain = refl; few = short };
         };
         fewer = rw longer (fewer_steps (length walk.name.now) (star_bytes longest walk.star) most (length rest.now) going.name);
       }
@@ -129,13 +145,14 @@ module _ (most longest : ℕ) (walk : Walk) (going : IsWalk most longest walk) w
   over_byte byte c rest left begins is ne same =
       let longer : length walk.pattern.now ≡ suc (length rest.now) = ap length begins in
       let named : length walk.name.now ≡ suc (length left.now) = ap length is in
+      let plain : plain_bytes walk.pattern.now ≡ plain_bytes rest.now + 1 = ap plain_bytes begins ∙ plain_byte byte rest.now ne in
       record {
         same = ap (λ b. b || matches_again walk.star) (byte_same byte c walk.pattern.now rest.now walk.name.now left.now ne same begins is);
         going = record {
           later = λ t. later_byte byte c rest.now left.now ne (sym (ap (λ p. matches_later p walk.name.now) begins ∙ ap (matches_later (byte ∷ rest.now)) is) ∙ going.later t);
           name = omega (arith, named, going.name);
-          pattern = omega (arith, longer, going.pattern);
-          star = going.star;
+          pattern = omega (arith, plain, going.pattern);
+          star = passed most walk.pattern.now rest.now walk.star longer plain going.star;
         };
         fewer = rw longer (fewer_steps (star_bytes longest walk.star) (star_bytes longest walk.star) most (length rest.now) (omega arith));
       }
@@ -174,4 +191,4 @@ at_end most longest walk going none = ended walk.pattern.now walk.name.now (matc
 -- a walk over this pattern and this name, whose outcome is theirs
 pub record IsUnderWay (pattern name : List ℕ) (walk : Walk) : Type 0 where
   pub same : outcome walk ≡ matches pattern name
-  pub going : IsWalk (length pattern) (length name) walk
+  pub going : IsWalk (plain_bytes pattern + 1) (length name) walk

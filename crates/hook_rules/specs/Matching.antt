@@ -1,5 +1,5 @@
 -- What is left to do of the match of a pattern and a name.
-use Rattle.std.specs.Prelude.{◌≡◌, ◌+◌, ◌*◌, ◌≤◌, ◌<◌, ◌||◌, ℕ, Bool, true, false, List, [], ◌∷◌, length, Option, Some, None, IfSome}
+use Rattle.std.specs.Prelude.{◌≡◌, ◌+◌, ◌*◌, ◌≤◌, ◌<◌, ◌||◌, ◌==◌, if◌then◌else◌, ℕ, Bool, true, false, List, [], ◌∷◌, length, Option, Some, None, IfSome}
 use Rattle.std.specs.List.{list_any}
 use Rattle.lake_values.specs.HookDecisions.{matches, suffixes}
 use Rattle.hook_rules.specs.declared.pattern.Star.{Star}
@@ -28,16 +28,27 @@ abbrev pub star_bytes : ℕ → Option Star → ℕ
 star_bytes longest None = longest
 star_bytes longest (Some star) = length star.name.now
 
--- the most steps that are left, of a pattern and a name of these lengths
+-- how many bytes of a pattern are no star
+abbrev pub plain_bytes : List ℕ → ℕ
+plain_bytes [] = 0
+plain_bytes (byte ∷ pattern) = if byte == 42 then plain_bytes pattern else plain_bytes pattern + 1
+
+-- the most steps that are left: for each byte that the last star may stand for fewer than `most`, and the pattern
 abbrev pub steps_left : ℕ → ℕ → Walk → ℕ
 steps_left most longest walk = star_bytes longest walk.star * most + length walk.pattern.now
 
--- a walk over a pattern and a name of these lengths: if the last star can stand for more, what is left of the pattern matches later too
+-- behind a star, what was passed of its pattern before what is left are plain bytes
+pub record HasPassed (most : ℕ) (left : List ℕ) (star : Star) : Type 0 where
+  pub plain : length star.pattern.now + plain_bytes left ≡ length left + plain_bytes star.pattern.now
+  pub few : plain_bytes star.pattern.now < most
+
+-- a walk over a pattern with fewer plain bytes than `most` and a name of this length: if the last star can stand for more, what
+-- is left of the pattern matches later too; behind the last star plain bytes alone were passed
 pub record IsWalk (most longest : ℕ) (walk : Walk) : Type 0 where
   pub later : matches_again walk.star ≡ true → matches_later walk.pattern.now walk.name.now ≡ true
   pub name : length walk.name.now ≤ star_bytes longest walk.star
-  pub pattern : length walk.pattern.now ≤ most
-  pub star : IfSome walk.star (λ star. length star.pattern.now < most)
+  pub pattern : plain_bytes walk.pattern.now < most
+  pub star : IfSome walk.star (HasPassed most walk.pattern.now)
 
 -- a step leads on: the outcome stays, and fewer steps are left
 pub record Leads (most longest : ℕ) (walk : Walk) (due : Bool) (next : Walk) : Type 0 where

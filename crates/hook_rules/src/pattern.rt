@@ -111,9 +111,9 @@ impl<'a> Walk<'a> {
 }
 
 /// Whether a pattern matches a name: a star stands for any bytes, none included, and every other byte for
-/// itself. It takes no memory, and at most as many steps as the bytes of the pattern times one more than those of
-/// the name. A star is passed once, and only the bytes behind the last one are gone over again: a pattern of 255
-/// bytes, 128 of them stars, takes at most 65,280 steps on a name of 255.
+/// itself. It takes no memory. A star is passed once, and only the bytes behind the last one are gone over again: for
+/// a pattern of p bytes, q of them no star, and a name of n bytes that is at most n (q + 1) + p steps. A pattern of
+/// 255 bytes, 128 of them stars, takes at most 32,895 steps on a name of 255.
 pub fn matches<'a>(pattern: &'a [u8], name: &'a [u8]) -> bool
     ensures { result ≡ matches pattern.now name.now }
 {
