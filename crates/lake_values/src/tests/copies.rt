@@ -44,9 +44,9 @@ fn resets_are_copied(rt: HostRuntime) -> Result<(), Fail> {
     Ok(())
 }
 
-fn about(alloc: Global, committer: &[u8], message: &[u8]) -> Result<About, NameFault> {
-    let committer = Text::read(alloc, committer, 128)?;
-    let message = Text::read(alloc, message, 65536)?;
+fn about(alloc: Global) -> Result<About, NameFault> {
+    let committer = Text::read(alloc, b"me", 128)?;
+    let message = Text::read(alloc, b"hi", 65536)?;
     Ok(About {
         committer,
         message,
@@ -71,8 +71,8 @@ fn commit(alloc: Global, about: About) -> Result<CommitRecord, Fail> {
 #[test]
 fn commits_are_copied(rt: HostRuntime) -> Result<(), Fail> {
     let alloc = rt.alloc();
-    assert!(rt; has_copy(alloc, about(alloc, b"me", b"hi")?));
-    assert!(rt; has_copy(alloc, commit(alloc, about(alloc, b"me", b"hi")?)?));
+    assert!(rt; has_copy(alloc, about(alloc)?));
+    assert!(rt; has_copy(alloc, commit(alloc, about(alloc)?)?));
     Ok(())
 }
 
@@ -86,17 +86,18 @@ fn retention(alloc: Global, branch: &[u8]) -> Result<Note, Fail> {
     }))
 }
 
-fn protection(alloc: Global, pattern: &[u8]) -> Result<Note, Fail> {
+fn protection(alloc: Global) -> Result<Note, Fail> {
     let mut patterns = Vec::new(alloc);
-    patterns.push(Text::read(alloc, pattern, 255)?)?;
+    let pattern = Text::read(alloc, b"ma*", 255)?;
+    patterns.push(pattern)?;
     Ok(Note::Protection(Protection {
         patterns: Sequence::of(patterns),
     }))
 }
 
-fn hooks(alloc: Global, branch: &[u8]) -> Result<Note, Fail> {
+fn hooks(alloc: Global) -> Result<Note, Fail> {
     let mut rules = Vec::new(alloc);
-    let branch = Text::read(alloc, branch, 255)?;
+    let branch = Text::read(alloc, b"*", 255)?;
     rules.push(HookRule {
         branch,
         deny: Deny::MaxSize(9),
@@ -109,8 +110,8 @@ fn hooks(alloc: Global, branch: &[u8]) -> Result<Note, Fail> {
 #[test]
 fn settings_are_copied(rt: HostRuntime) -> Result<(), Fail> {
     assert!(rt; has_copy(rt.alloc(), retention(rt.alloc(), b"dev")?));
-    assert!(rt; has_copy(rt.alloc(), protection(rt.alloc(), b"ma*")?));
-    assert!(rt; has_copy(rt.alloc(), hooks(rt.alloc(), b"*")?));
+    assert!(rt; has_copy(rt.alloc(), protection(rt.alloc())?));
+    assert!(rt; has_copy(rt.alloc(), hooks(rt.alloc())?));
     Ok(())
 }
 
