@@ -1,10 +1,10 @@
 -- Reading the rows of a range from bytes, from the left, with the first fault that is met.
-use Rattle.std.specs.Prelude.{◌≡◌, ◌-◌, ◌==◌, ℕ, zero, suc, List, [], ◌∷◌, ◌++◌, length, Option, option_map, slice_get, Result, Ok, Err, if◌then◌else◌}
+use Rattle.std.specs.Prelude.{◌≡◌, ◌==◌, ℕ, zero, suc, List, [], ◌∷◌, ◌++◌, length, Result, Ok, Err, if◌then◌else◌}
 use Rattle.std.specs.Int.{w32}
 use Rattle.lake_format.specs.Reading.{read_number, read_path, read_entry, is_next}
 use Rattle.lake_format.specs.declared.fields.FieldFault.{FieldFault}
 use Rattle.lake_format.specs.declared.fields.FieldFault.TheVariants.{Short, Bad, NoMemory as FieldNoMemory}
-use Rattle.range_file.specs.Rows.{RowValue}
+use Rattle.range_file.specs.Rows.{RowValue, last_path}
 use Rattle.range_file.specs.declared.fault.RangeFault.{RangeFault}
 use Rattle.range_file.specs.declared.fault.RangeFault.TheVariants.{Version, Truncated, Empty, BadRow, Order, Trailing, NoMemory}
 
@@ -34,10 +34,6 @@ fault_of n bad FieldNoMemory = NoMemory
 abbrev pub field : {X : Type 0} → ℕ → RangeFault → Result X FieldFault → Result X RangeFault
 field n bad (Ok x) = Ok x
 field n bad (Err fault) = Err (fault_of n bad fault)
-
--- the path of the last of these rows
-abbrev pub last_path : List RowValue → Option (List ℕ)
-last_path rows = option_map (λ row. row.0) (slice_get rows (length rows - 1))
 
 -- row i, behind the i rows before it: its path, which is above the path before
 unfoldable pub read_next_path : ℕ → List RowValue → List ℕ → Result (List ℕ × List ℕ) RangeFault

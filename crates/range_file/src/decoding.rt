@@ -1,17 +1,15 @@
 //! The rows of a range's file.
 ghost use Rattle.std.specs.Prelude.{◌≡◌, List, [], length, Ok, IfOk};
 ghost use Rattle.lake_format.specs.Spelling.{range_spelling, IsRange};
-ghost use Rattle.lake_format.specs.Reading.{is_next};
 ghost use Rattle.range_file.specs.Rows.{RowValue};
-ghost use Rattle.range_file.specs.Reading.{ReadsAs, last_path, read_next_path, read_row, read_rows, read_count, range_from};
+ghost use Rattle.range_file.specs.Reading.{ReadsAs, read_next_path, read_row, read_rows, read_count, range_from};
 
 use crate::fault::{RangeFault, fault_of};
-use crate::rows::{Range, Row};
+use crate::rows::{Range, Row, is_above};
 use lake_base::names::Path;
 use lake_format::encoding::read_entry;
 use lake_format::fields::{read_path, read_u32};
 use std::alloc::Global;
-use std::cmp::Ordering;
 
 /// The rows of which these bytes are the spelling. They are read from the left, and the first fault that is met is
 /// answered: Version where the first byte isn't 1, Truncated where the input ends inside a field, Empty where the
@@ -116,14 +114,4 @@ fn read_next_path<'a>(
         return Err(RangeFault::Order(before.len()));
     }
     Ok((path, rest))
-}
-
-// Whether the path is above that of the last of the rows.
-fn is_above(rows: &[Row], path: &Path) -> bool
-    ensures { result ≡ is_next (last_path rows.now) path.now }
-{
-    match rows.last() {
-        None => true,
-        Some(last) => last.path.cmp(path) == Ordering::Less,
-    }
 }

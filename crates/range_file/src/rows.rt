@@ -1,10 +1,12 @@
 //! Rows, and the rows of a range.
 ghost use Rattle.std.specs.Prelude.{◌≡◌, ◌↔◌, IsTrue};
 ghost use Rattle.lake_base.specs.Maps.{HasAscendingKeys};
-ghost use Rattle.range_file.specs.Rows.{AreRows};
+ghost use Rattle.lake_format.specs.Reading.{is_next};
+ghost use Rattle.range_file.specs.Rows.{AreRows, last_path};
 
 use lake_base::names::Path;
 use lake_values::entry::Entry;
+use std::cmp::Ordering;
 use std::marker::Model;
 
 /// A path, and the entry at it. Contracts see the pair.
@@ -78,10 +80,20 @@ pub fn are_rows(rows: &[Row]) -> bool
 fn have_ascending_paths(rows: &[Row]) -> bool
     ensures { IsTrue result ↔ HasAscendingKeys rows.now }
 {
-    for at in 1..rows.len() {
-        if !rows[at - 1].path.cmp(&rows[at].path).is_lt() {
+    for (at, row) in rows.iter().enumerate() {
+        if !is_above(&rows[..at], &row.path) {
             return false;
         }
     }
     true
+}
+
+// Whether the path is above that of the last of the rows.
+pub(crate) fn is_above(rows: &[Row], path: &Path) -> bool
+    ensures { result ≡ is_next (last_path rows.now) path.now }
+{
+    match rows.last() {
+        None => true,
+        Some(last) => last.path.cmp(path) == Ordering::Less,
+    }
 }
