@@ -24,6 +24,10 @@ abbrev pub ReadsAs : {X Y : Type 0} → (X → Y) → Result X RangeFault → Re
 ReadsAs view (Ok x) read = read ≡ Ok (view x)
 ReadsAs view (Err fault) read = Fails fault read
 
+-- What was answered is what reading gives, unless memory ran out.
+abbrev pub Answers : {Y : Type 0} → Result Y RangeFault → Result Y RangeFault → Type 0
+Answers result read = ReadsAs (λ y. y) result read
+
 -- what a field's fault is to an input of n bytes, where `bad` tells that the field is outside its limits
 abbrev pub fault_of : ℕ → RangeFault → FieldFault → RangeFault
 fault_of n bad (Short left) = Truncated n

@@ -2,7 +2,7 @@
 ghost use Rattle.std.specs.Prelude.{◌≡◌, List, [], length, Ok, IfOk};
 ghost use Rattle.lake_format.specs.Spelling.{range_spelling, IsRange};
 ghost use Rattle.range_file.specs.Rows.{RowValue};
-ghost use Rattle.range_file.specs.Reading.{ReadsAs, read_next_path, read_row, read_rows, read_count, range_from};
+ghost use Rattle.range_file.specs.Reading.{Answers, ReadsAs, read_next_path, read_row, read_rows, read_count, range_from};
 
 use crate::fault::{RangeFault, fault_of};
 use crate::rows::{Range, Row, is_above};
@@ -20,9 +20,9 @@ pub fn decode(alloc: Global, bytes: &[u8]) -> Result<Range, RangeFault>
     ensures found { IfOk result (λ rows. IsRange rows × (bytes.now ≡ range_spelling rows)) }
     // What is spelled so is read, unless memory runs out.
     ensures only { (rows : List RowValue) → IsRange rows → bytes.now ≡ range_spelling rows
-        → ReadsAs (λ range. range) result (Ok rows) }
+        → Answers result (Ok rows) }
     // Which fault it is.
-    ensures exact { ReadsAs (λ range. range) result (range_from bytes.now) }
+    ensures exact { Answers result (range_from bytes.now) }
 {
     let range = read_range(alloc, bytes)?;
     Ok(range)
@@ -31,7 +31,7 @@ pub fn decode(alloc: Global, bytes: &[u8]) -> Result<Range, RangeFault>
 // The rows, and nothing behind them.
 #[tactic(auto, unfolding(crate::specs::Reading::range_from))]
 fn read_range(alloc: Global, bytes: &[u8]) -> Result<Range, RangeFault>
-    ensures { ReadsAs (λ range. range) result (range_from bytes.now) }
+    ensures { Answers result (range_from bytes.now) }
 {
     let (count, rest) = read_count(bytes)?;
     let (rows, rest) = read_rows(alloc, rest, count, bytes.len())?;

@@ -3,6 +3,7 @@
 //! - `rows`: rows, and the rows of a range.
 //! - `encoding`: the file of a range.
 //! - `decoding`, `fault`: its rows, or the first fault from the left.
+//! - `threads`: ranges may go from thread to thread.
 //!
 //! The promise to the layer above: a range has one spelling, which is read as the rows that it spells; all other
 //! bytes are refused, with the first fault from the left.
@@ -14,6 +15,7 @@ mod fault;
 mod rows;
 #[cfg(test)]
 mod tests;
+pub mod threads;
 
 pub use decoding::decode;
 pub use encoding::{encode, laws_of_ranges};

@@ -4,8 +4,11 @@ ghost use Rattle.lake_base.specs.Maps.{HasAscendingKeys};
 ghost use Rattle.lake_format.specs.Reading.{is_next};
 ghost use Rattle.range_file.specs.Rows.{AreRows, last_path};
 
+use lake_base::copying::{TryCopy, copied};
 use lake_base::names::Path;
+use lake_base::outside::NoMemory;
 use lake_values::entry::Entry;
+use std::alloc::Global;
 use std::cmp::Ordering;
 use std::marker::Model;
 
@@ -22,6 +25,15 @@ impl Model for Row {
     ghost Value = { RowValue };
 
     ghost view = { λ row. (row.path, row.entry) };
+}
+
+impl TryCopy for Row {
+    fn copy(&self, alloc: Global) -> Result<Row, NoMemory> {
+        Ok(Row {
+            path: self.path.copy(alloc)?,
+            entry: self.entry.copy(alloc)?,
+        })
+    }
 }
 
 /// The rows of a range: at least one, fewer than 2^32, paths strictly ascending. Contracts see the list of its
@@ -65,6 +77,13 @@ impl Range {
         ensures valid { AreRows result.items }
     {
         self.rows
+    }
+}
+
+impl TryCopy for Range {
+    fn copy(&self, alloc: Global) -> Result<Range, NoMemory> {
+        let rows = copied(alloc, self.rows())?;
+        Ok(Range::from_vec(rows))
     }
 }
 
