@@ -1,2 +1,4 @@
+pub mod FaultLemmas
+pub mod MemoryLemmas
 pub mod ReadingLemmas
 pub mod RowsLemmas

@@ -41,6 +41,21 @@ field_ok : {X : Type 0} (n : ℕ) (bad : RangeFault) (r : Result X FieldFault) (
 field_ok n bad (Ok y) x e = ap (λ z. Ok z) (ok_is y x e)
 field_ok n bad (Err fault) x e = absurd cc
 
+-- as many rows as the count tells, and then the end
+abbrev pub counted : ℕ → List ℕ → Result (List RowValue × List ℕ) RangeFault
+counted n bytes = read_count n bytes >>= λ count. read_rows n count.0 [] count.1
+
+abbrev pub ended : List RowValue × List ℕ → Result (List RowValue) RangeFault
+ended rows = cond (eqb (length rows.1) 0) (Ok rows.0) (Err (Trailing (length rows.1)))
+
+in_two : {A B C : Type 0} (r : Result A RangeFault) (f : A → Result B RangeFault) (g : B → Result C RangeFault) → (r >>= λ x. f x >>= g) ≡ ((r >>= f) >>= g)
+in_two (Ok x) f g = refl
+in_two (Err e) f g = refl
+
+pub range_is : (bytes : List ℕ) → range_from bytes ≡ (counted (length bytes) bytes >>= ended)
+unfolding range_from
+range_is bytes = in_two (read_count (length bytes) bytes) (λ count. read_rows (length bytes) count.0 [] count.1) ended
+
 -- ---- a loop that reads rows
 
 failed : {A B : Type 0} (e : RangeFault) (r : Result A RangeFault) (f : A → Result B RangeFault) → Fails e r → Fails e (r >>= f)
@@ -193,13 +208,18 @@ rows_again n before (row ∷ rows) rest h each =
     ∙ rows_again n (before ++ row ∷ []) rows rest (subst HasAscendingKeys (sym together) h) each.1
     ∙ ap (λ (l : List RowValue). Ok (l, rest)) together
 
+pub counted_again : (n : ℕ) (rows : List RowValue) (rest : List ℕ) → IsRange rows → counted n (range_spelling rows ++ rest) ≡ Ok (rows, rest)
+unfolding range_spelling read_count
+counted_again n rows rest is =
+    let count = to_be_bytes w32 (length rows) in
+    let some : eqb (length rows) 0 ≡ false = ne_eqb (length rows) 0 (λ none. omega (arith, is.some)) in
+    let regrouped : (count ++ flat_map row_spelling rows) ++ rest ≡ count ++ (flat_map row_spelling rows ++ rest) = append_assoc count (flat_map row_spelling rows) rest in
+    ap (λ bytes. counted n (1 ∷ bytes)) regrouped ∙ rw (number_again w32 (2 ^ 32) wide32 (length rows) (flat_map row_spelling rows ++ rest) is.few, some, rows_again n [] rows rest is.ascend is.each) refl
+
 pub again : (rows : List RowValue) → IsRange rows → range_from (range_spelling rows) ≡ Ok rows
-unfolding range_from range_spelling read_count
 again rows is =
     let n = length (range_spelling rows) in
-    let some : eqb (length rows) 0 ≡ false = ne_eqb (length rows) 0 (λ none. omega (arith, is.some)) in
-    let body : read_rows n (length rows) [] (flat_map row_spelling rows) ≡ Ok (rows, []) = ap (read_rows n (length rows) []) (sym (append-nil (flat_map row_spelling rows))) ∙ rows_again n [] rows [] is.ascend is.each in
-    rw (number_again w32 (2 ^ 32) wide32 (length rows) (flat_map row_spelling rows) is.few, some, body) refl
+    range_is (range_spelling rows) ∙ ap (λ bytes. counted n bytes >>= ended) (sym (append-nil (range_spelling rows))) ∙ ap (λ r. r >>= ended) (counted_again n rows [] is)
 
 pub apart : (rows others : List RowValue) → IsRange rows → IsRange others → range_spelling rows ≡ range_spelling others → rows ≡ others
 apart rows others a b e = ok_is rows others (sym (again rows a) ∙ ap range_from e ∙ again others b)

@@ -28,6 +28,13 @@ ReadsAs view (Err fault) read = Fails fault read
 abbrev pub Answers : {Y : Type 0} → Result Y RangeFault → Result Y RangeFault → Type 0
 Answers result read = ReadsAs (λ y. y) result read
 
+-- a fault that no bytes behind it can mend
+abbrev pub IsSettled : RangeFault → Type 0
+IsSettled (Truncated n) = ⊥
+IsSettled (Trailing n) = ⊥
+IsSettled NoMemory = ⊥
+IsSettled fault = Unit {0}
+
 -- what a field's fault is to an input of n bytes, where `bad` tells that the field is outside its limits
 abbrev pub fault_of : ℕ → RangeFault → FieldFault → RangeFault
 fault_of n bad (Short left) = Truncated n

@@ -52,11 +52,8 @@ fn read_count(bytes: &[u8]) -> Result<(u32, &[u8]), RangeFault>
     if *version != 1 {
         return Err(RangeFault::Version(*version));
     }
-    let (count, rest) = read_u32(rest).map_err(|fault| fault_of(
-        fault,
-        bytes.len(),
-        RangeFault::Empty,
-    ))?;
+    let bad = RangeFault::Empty;
+    let (count, rest) = read_u32(rest).map_err(|fault| fault_of(fault, bytes.len(), bad))?;
     if count == 0 {
         return Err(RangeFault::Empty);
     }

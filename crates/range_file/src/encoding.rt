@@ -3,11 +3,10 @@
 //! The one row of the path `a` and an object of 5 bytes at `s3://x`, with no checksum, content type or metadata,
 //! is `01 00000001 0001 61`, and its entry `01 0006 73333a2f2f78 0000`, 8 bytes of size, 8 of time, `0000 0000`:
 //! 39 bytes.
-ghost use Rattle.std.specs.Prelude.{◌≡◌, ◌≤◌, ◌+◌, ◌*◌, ℕ, List, length, Ok, IfOk, OnOk};
+ghost use Rattle.std.specs.Prelude.{◌≡◌, ◌+◌, length, IfOk, OnOk};
 ghost use Rattle.std.specs.List.{flat_map};
-ghost use Rattle.lake_format.specs.Spelling.{row_spelling, range_spelling, IsRange, AreBytes};
-ghost use Rattle.range_file.specs.Rows.{RowValue, AreRows};
-ghost use Rattle.range_file.specs.Reading.{range_from};
+ghost use Rattle.lake_format.specs.Spelling.{row_spelling, range_spelling, IsRange};
+ghost use Rattle.range_file.specs.Rows.{AreRows};
 
 use crate::rows::Row;
 use lake_base::outside::NoMemory;
@@ -40,14 +39,3 @@ fn range_len(rows: &[Row]) -> usize
     }
     len
 }
-
-/// What is spelled is read again. So no two lists of rows share a spelling. What is read is spelled so. (A law: it
-/// does nothing.)
-pub fn laws_of_ranges()
-    ensures again { (rows : List RowValue) → IsRange rows
-        → range_from (range_spelling rows) ≡ Ok rows }
-    ensures apart { (rows others : List RowValue) → IsRange rows → IsRange others
-        → range_spelling rows ≡ range_spelling others → rows ≡ others }
-    ensures found { (bytes : List ℕ) (rows : List RowValue) → AreBytes bytes
-        → range_from bytes ≡ Ok rows → IsRange rows × (bytes ≡ range_spelling rows) }
-{}
