@@ -1,5 +1,5 @@
 //! The program as one call.
-ghost use Rattle.std.specs.Prelude.{◌≡◌, ◌≢◌, ◌≤◌, ◌<◌, ◌^◌, ◌⊎◌, ◌++◌, ◌↔◌, ℕ, List, IfSome, IsSome, IsNone, if◌then◌else◌};
+ghost use Rattle.std.specs.Prelude.{◌≡◌, ◌≢◌, ◌≤◌, ◌<◌, ◌^◌, ◌⊎◌, ◌++◌, ◌↔◌, ℕ, List, IfSome, IsSome, IsNone, IfOk, length, if◌then◌else◌};
 ghost use Rattle.lake_base.specs.Outside.{Rose, Quiet};
 ghost use Rattle.lake_base.specs.declared.limits.TheConstants.{PATH_LIMIT};
 ghost use Rattle.lake_model.specs.declared.history.TheConstants.{HISTORY_LIMIT};
@@ -15,7 +15,7 @@ use crate::host::Host;
 use crate::text::USAGE;
 use crate::words::{Timing, batch_timing};
 use crate::write::write_all;
-use lake_base::{Clock, Sink, Source, Text};
+use lake_base::{Clock, NoMemory, Sink, Source, Text};
 use std::alloc::Global;
 
 /// The most bytes of a batch.
@@ -107,9 +107,16 @@ pub fn serve_batch<S: Source, W: Sink, C: Clock>(
     let Ok(mut batch) = Batch::new(alloc, timing) else {
         return OUT_OF_MEMORY_STATUS;
     };
-    let Ok(mut room) = vec![in alloc; 0u8; ROOM] else {
+    let Ok(mut room) = room_of(alloc, ROOM) else {
         return OUT_OF_MEMORY_STATUS;
     };
     let end = batch.read(limit, source, clock, sink, room.as_mut_slice());
     batch.finish(end, clock, sink)
+}
+
+// Room for so many bytes.
+fn room_of(alloc: Global, len: usize) -> Result<Vec<u8>, NoMemory>
+    ensures { IfOk result (λ room. length room.items ≡ len) }
+{
+    Ok(vec![in alloc; 0u8; len]?)
 }
