@@ -3,7 +3,7 @@ use crate::rows::{Range, Row, are_rows};
 use crate::{RangeFault, decode, encode};
 use lake_base::copying::TryCopy;
 use lake_base::names::Path;
-use lake_format::entry_read;
+use lake_format::encoding::read_entry;
 use std::alloc::Global;
 use std::test::Fail;
 
@@ -82,38 +82,40 @@ fn a_range_is_read_and_written_again(rt: HostRuntime) -> Result<(), Fail> {
     Ok(())
 }
 
+// Paths, and how many bytes the file of the object under each of them has, where they can be those of a range.
+const FILES: [(&[&[u8]], Option<usize>); 5] = [
+    (&[], None),
+    (&[b"a"], Some(39)),
+    (&[b"a", b"ab", b"b"], Some(108)),
+    (&[b"a", b"b", b"b"], None),
+    (&[b"b", b"a"], None),
+];
+
 // The object under each of the paths.
 fn rows(alloc: Global, paths: &[&[u8]]) -> Result<Vec<Row>, Fail> {
     let mut rows = Vec::new(alloc);
     for path in paths {
         let path = Path::read(alloc, path)?;
-        let (entry, _) = entry_read(alloc, ENTRY, 0)?;
+        let (entry, _) = read_entry(alloc, ENTRY)?;
         rows.push(Row { path, entry })?;
     }
     Ok(rows)
 }
 
-// The file of these rows, where they can be those of a range.
-fn file(alloc: Global, rows: Vec<Row>) -> Result<Option<Vec<u8>>, Fail> {
+// How many bytes the file of these rows has, where they can be those of a range.
+fn file_len(alloc: Global, rows: Vec<Row>) -> Result<Option<usize>, Fail> {
     if !are_rows(rows.as_slice()) {
         return Ok(None);
     }
     let rows = Range::from_vec(rows).into_vec();
-    Ok(Some(encode(alloc, rows.as_slice())?))
-}
-
-// How many bytes the file of the object under these paths has, where there is one.
-fn file_len(alloc: Global, paths: &[&[u8]]) -> Result<Option<usize>, Fail> {
-    Ok(file(alloc, rows(alloc, paths)?)?.map(|bytes| bytes.len()))
+    Ok(Some(encode(alloc, rows.as_slice())?.len()))
 }
 
 #[test]
 fn rows_whose_paths_ascend_are_those_of_a_range(rt: HostRuntime) -> Result<(), Fail> {
-    let alloc = rt.alloc();
-    assert_eq!(rt; file_len(alloc, &[])?, None);
-    assert_eq!(rt; file_len(alloc, &[b"a"])?, Some(39));
-    assert_eq!(rt; file_len(alloc, &[b"a", b"ab", b"b"])?, Some(108));
-    assert_eq!(rt; file_len(alloc, &[b"a", b"b", b"b"])?, None);
-    assert_eq!(rt; file_len(alloc, &[b"b", b"a"])?, None);
+    for (paths, len) in &FILES {
+        let found = file_len(rt.alloc(), rows(rt.alloc(), paths)?)?;
+        assert_eq!(rt; found, *len);
+    }
     Ok(())
 }
