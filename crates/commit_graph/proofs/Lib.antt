@@ -1,1 +1,3 @@
+pub mod GraphLemmas
 pub mod ReadingLemmas
+pub mod WalkLemmas

@@ -1,1 +1,4 @@
+pub mod Adding
+pub mod Graphs
+pub mod Moves
 pub mod Reading

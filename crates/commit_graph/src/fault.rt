@@ -1,8 +1,14 @@
-//! Why bytes aren't the spelling of a commit.
+//! Why bytes aren't the spelling of a commit, and why a commit can't join a graph.
 ghost use Rattle.std.specs.Prelude.{◌≡◌};
 ghost use Rattle.commit_graph.specs.Reading.{fault_of};
+ghost use Rattle.commit_graph.specs.declared.fault.GraphFault.TheVariants.{NoMemory as graph_no_memory};
 
+use lake_base::digest::Digest;
+use lake_base::outside::NoMemory;
+use lake_base::sequence::Sequence;
 use lake_format::FieldFault;
+use lake_values::commit::CommitId;
+use std::alloc::AllocFailed;
 use thiserror::Error;
 
 /// Why bytes aren't the spelling of a commit: the first fault from the left.
@@ -33,5 +39,45 @@ pub(crate) fn fault_of(fault: FieldFault, len: usize) -> CommitFault
         FieldFault::Short { .. } => CommitFault::Truncated(len),
         FieldFault::Bad { left } => CommitFault::Bad(len.saturating_sub(left)),
         FieldFault::NoMemory => CommitFault::NoMemory,
+    }
+}
+
+/// Why a commit can't join a graph: the first reason of these.
+#[derive(Debug, Drop, Error)]
+pub enum GraphFault {
+    /// This parent, the first such, isn't there.
+    #[error("a parent is missing")]
+    NoParent(CommitId),
+    /// The generation isn't the one due: 1 plus the greatest of its parents', and 1 without parents.
+    #[error("generation {given} where {due} is due")]
+    Generation {
+        given: u64,
+        due: u64,
+    },
+    /// A commit of this id is there that has other bytes.
+    #[error("two commits have one id")]
+    NameClash {
+        name: Digest,
+        kept: Sequence<u8>,
+        new: Sequence<u8>,
+    },
+    /// No memory was left.
+    #[error("out of memory")]
+    NoMemory,
+}
+
+impl From<NoMemory> for GraphFault {
+    ghost from_gives = { λ _ e. e ≡ graph_no_memory };
+
+    fn from(_: NoMemory) -> Self {
+        GraphFault::NoMemory
+    }
+}
+
+impl<T: Drop> From<AllocFailed<T>> for GraphFault {
+    ghost from_gives = { λ _ e. e ≡ graph_no_memory };
+
+    fn from(_: AllocFailed<T>) -> Self {
+        GraphFault::NoMemory
     }
 }

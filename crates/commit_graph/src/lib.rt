@@ -1,18 +1,27 @@
-//! Commits as bytes.
+//! Commits as bytes, and graphs of commits by their ids.
 //!
 //! - `encoding`: the spelling of a commit.
-//! - `decoding`, `fault`: the commit of a spelling, or the first fault from the left.
+//! - `decoding`: the commit of a spelling, or the first fault from the left.
+//! - `expression`: moves back from a commit.
+//! - `graph`: commits by their ids, where moves lead, and the walk of first parents.
+//! - `fault`: why bytes aren't a commit, and why a commit can't join a graph.
+//! - `threads`: graphs may go from thread to thread.
 //!
-//! The promise to the layer above: a commit has one spelling, which is read as the commit that it spells; all
-//! other bytes are refused, with the first fault from the left.
+//! The promise to the layer above: a commit has one spelling, which is read as the commit that it spells; and each
+//! commit of a graph has its parents there, the generation that is due, and the SHA-256 of its spelling as its id.
 #![tactic(auto)]
 
 mod decoding;
 mod encoding;
+mod expression;
 mod fault;
+pub mod graph;
 #[cfg(test)]
 mod tests;
+pub mod threads;
 
 pub use decoding::commit_read;
 pub use encoding::{commit_bytes, laws_of_commits};
-pub use fault::CommitFault;
+pub use expression::Move;
+pub use fault::{CommitFault, GraphFault};
+pub use graph::Graph;
