@@ -28,7 +28,7 @@ ReadsAs view (Err fault) read = Fails fault read
 abbrev pub Answers : {Y : Type 0} → Result Y RangeFault → Result Y RangeFault → Type 0
 Answers result read = ReadsAs (λ y. y) result read
 
--- a fault that no bytes behind it can mend
+-- a fault that stays, whatever follows
 abbrev pub IsSettled : RangeFault → Type 0
 IsSettled (Truncated n) = ⊥
 IsSettled (Trailing n) = ⊥

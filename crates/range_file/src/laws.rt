@@ -17,8 +17,9 @@ pub fn laws_of_ranges()
         → range_from bytes ≡ Ok rows → IsRange rows × (bytes ≡ range_spelling rows) }
 {}
 
-/// Each shorter front of a range's file is truncated at its length, and what follows the file is trailing. The other
-/// faults stay what they are, whatever follows. Reading by its definition doesn't run out of memory. (A law: it does nothing.)
+/// Each shorter front of a range's file is truncated at its length, and what follows the file is trailing. Version,
+/// Empty, BadRow and Order stay what they are, whatever follows. Reading, as it is defined, doesn't run out of
+/// memory. (A law: it does nothing.)
 pub fn laws_of_faults()
     ensures fronts { (rows : List RowValue) (front rest : List ℕ) → IsRange rows
         → range_spelling rows ≡ front ++ rest → 0 < length rest
