@@ -1,4 +1,6 @@
 pub mod Adding
+pub mod Expressions
 pub mod Graphs
 pub mod Moves
 pub mod Reading
+pub mod Scanning

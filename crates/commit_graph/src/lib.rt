@@ -2,7 +2,7 @@
 //!
 //! - `encoding`: the spelling of a commit.
 //! - `decoding`: the commit of a spelling, or the first fault from the left.
-//! - `expression`: moves back from a commit.
+//! - `expression`: a name, and moves back from a commit.
 //! - `graph`: commits by their ids, where moves lead, and the walk of first parents.
 //! - `fault`: why bytes aren't a commit, and why a commit can't join a graph.
 //! - `threads`: graphs may go from thread to thread.
@@ -22,6 +22,6 @@ pub mod threads;
 
 pub use decoding::commit_read;
 pub use encoding::{commit_bytes, laws_of_commits};
-pub use expression::Move;
+pub use expression::{ExprFault, Move, RefExpr};
 pub use fault::{CommitFault, GraphFault};
 pub use graph::Graph;

@@ -1,3 +1,4 @@
-//! Tests of commits and graphs.
+//! Tests of commits, expressions and graphs.
 mod commits;
+mod expressions;
 mod graphs;
