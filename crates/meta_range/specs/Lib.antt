@@ -1,0 +1,5 @@
+pub mod Steps
+pub mod Ranges
+pub mod Files
+pub mod Metarange
+pub mod Reading

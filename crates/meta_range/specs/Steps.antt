@@ -1,0 +1,8 @@
+-- Reading step by step: the first fault ends it.
+use Rattle.std.specs.Prelude.{Result, Ok, Err}
+
+-- a part, and then what follows it
+infixl 10 ◌>>=◌
+abbrev pub ◌>>=◌ : {A B E : Type 0} → Result A E → (A → Result B E) → Result B E
+(Ok x) >>= f = f x
+(Err e) >>= f = Err e

@@ -1,0 +1,29 @@
+//! Trees: a key map cut into ranges, each a file that is known by its SHA-256, so that two trees share every range
+//! that is the same in both.
+//!
+//! - `tree`, `shared_range`: the tree of a map, what stands in it, and its files.
+//! - `cursor`: its rows, one after the other.
+//! - `metarange`: the file that says of a tree's ranges which they are, written and read.
+//! - `reading`, `file`, `fault`: a tree from its files, or the first fault.
+//!
+//! The promise to the layer above: a tree is its key map, and has exactly the files that the cut gives; a tree is
+//! read just where these files are given.
+#![tactic(auto)]
+
+mod cursor;
+mod fault;
+mod file;
+mod metarange;
+mod reading;
+mod shared_range;
+#[cfg(test)]
+mod tests;
+mod threads;
+mod tree;
+
+pub use cursor::Cursor;
+pub use fault::{MetaFault, TreeFault};
+pub use file::File;
+pub use lake_values::cursor::EntryCursor;
+pub use metarange::{laws_of_metaranges, read_metarange};
+pub use tree::{Tree, law_of_names};
