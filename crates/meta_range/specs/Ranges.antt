@@ -54,3 +54,8 @@ rows_above (Some path) rows = filter (λ row. is_lt (byte_order path row.0)) row
 abbrev pub first_file : List (List ℕ) → List ℕ
 first_file [] = []
 first_file (file ∷ files) = file
+
+-- rows of a tree that are still to come: some of one range, and then the ranges after it
+pub record AreLeft (rows : List RowValue) (ranges : List (List RowValue)) : Type 0 where
+  pub ascend : HasAscendingKeys (rows ++ rows_of ranges)
+  pub each : AllByRecursion IsRange ranges

@@ -1,10 +1,10 @@
 -- Reading a tree from its files: the metarange first, then each range in order, and last where the ranges end.
-use Rattle.std.specs.Prelude.{◌≡◌, ◌==◌, ◌&&◌, ◌-◌, ℕ, suc, Bool, List, [], ◌∷◌, ◌++◌, length, Option, Some, None, Result, Ok, Err, if◌then◌else◌}
-use Rattle.std.specs.List.{Contains}
+use Rattle.std.specs.Prelude.{◌≡◌, ◌==◌, ◌&&◌, ◌-◌, ℕ, suc, Bool, List, [], ◌∷◌, ◌++◌, length, map, Option, Some, None, Result, Ok, Err, if◌then◌else◌}
+use Rattle.std.specs.List.{AllByRecursion, Contains}
 use Rattle.std.specs.Str.{bytes_eq}
 use Rattle.lake_base.specs.Digest.{sha256}
 use Rattle.lake_base.specs.declared.digest.Digest.{Digest}
-use Rattle.lake_format.specs.Spelling.{file_name, path_at}
+use Rattle.lake_format.specs.Spelling.{file_name, path_at, range_spelling, line_of, IsRange}
 use Rattle.lake_format.specs.Cutting.{ranges, files}
 use Rattle.lake_format.specs.declared.cut.Cut.{Cut}
 use Rattle.lake_format.specs.declared.range_line.RangeLine.{RangeLine}
@@ -113,3 +113,19 @@ pub record IsTreeOf (name : Digest) (all : List File) (cut : Cut) (tree : TreeVa
   pub cut_so : tree.files ≡ files cut tree.map
   pub given : AreGiven tree.files all
   pub limits : FitsTree tree.map
+
+-- the file of these rows is given under its name
+abbrev pub IsGiven : List File → List RowValue → Type 0
+IsGiven all range = bytes_named (file_name (range_spelling range)) all ≡ Some (range_spelling range)
+
+-- a range within its limits of which this is said, and whose file is given
+pub record IsRead (all : List File) (line : RangeLine) (range : List RowValue) : Type 0 where
+  pub valid : IsRange range
+  pub said : line ≡ line_of range
+  pub given : IsGiven all range
+
+-- ranges within their limits of which this is said, one after the other, and whose files are given
+pub record AreRead (all : List File) (lines : List RangeLine) (ranges : List (List RowValue)) : Type 0 where
+  pub each : AllByRecursion IsRange ranges
+  pub said : map line_of ranges ≡ lines
+  pub given : AllByRecursion (IsGiven all) ranges

@@ -1,9 +1,11 @@
 //! The rows of a tree, one after the other.
-ghost use Rattle.std.specs.Prelude.{◌≡◌, ◌++◌, ◌∷◌, [], List, MatchOption, option_copied};
+ghost use Rattle.std.specs.Prelude.{◌≡◌, ◌++◌, ◌∷◌, [], List, MatchOption, IfSome, option_copied};
+ghost use Rattle.std.specs.List.{AllByRecursion};
+ghost use Rattle.lake_format.specs.Spelling.{IsRange};
 ghost use Rattle.std.specs.FinMap.{entries};
 ghost use Rattle.lake_base.specs.Maps.{HasAscendingKeys};
 ghost use Rattle.lake_values.specs.Cursor.{entries_from};
-ghost use Rattle.meta_range.specs.Ranges.{rows_of, rows_above};
+ghost use Rattle.meta_range.specs.Ranges.{rows_of, rows_above, AreLeft};
 
 use crate::shared_range::SharedRange;
 use crate::tree::Tree;
@@ -24,15 +26,14 @@ pub struct Cursor<'a> {
 
 impl<'a> Model for Cursor<'a> {
     ghost use Rattle.std.specs.Prelude.{List, ◌++◌};
-    ghost use Rattle.lake_base.specs.Maps.{HasAscendingKeys};
     ghost use Rattle.range_file.specs.Rows.{RowValue};
-    ghost use Rattle.meta_range.specs.Ranges.{rows_of};
+    ghost use Rattle.meta_range.specs.Ranges.{rows_of, AreLeft};
 
     ghost Value = { List RowValue };
 
     ghost view = { λ cursor. cursor.rows.now ++ rows_of cursor.ranges.now };
 
-    ghost invariant = { λ cursor. HasAscendingKeys (cursor.rows.now ++ rows_of cursor.ranges.now) };
+    ghost invariant = { λ cursor. AreLeft cursor.rows.now cursor.ranges.now };
 }
 
 impl Tree {
@@ -97,8 +98,10 @@ fn first_row<'a>(
     rows: &'a [Row],
     ranges: &'a [SharedRange],
 ) -> Option<(&'a Row, &'a [Row], &'a [SharedRange])>
-    ensures { MatchOption result (rows.now ++ rows_of ranges.now ≡ [])
+    requires { AreLeft rows.now ranges.now }
+    ensures row { MatchOption result (rows.now ++ rows_of ranges.now ≡ [])
         (λ x. rows.now ++ rows_of ranges.now ≡ x.0.now ∷ (x.1.now ++ rows_of x.2.now)) }
+    ensures left { IfSome result (λ x. AreLeft x.1.now x.2.now) }
 {
     if let Some((row, rows)) = rows.split_first() {
         return Some((row, rows, ranges));
@@ -114,9 +117,10 @@ fn skipped<'a>(
     ranges: &'a [SharedRange],
     least: &[u8],
 ) -> (&'a [Row], &'a [SharedRange])
-    requires { HasAscendingKeys (rows.now ++ rows_of ranges.now) }
-    ensures { result.0.now ++ rows_of result.1.now
+    requires { AreLeft rows.now ranges.now }
+    ensures from { result.0.now ++ rows_of result.1.now
         ≡ entries_from least.now (rows.now ++ rows_of ranges.now) }
+    ensures left { AreLeft result.0.now result.1.now }
 {
     let rows = rows_from(rows, least);
     if !rows.is_empty() {
@@ -127,8 +131,11 @@ fn skipped<'a>(
 
 // What is left of ranges once the paths below these bytes are passed: rows of one range, and the ranges after it.
 fn ranges_from<'a>(ranges: &'a [SharedRange], least: &[u8]) -> (&'a [Row], &'a [SharedRange])
-    requires { HasAscendingKeys (rows_of ranges.now) }
-    ensures { result.0.now ++ rows_of result.1.now ≡ entries_from least.now (rows_of ranges.now) }
+    requires ascend { HasAscendingKeys (rows_of ranges.now) }
+    requires each { AllByRecursion IsRange ranges.now }
+    ensures from { result.0.now ++ rows_of result.1.now
+        ≡ entries_from least.now (rows_of ranges.now) }
+    ensures each { AllByRecursion IsRange result.1.now }
 {
     let at = ranges.partition_point(|range| range.is_all_below(least));
     let ranges = ranges.split_at(at).1;

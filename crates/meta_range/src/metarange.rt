@@ -43,7 +43,8 @@ fn put_line(out: &mut Vec<u8>, range: &SharedRange) -> Result<(), NoMemory>
     put_digest(out, &range.name())?;
     out.extend_from_slice(&(range.rows().len() as u32).to_be_bytes())?;
     put_text(out, range.first().as_slice())?;
-    put_text(out, range.last().as_slice())
+    put_text(out, range.last().as_slice())?;
+    Ok(())
 }
 
 /// What these bytes say of a tree's ranges. They are read from the left, and the first fault that is met is answered:

@@ -1,12 +1,12 @@
 //! A tree from its files.
-ghost use Rattle.std.specs.Prelude.{◌≡◌, ◌↔◌, ◌<◌, ◌++◌, ◌^◌, List, [], length, slice_get, IsTrue, Ok, IfOk, Option, option_copied};
+ghost use Rattle.std.specs.Prelude.{◌≡◌, ◌↔◌, ◌<◌, ◌++◌, ◌^◌, List, [], length, drop, slice_get, IsTrue, Ok, IfOk, Option, option_copied};
 ghost use Rattle.lake_values.specs.KeyMap.{KeyMapValue};
 ghost use Rattle.lake_format.specs.Cutting.{files as tree_files, tree_id, first_len};
 ghost use Rattle.lake_format.specs.Spelling.{IsMetarange};
 ghost use Rattle.range_file.specs.Rows.{RowValue};
 ghost use Rattle.meta_range.specs.Ranges.{first_file, rows_of};
 ghost use Rattle.meta_range.specs.Files.{bytes_named, FitsTree};
-ghost use Rattle.meta_range.specs.Reading.{ReadsAs, AreGiven, is_said, read_file, read_range, read_ranges, not_cut, tree_from, IsTreeOf};
+ghost use Rattle.meta_range.specs.Reading.{ReadsAs, AreGiven, is_said, read_file, read_range, read_ranges, not_cut, tree_from, IsTreeOf, IsRead, AreRead};
 
 use crate::fault::{TreeFault, of_metarange, of_range};
 use crate::file::File;
@@ -38,17 +38,30 @@ impl Tree {
         // Which fault it is.
         ensures exact { ReadsAs (λ tree. tree) result (tree_from name.now files.now cut.now) }
     {
-        let bytes = read_file(name, files)?;
-        let lines = read_metarange(alloc, bytes).map_err(of_metarange)?;
-        let ranges = read_ranges(alloc, files, lines.as_slice())?;
-        if count_rows(ranges.as_slice()) >= 4294967296 {
-            return Err(TreeFault::NoMemory);
-        }
-        if let Some(at) = not_cut(ranges.as_slice(), cut) {
-            return Err(TreeFault::NotCut(at));
-        }
-        Ok(Tree::named(*name, ranges))
+        let tree = read_tree(alloc, name, files, cut)?;
+        Ok(tree)
     }
+}
+
+// The tree of the metarange of this name.
+fn read_tree(alloc: Global, name: &Digest, files: &[File], cut: &Cut) -> Result<Tree, TreeFault>
+    requires { 0 < cut.now.modulus }
+    ensures reads { ReadsAs (λ tree. tree) result (tree_from name.now files.now cut.now) }
+    ensures found { IfOk result (λ tree. IsTreeOf name.now files.now cut.now tree) }
+{
+    let bytes = read_file(name, files)?;
+    let lines = match read_metarange(alloc, bytes) {
+        Ok(lines) => lines,
+        Err(fault) => return Err(of_metarange(fault)),
+    };
+    let ranges = read_ranges(alloc, files, lines.as_slice())?;
+    if count_rows(ranges.as_slice()) >= 4294967296 {
+        return Err(TreeFault::NoMemory);
+    }
+    if let Some(at) = not_cut(ranges.as_slice(), cut) {
+        return Err(TreeFault::NotCut(at));
+    }
+    Ok(Tree::named(*name, ranges))
 }
 
 // The bytes of the file of this name, whose SHA-256 it is.
@@ -87,11 +100,13 @@ fn read_ranges(
     files: &[File],
     lines: &[RangeLine],
 ) -> Result<Vec<SharedRange>, TreeFault>
-    ensures { ReadsAs (λ ranges. ranges.items) result (read_ranges files.now [] lines.now) }
+    ensures reads { ReadsAs (λ ranges. ranges.items) result (read_ranges files.now [] lines.now) }
+    ensures found { IfOk result (λ ranges. AreRead files.now lines.now ranges.items) }
 {
     let mut ranges = Vec::new(alloc);
     for line in lines {
-        ranges.push(read_range(alloc, files, ranges.len(), line)?)?;
+        let at = ranges.as_slice().len();
+        ranges.push(read_range(alloc, files, at, line)?)?;
     }
     Ok(ranges)
 }
@@ -104,10 +119,14 @@ fn read_range(
     at: usize,
     line: &RangeLine,
 ) -> Result<SharedRange, TreeFault>
-    ensures { ReadsAs (λ range. range) result (read_range files.now at line.now) }
+    ensures reads { ReadsAs (λ range. range) result (read_range files.now at line.now) }
+    ensures found { IfOk result (λ range. IsRead files.now line.now range) }
 {
     let bytes = read_file(&line.name, files)?;
-    let rows = decode(alloc, bytes).map_err(|fault| of_range(fault, at))?;
+    let rows = match decode(alloc, bytes) {
+        Ok(rows) => rows,
+        Err(fault) => return Err(of_range(fault, at)),
+    };
     if !is_said(line, rows.rows()) {
         return Err(TreeFault::Mismatch(at));
     }
@@ -141,15 +160,21 @@ fn not_cut(ranges: &[SharedRange], cut: &Cut) -> Option<usize>
     ensures { result ≡ not_cut cut.now ranges.now }
 {
     for (at, range) in ranges.iter().enumerate() {
-        let next = match ranges.get(at + 1) {
-            Some(after) => after.rows().first(),
-            None => None,
-        };
-        if !is_first(range.rows(), next, cut) {
+        if !is_first(range.rows(), first_row_from(ranges, at + 1), cut) {
             return Some(at);
         }
     }
     None
+}
+
+// The first row of the ranges from this one on.
+fn first_row_from(ranges: &[SharedRange], at: usize) -> Option<&Row>
+    ensures { option_copied result ≡ slice_get (rows_of (drop at ranges.now)) 0 }
+{
+    match ranges.get(at) {
+        Some(range) => range.rows().first(),
+        None => None,
+    }
 }
 
 // Whether rows are the first range of themselves and what follows them, which begins with `next`.

@@ -4,11 +4,14 @@ ghost use Rattle.std.specs.Ordering.{is_lt};
 ghost use Rattle.lake_base.specs.Maps.{HasAscendingKeys, byte_order};
 ghost use Rattle.lake_format.specs.Spelling.{range_spelling, path_at, file_name, IsRange};
 ghost use Rattle.range_file.specs.Rows.{AreRows};
+ghost use Rattle.meta_range.specs.Files.{file_of};
 
+use crate::file::File;
 use lake_base::copying::TryCopy;
 use lake_base::digest::Digest;
 use lake_base::names::Path;
 use lake_base::outside::NoMemory;
+use lake_base::sequence::Sequence;
 use lake_values::cursor::is_below;
 use lake_values::entry::Entry;
 use range_file::{Range, Row, encode};
@@ -90,6 +93,16 @@ impl SharedRange {
         ensures { result ≡ file_name (range_spelling self.now) }
     {
         self.name
+    }
+
+    /// Its file.
+    pub(crate) fn file(&self, alloc: Global) -> Result<File, NoMemory>
+        ensures { IfOk result (λ file. file ≡ file_of (range_spelling self.now)) }
+    {
+        Ok(File {
+            name: self.name,
+            bytes: Sequence::of(encode(alloc, self.rows())?),
+        })
     }
 
     /// Its first path.

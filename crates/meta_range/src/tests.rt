@@ -1,20 +1,25 @@
-//! Tables of trees: rows of 34 bytes each, their ranges, look-ups and cursors, and each fault of a reading.
+//! Tables of trees, whose rows have 34 bytes each: their ranges, look-ups and cursors, and each fault of a reading.
 ghost use Rattle.std.specs.Prelude.{◌<◌};
 
-use crate::{Cursor, EntryCursor, File, Tree, TreeFault};
+use crate::{EntryCursor, File, MetaFault, Tree, TreeFault, read_metarange};
 use lake_base::digest::Digest;
 use lake_base::names::Path;
+use lake_base::sequence::Sequence;
 use lake_format::entry_read;
 use lake_values::changes::Changes;
 use lake_values::entry::Change;
 use lake_values::key_map::KeyMap;
-use range_file::Cut;
+use range_file::{Cut, RangeFault, USUAL_CUT};
 use std::alloc::Global;
 use std::test::Fail;
 
 // The object of 5 bytes at `s3://x`, with no checksum, content type or metadata.
 const ENTRY: &[u8] =
     b"\x01\x00\x06s3://x\x00\x00\x00\x00\x00\x00\x00\x00\x00\x05\x00\x00\x00\x00\x00\x00\x00\x00\x00\x00\x00\x00";
+
+// The range of it under `a`.
+const ONE: &[u8] =
+    b"\x01\x00\x00\x00\x01\x00\x01a\x01\x00\x06s3://x\x00\x00\x00\x00\x00\x00\x00\x00\x00\x05\x00\x00\x00\x00\x00\x00\x00\x00\x00\x00\x00\x00";
 
 // It at each path of one byte.
 fn map_of(alloc: Global, paths: &[u8]) -> Result<KeyMap, Fail> {
@@ -26,21 +31,14 @@ fn map_of(alloc: Global, paths: &[u8]) -> Result<KeyMap, Fail> {
     Ok(KeyMap::new(alloc).apply(alloc, &changes)?)
 }
 
-fn cut(max_bytes: u64) -> Cut {
-    Cut {
-        max_bytes,
-        modulus: 1024,
-    }
+// The tree of the map with these paths, in ranges of at most so many bytes of rows.
+fn tree_of(alloc: Global, paths: &[u8], max_bytes: u64) -> Result<Tree, Fail> {
+    let modulus = 1024;
+    let cut = Cut { max_bytes, modulus };
+    Ok(Tree::build(alloc, &map_of(alloc, paths)?, &cut)?)
 }
 
-// The tree of a map with these paths.
-fn tree_of(alloc: Global, paths: &[u8], cut: &Cut) -> Result<Tree, Fail>
-    requires { 0 < cut.now.modulus }
-{
-    Ok(Tree::build(alloc, &map_of(alloc, paths)?, cut)?)
-}
-
-// How many bytes the files of a tree have.
+// How many bytes each file of a tree has.
 fn lens(alloc: Global, tree: &Tree) -> Result<Vec<usize>, Fail> {
     let mut lens = Vec::new(alloc);
     for file in &tree.files(alloc)? {
@@ -49,48 +47,186 @@ fn lens(alloc: Global, tree: &Tree) -> Result<Vec<usize>, Fail> {
     Ok(lens)
 }
 
+// Paths, the most bytes of rows, and the bytes of the metarange and of each range: 5, and 34 for each row.
+const CUTS: [(&[u8], u64, &[usize]); 5] = [
+    (b"", 1048576, &[5]),
+    (b"abz", 1048576, &[47, 107]),
+    (b"abz", 68, &[89, 73, 39]),
+    (b"abz", 67, &[131, 39, 39, 39]),
+    (b"abz", 10, &[131, 39, 39, 39]),
+];
+
 #[test]
 fn trees_are_cut(rt: HostRuntime) -> Result<(), Fail> {
+    for (paths, max_bytes, files) in CUTS {
+        let tree = tree_of(rt.alloc(), paths, max_bytes)?;
+        assert!(rt; lens(rt.alloc(), &tree)?.as_slice() == files);
+    }
+    Ok(())
+}
+
+#[test]
+fn the_empty_map_has_a_metarange_of_five_bytes(rt: HostRuntime) -> Result<(), Fail> {
+    let tree = tree_of(rt.alloc(), b"", 68)?;
+    assert!(rt; tree.name() == Digest::of(b"\x01\x00\x00\x00\x00"));
+    Ok(())
+}
+
+// The paths of a tree above this one, or all.
+fn paths_above(alloc: Global, tree: &Tree, after: Option<&Path>) -> Result<Vec<u8>, Fail> {
+    let mut paths = Vec::new(alloc);
+    let mut cursor = tree.seek(after);
+    while let Some((path, _)) = cursor.next() {
+        paths.extend_from_slice(path.as_slice())?;
+    }
+    Ok(paths)
+}
+
+// A path, whether `a`, `b` or `z` is it, and those above it.
+const PATHS: [(&[u8], bool, &[u8]); 6] = [
+    (b"Z", false, b"abz"),
+    (b"a", true, b"bz"),
+    (b"aa", false, b"bz"),
+    (b"b", true, b"z"),
+    (b"z", true, b""),
+    (b"zz", false, b""),
+];
+
+#[test]
+fn paths_are_found_and_passed(rt: HostRuntime) -> Result<(), Fail> {
     let alloc = rt.alloc();
-    for max_bytes in [68, 67, 10] {
-        let cut = Cut {
-            max_bytes,
-            modulus: 1024,
-        };
-        let tree = tree_of(alloc, b"abz", &cut)?;
-        for n in &lens(alloc, &tree)? {
-            println!(rt; "{n}")?;
+    for max_bytes in [68, 67] {
+        let tree = tree_of(alloc, b"abz", max_bytes)?;
+        assert!(rt; paths_above(alloc, &tree, None)?.as_slice() == b"abz".as_slice());
+        for (path, is_there, above) in PATHS {
+            let path = Path::read(alloc, path)?;
+            assert_eq!(rt; tree.get(&path).is_some(), is_there);
+            assert!(rt; paths_above(alloc, &tree, Some(&path))?.as_slice() == above);
         }
-        let mut cursor = tree.seek(None);
-        while let Some((path, _)) = cursor.next() {
-            println!(rt; "{}", path.as_str())?;
-        }
-        let a = Path::read(alloc, b"a")?;
-        let aa = Path::read(alloc, b"aa")?;
-        let y = Path::read(alloc, b"z")?;
-        assert!(rt; tree.get(&a).is_some());
-        assert!(rt; tree.get(&aa).is_none());
-        assert!(rt; tree.get(&y).is_some());
-        for p in [&a, &aa, &y] {
-            println!(rt; "above {}", p.as_str())?;
-            let mut cursor = tree.seek(Some(p));
-            while let Some((path, _)) = cursor.next() {
-                println!(rt; "{}", path.as_str())?;
-            }
-        }
-        let files = tree.files(alloc)?;
-        let again = Tree::read(alloc, &tree.name(), files.as_slice(), &cut)?;
-        assert!(rt; again.name() == tree.name());
-        for max_bytes in [68, 67, 10] {
-            let cut = Cut {
-                max_bytes,
-                modulus: 1024,
-            };
-            match Tree::read(alloc, &tree.name(), files.as_slice(), &cut) {
-                Ok(_) => println!(rt; "ok")?,
-                Err(e) => println!(rt; "{e}")?,
-            }
-        }
+    }
+    Ok(())
+}
+
+// The fault of reading the tree of `a`, `b` and `z`, in ranges of one row, by ranges of at most so many bytes.
+fn fault_by(alloc: Global, files: &[File], max_bytes: u64) -> Result<Option<TreeFault>, Fail> {
+    let name = tree_of(alloc, b"abz", 67)?.name();
+    let modulus = 1024;
+    let cut = Cut { max_bytes, modulus };
+    Ok(Tree::read(alloc, &name, files, &cut).err())
+}
+
+#[test]
+fn a_tree_is_read_by_its_own_cut(rt: HostRuntime) -> Result<(), Fail> {
+    let files = tree_of(rt.alloc(), b"abz", 67)?.files(rt.alloc())?;
+    for (max_bytes, fault) in [(67, None), (10, None), (68, Some(TreeFault::NotCut(0)))] {
+        assert_eq!(rt; fault_by(rt.alloc(), files.as_slice(), max_bytes)?, fault);
+    }
+    Ok(())
+}
+
+#[test]
+fn a_file_that_is_lost_or_changed_is_told(rt: HostRuntime) -> Result<(), Fail> {
+    let alloc = rt.alloc();
+    for at in 0..4 {
+        let mut files = tree_of(alloc, b"abz", 67)?.files(alloc)?;
+        assert!(rt; at < files.len());
+        let named = files.remove(at).name;
+        let lost = fault_by(alloc, files.as_slice(), 67)?;
+        assert_eq!(rt; lost, Some(TreeFault::Missing(named)));
+        files.push(file(alloc, named, b"")?)?;
+        let found = Digest::of(b"");
+        let changed = fault_by(alloc, files.as_slice(), 67)?;
+        assert_eq!(rt; changed, Some(TreeFault::Damaged { named, found }));
+    }
+    Ok(())
+}
+
+// A file of these bytes.
+fn file(alloc: Global, name: Digest, bytes: &[u8]) -> Result<File, Fail> {
+    let bytes = Sequence::of(Vec::from_slice(alloc, bytes)?);
+    Ok(File { name, bytes })
+}
+
+// A metarange that tells of the range of these bytes, and these four of its count and its paths of one byte.
+fn metarange_of(alloc: Global, range: &[u8], said: &[u8]) -> Result<Vec<u8>, Fail> {
+    let mut metarange = Vec::from_slice(alloc, b"\x01\x00\x00\x00\x01")?;
+    metarange.extend_from_slice(&Digest::of(range).0)?;
+    metarange.extend_from_slice(said)?;
+    Ok(metarange)
+}
+
+// The fault of reading its tree.
+fn fault_of(alloc: Global, range: &[u8], said: &[u8]) -> Result<Option<TreeFault>, Fail> {
+    let metarange = metarange_of(alloc, range, said)?;
+    let name = Digest::of(metarange.as_slice());
+    let mut files = Vec::new(alloc);
+    files.push(file(alloc, name, metarange.as_slice())?)?;
+    files.push(file(alloc, Digest::of(range), range)?)?;
+    Ok(Tree::read(alloc, &name, files.as_slice(), &USUAL_CUT).err())
+}
+
+// What is said of the range of `a`: its count, its first path, its last; one of them wrong; and bytes too many.
+const SAID: [(&[u8], Option<TreeFault>); 7] = [
+    (b"\x00\x00\x00\x01\x00\x01a\x00\x01a", None),
+    (
+        b"\x00\x00\x00\x02\x00\x01a\x00\x01a",
+        Some(TreeFault::Mismatch(0)),
+    ),
+    (
+        b"\x00\x00\x00\x01\x00\x01A\x00\x01a",
+        Some(TreeFault::Mismatch(0)),
+    ),
+    (
+        b"\x00\x00\x00\x01\x00\x01a\x00\x01b",
+        Some(TreeFault::Mismatch(0)),
+    ),
+    (
+        b"\x00\x00\x00\x00",
+        Some(TreeFault::BadMeta(MetaFault::BadRange(0))),
+    ),
+    (
+        b"\x00\x00\x00\x01\x00\x01b\x00\x01a",
+        Some(TreeFault::BadMeta(MetaFault::BadRange(0))),
+    ),
+    (
+        b"\x00\x00\x00\x01\x00\x01a\x00\x01a!!",
+        Some(TreeFault::BadMeta(MetaFault::Trailing(2))),
+    ),
+];
+
+#[test]
+fn a_range_is_the_one_that_the_metarange_tells_of(rt: HostRuntime) -> Result<(), Fail> {
+    for (said, fault) in &SAID {
+        assert_eq!(rt; fault_of(rt.alloc(), ONE, said)?, *fault);
+    }
+    let fault = RangeFault::Empty;
+    let said = b"\x00\x00\x00\x01\x00\x01a\x00\x01a";
+    let empty = fault_of(rt.alloc(), b"\x01\x00\x00\x00\x00", said)?;
+    assert_eq!(rt; empty, Some(TreeFault::Bad { range: 0, fault }));
+    Ok(())
+}
+
+// Metaranges of two ranges, the second behind the first, of `a` to `b`: its first path above, the same and below.
+const SECOND: [(&[u8], Option<MetaFault>); 4] = [
+    (b"\x00\x00\x00\x01\x00\x01c\x00\x01c", None),
+    (b"\x00\x00\x00\x01\x00\x01b", Some(MetaFault::BadRange(1))),
+    (b"\x00\x00\x00\x01\x00\x01a", Some(MetaFault::BadRange(1))),
+    (
+        b"\x00\x00\x00\x01\x00\x01c\x00",
+        Some(MetaFault::Truncated(87)),
+    ),
+];
+
+#[test]
+fn a_range_begins_above_the_one_before(rt: HostRuntime) -> Result<(), Fail> {
+    let alloc = rt.alloc();
+    for (said, fault) in &SECOND {
+        let mut bytes = Vec::from_slice(alloc, b"\x01\x00\x00\x00\x02")?;
+        bytes.extend_from_slice(&[0; 32])?;
+        bytes.extend_from_slice(b"\x00\x00\x00\x02\x00\x01a\x00\x01b")?;
+        bytes.extend_from_slice(&[1; 32])?;
+        bytes.extend_from_slice(said)?;
+        assert_eq!(rt; read_metarange(alloc, bytes.as_slice()).err(), *fault);
     }
     Ok(())
 }

@@ -29,7 +29,7 @@ use lake_format::cut::first_range;
 use lake_values::cursor::EntryCursor;
 use lake_values::entry::Entry;
 use lake_values::key_map::KeyMap;
-use range_file::{Cut, encode};
+use range_file::Cut;
 use std::alloc::Global;
 use std::marker::Model;
 
@@ -75,7 +75,8 @@ impl Tree {
             ranges.push(SharedRange::copy_of(alloc, range)?)?;
             rest = left;
         }
-        Tree::of(alloc, ranges)
+        let tree = Tree::of(alloc, ranges)?;
+        Ok(tree)
     }
 
     /// The entry at the path, by two searches. It takes no memory.
@@ -85,8 +86,13 @@ impl Tree {
         let mut cursor = self.cursor();
         cursor.seek(path.as_slice());
         match cursor.next() {
-            Some((found, entry)) if found == path => Some(entry),
-            _ => None,
+            None => None,
+            Some((found, entry)) => {
+                if found != path {
+                    return None;
+                }
+                Some(entry)
+            }
         }
     }
 
@@ -101,17 +107,15 @@ impl Tree {
     pub fn files(&self, alloc: Global) -> Result<Vec<File>, NoMemory>
         ensures { IfOk result (λ files. files.items ≡ map file_of self.now.files) }
     {
-        let mut files = Vec::with_capacity(alloc, 1 + self.ranges.len())?;
-        let metarange = metarange_bytes(alloc, self.ranges.as_slice())?;
+        let ranges = self.ranges();
+        let metarange = metarange_bytes(alloc, ranges)?;
+        let mut files = Vec::with_capacity(alloc, 1 + ranges.len())?;
         files.push(File {
-            name: self.name,
+            name: self.name(),
             bytes: Sequence::of(metarange),
         })?;
-        for range in &self.ranges {
-            files.push(File {
-                name: range.name(),
-                bytes: Sequence::of(encode(alloc, range.rows())?),
-            })?;
+        for range in ranges {
+            files.push(range.file(alloc)?)?;
         }
         Ok(files)
     }

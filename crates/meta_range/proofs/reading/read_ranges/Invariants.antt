@@ -1,0 +1,10 @@
+use Rattle.std.proofs.Common.{◌≡◌, [], drop, take}
+use Rattle.meta_range.specs.Reading.{read_ranges, AreRead}
+use Rattle.meta_range.proofs.reading.read_ranges.Given as goal
+
+-- the ranges so far, and those still read behind them, are all; what is said of them is said of those so far
+abbrev pub invariant-loop-line : goal.invariant-loop-line
+invariant-loop-line l = record {
+  reads : read_ranges l.files l.ranges.items (drop l.line-index l.lines) ≡ read_ranges l.files [] l.lines;
+  found : AreRead l.files (take l.line-index l.lines) l.ranges.items;
+}
