@@ -1,7 +1,7 @@
 -- The tree of a map, range by range.
-use Rattle.std.proofs.Common.{◌≡◌, ◌<◌, ◌^◌, List, [], ◌∷◌, ◌++◌, length, refl, sym, ap, subst, ◌∙◌, append_assoc, append-nil, arith}
+use Rattle.std.proofs.Common.{◌≡◌, ◌<◌, ◌^◌, List, [], ◌∷◌, ◌++◌, length, sym, ap, subst, ◌∙◌, append_assoc, append-nil, arith}
 use Rattle.std.specs.List.{AllByRecursion}
-use Rattle.std.specs.FinMap.{entries, len, from_sorted, entries_sorted, len-entries}
+use Rattle.std.specs.FinMap.{entries, from_sorted, entries_sorted, len-entries}
 use Rattle.lake_base.specs.Maps.{byte_order, HasAscendingKeys}
 use Rattle.lake_base.proofs.MapsLemmas.{same_again}
 use Rattle.lake_values.specs.KeyMap.{KeyMapValue}
@@ -10,7 +10,7 @@ use Rattle.lake_format.specs.Cutting.{ranges, files}
 use Rattle.lake_format.specs.declared.cut.Cut.{Cut}
 use Rattle.lake_format.proofs.CutLemmas.{ranges_none}
 use Rattle.range_file.specs.Rows.{RowValue}
-use Rattle.meta_range.specs.Ranges.{TreeValue, rows_of, files_of, tree_of, AreRanges}
+use Rattle.meta_range.specs.Ranges.{rows_of, files_of, tree_of, AreRanges}
 use Rattle.meta_range.specs.Files.{FitsTree}
 use Rattle.meta_range.proofs.RangesLemmas.{rows_within, rows_of_cut}
 

@@ -1,26 +1,26 @@
 -- What a cursor over the ranges of a tree has left.
-use Rattle.std.proofs.Common.{T, ◌≡◌, ℕ, zero, suc, ◌-◌, ◌<◌, ◌≤◌, Bool, true, false, cond, not, List, [], ◌∷◌, ◌++◌, length, get_or, take, drop, Option, Some, None, refl, sym, ap, subst, ◌∙◌, arith}
+use Rattle.std.proofs.Common.{T, ◌≡◌, ℕ, zero, suc, ◌-◌, ◌<◌, ◌≤◌, Bool, true, false, cond, not, List, [], ◌∷◌, ◌++◌, length, get_or, take, drop, Some, None, refl, sym, ap, subst, ◌∙◌, arith}
 use Rattle.std.specs.List.{filter, AllByRecursion, AllWithin}
 use Rattle.std.specs.List.Sorted.{IsPartitionedBy}
-use Rattle.std.specs.Ordering.{is_lt, is_eq, eq_by_cmp}
+use Rattle.std.specs.Ordering.{is_lt, is_eq}
 use Rattle.std.specs.FinMap.{find}
 use Rattle.std.specs.FinMap.Entries.{below_all}
 use Rattle.std.specs.Str.{bytes_eq}
 use Rattle.std.specs.declared.cmp.Ordering.{Ordering}
 use Rattle.std.specs.declared.cmp.Ordering.TheVariants.{Less, Equal, Greater}
 use Rattle.std.proofs.lemmas.Cmp.{nat_list_cmp_total, tied_itself}
-use Rattle.std.proofs.lemmas.List.{take-append-drop, append-nil}
+use Rattle.std.proofs.lemmas.List.{take-append-drop}
 use Rattle.std.proofs.lemmas.List.Elements.{filter-append}
 use Rattle.std.proofs.lemmas.Slice.Eq.{bytes_eq-Decides}
 use Rattle.std.proofs.lemmas.Map.Text.{is_eq-slice_cmp}
 use Rattle.lake_base.specs.Maps.{byte_order, HasAscendingKeys}
-use Rattle.lake_base.proofs.MapsLemmas.{first, second, both, less, same_key, turned, below_at, head_below, tail_ascends, less_more, find_none}
+use Rattle.lake_base.proofs.MapsLemmas.{first, second, both, less, turned, below_at, head_below, tail_ascends, less_more, find_none}
 use Rattle.lake_values.specs.Cursor.{entries_from}
 use Rattle.lake_values.proofs.CursorLemmas.{lt_is, below_down, all_kept, front_lost, part_front, kept_len, none_passed, seek_stays, seek_passes, ascends_from}
 use Rattle.lake_format.specs.Spelling.{path_at, IsRange}
 use Rattle.range_file.specs.Rows.{RowValue}
 use Rattle.meta_range.specs.Ranges.{rows_of, rows_above, AreLeft}
-use Rattle.meta_range.proofs.RangesLemmas.{path_is, last_of_more, last_below, all_append, rows_append, ascend_front, ascend_back}
+use Rattle.meta_range.proofs.RangesLemmas.{path_is, last_of_more, last_below, all_append, rows_append, ascend_back}
 
 abbrev is_low : List ℕ → RowValue → Bool
 is_low least row = is_lt (byte_order row.0 least)

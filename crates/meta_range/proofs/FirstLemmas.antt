@@ -1,20 +1,20 @@
 -- Whether rows are the first range of themselves and what follows them, and files found by name.
-use Rattle.std.proofs.Common.{◌≡◌, ℕ, zero, suc, ◌+◌, ◌-◌, ◌<◌, ◌≤◌, Bool, true, false, cond, not, eqb, List, [], ◌∷◌, ◌++◌, length, get_or, take, drop, Option, Some, None, refl, sym, ap, subst, ◌∙◌, inl, inr, drop-cons, add-one, arith}
+use Rattle.std.proofs.Common.{◌≡◌, ℕ, zero, suc, ◌+◌, ◌-◌, ◌<◌, ◌≤◌, true, false, cond, not, eqb, List, [], ◌∷◌, ◌++◌, length, get_or, take, drop, Option, Some, None, refl, sym, ap, subst, ◌∙◌, inl, inr, drop-cons, add-one, arith}
 use Rattle.std.specs.List.{slice_get, find, list_all}
 use Rattle.std.specs.Option.{option_map}
 use Rattle.std.specs.Str.{bytes_eq}
-use Rattle.std.proofs.lemmas.Bool.{cases_Bool, cases_lt, eqb-true, eq-eqb, ne_eqb}
+use Rattle.std.proofs.lemmas.Bool.{cases_Bool, cases_lt, eq-eqb, ne_eqb}
 use Rattle.std.proofs.lemmas.List.{append-nil, length-append, length-take, take_all, get_or_append_left}
 use Rattle.std.proofs.Math.Seq.{take-append_seam, drop-append_seam}
 use Rattle.lake_base.specs.declared.digest.Digest.{Digest}
-use Rattle.lake_format.specs.Spelling.{row_spelling, IsRange}
+use Rattle.lake_format.specs.Spelling.{row_spelling}
 use Rattle.lake_format.specs.Cutting.{is_break, row_bytes, is_range, first_len, ranges}
 use Rattle.lake_format.specs.declared.cut.Cut.{Cut}
 use Rattle.lake_format.proofs.CutLemmas.{IsScanned, IsNextRow, scanned_more, scanned_full, scanned_break, scanned_all, first_can, first_longest, first_below, ranges_of}
 use Rattle.range_file.specs.Rows.{RowValue}
 use Rattle.meta_range.specs.Ranges.{rows_of}
 use Rattle.meta_range.specs.Files.{bytes_named}
-use Rattle.meta_range.specs.Reading.{first_stray, not_cut}
+use Rattle.meta_range.specs.Reading.{first_stray}
 use Rattle.meta_range.specs.declared.file.File.{File}
 
 -- ---- files by name

@@ -1,7 +1,7 @@
 -- Two trees of one name have the same files, or two files of one name.
 use Rattle.std.proofs.Common.{◌≡◌, ◌⊎◌, inl, inr, ℕ, zero, suc, ◌<◌, ◌^◌, List, [], ◌∷◌, ◌++◌, length, take, drop, map, refl, sym, ap, subst, ◌∙◌, arith}
 use Rattle.std.specs.List.{AllByRecursion, Contains}
-use Rattle.std.specs.FinMap.{entries, len, entries_sorted, len-entries}
+use Rattle.std.specs.FinMap.{entries, entries_sorted, len-entries}
 use Rattle.std.specs.Str.{bytes_eq}
 use Rattle.std.proofs.lemmas.Bool.{cases_Bool}
 use Rattle.std.proofs.lemmas.List.{length-take, length-drop, take-append-drop}
@@ -14,7 +14,7 @@ use Rattle.lake_format.proofs.CutLemmas.{first_some, first_below}
 use Rattle.lake_format.specs.declared.cut.Cut.{Cut}
 use Rattle.lake_format.specs.declared.range_line.RangeLine.{RangeLine}
 use Rattle.range_file.specs.Rows.{RowValue}
-use Rattle.meta_range.specs.Ranges.{rows_of, first_file, AreRanges}
+use Rattle.meta_range.specs.Ranges.{first_file, AreRanges}
 use Rattle.meta_range.specs.Files.{FitsTree, Clash}
 use Rattle.meta_range.proofs.RangesLemmas.{rows_of_cut, ascend_front, ascend_back, is_metarange}
 use Rattle.meta_range.proofs.CursorLemmas.{each_front, each_back}

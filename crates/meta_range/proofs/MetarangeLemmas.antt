@@ -1,19 +1,18 @@
 -- What is read of ranges is what was written of them, and what was written is read again.
-use Rattle.std.proofs.Common.{◌≡◌, ℕ, zero, suc, ◌-◌, ◌+◌, ◌^◌, ◌<◌, ◌≤◌, Bool, true, false, cond, eqb, List, [], ◌∷◌, ◌++◌, length, Option, option_map, Result, Ok, Err, refl, sym, ap, subst, ◌∙◌, append_assoc, arith}
+use Rattle.std.proofs.Common.{◌≡◌, ℕ, zero, suc, ◌-◌, ◌+◌, ◌^◌, ◌<◌, ◌≤◌, Bool, true, false, cond, eqb, List, [], ◌∷◌, ◌++◌, length, option_map, Result, Ok, Err, refl, sym, ap, subst, ◌∙◌, append_assoc, arith}
 use Rattle.std.proofs.lemmas.Bool.{eqb-true, eqb-false, ne_eqb}
 use Rattle.std.proofs.lemmas.List.{append-nil, length-append}
 use Rattle.std.proofs.lemmas.List.Concat.{flat_map-cons, flat_map-append}
 use Rattle.std.specs.Int.{w32, to_be_bytes}
 use Rattle.std.specs.Ordering.{is_lt, is_gt}
 use Rattle.std.specs.List.{flat_map, AllByRecursion, slice_get}
-use Rattle.std.specs.declared.cmp.Ordering.TheVariants.{Less}
 use Rattle.lake_base.specs.Maps.{byte_order}
 use Rattle.lake_base.specs.Names.{path_fault}
 use Rattle.lake_base.specs.declared.digest.Digest.{Digest}
 use Rattle.std.specs.Prelude.{None}
 use Rattle.lake_values.proofs.CursorLemmas.{lt_is}
 use Rattle.lake_format.specs.Reading.{read_number, read_bytes, read_path, is_next}
-use Rattle.lake_format.specs.Spelling.{short_text, line_spelling, metarange_spelling, AreBytes, IsDigest, IsSpan, IsLine, IsBelowNext, FollowOn, IsMetarange}
+use Rattle.lake_format.specs.Spelling.{short_text, line_spelling, metarange_spelling, AreBytes, IsDigest, IsLine, FollowOn, IsMetarange}
 use Rattle.lake_format.specs.declared.fields.FieldFault.{FieldFault}
 use Rattle.lake_format.specs.declared.range_line.RangeLine.{RangeLine}
 use Rattle.lake_format.proofs.FieldsLemmas.{Takes, takes_then, wide32, number_takes, number_again, bytes_take, bytes_takes, bytes_again, text_limits, text_takes, text_again, path_of_text, text_of_path}

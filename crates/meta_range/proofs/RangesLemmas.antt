@@ -1,11 +1,10 @@
 -- The ranges of a tree: their rows together, what is said of them, and the cut.
-use Rattle.std.proofs.Common.{T, ◌≡◌, ℕ, zero, suc, ◌-◌, ◌+◌, ◌^◌, ◌<◌, ◌≤◌, ◌%◌, true, false, List, [], ◌∷◌, ◌++◌, length, get_or, take, drop, map, refl, sym, ap, subst, ◌∙◌, append_assoc, arith}
+use Rattle.std.proofs.Common.{T, ◌≡◌, ℕ, zero, suc, ◌-◌, ◌+◌, ◌^◌, ◌<◌, ◌≤◌, false, List, [], ◌∷◌, ◌++◌, length, get_or, take, drop, map, refl, sym, ap, subst, ◌∙◌, append_assoc, arith}
 use Rattle.std.specs.Prelude.{slice_index, None}
 use Rattle.std.specs.Int.{w32, to_be_bytes, byte_at, bytes_high_first}
 use Rattle.std.specs.List.{flat_map, AllByRecursion}
 use Rattle.std.specs.Ordering.{is_gt}
 use Rattle.std.specs.FinMap.Entries.{below_all}
-use Rattle.std.specs.declared.cmp.Ordering.TheVariants.{Less}
 use Rattle.std.proofs.lemmas.Cmp.{nat_list_cmp_total, tied_itself}
 use Rattle.std.proofs.lemmas.List.{append-nil, length-append, length-drop, take-append-drop, take_more}
 use Rattle.sha2.specs.Sha256.{digest_bytes, sha256}
@@ -13,8 +12,7 @@ use Rattle.sha2.proofs.Facts256.{length-sha256}
 use Rattle.lake_base.specs.Maps.{byte_order, HasAscendingKeys}
 use Rattle.lake_base.specs.Names.{path_fault}
 use Rattle.lake_base.proofs.MapsLemmas.{first, second, both, less, below_at, head_below, tail_ascends}
-use Rattle.lake_values.specs.Entry.{EntryValue}
-use Rattle.lake_format.specs.Spelling.{path_at, range_spelling, line_of, line_spelling, AreBytes, IsDigest, IsRow, IsRange, IsSpan, IsLine, IsBelowNext, FollowOn, IsMetarange}
+use Rattle.lake_format.specs.Spelling.{path_at, range_spelling, line_of, AreBytes, IsDigest, IsRow, IsRange, IsLine, IsBelowNext, FollowOn, IsMetarange}
 use Rattle.lake_format.specs.Cutting.{first_len, ranges_within, ranges}
 use Rattle.lake_format.specs.declared.cut.Cut.{Cut}
 use Rattle.lake_format.specs.declared.range_line.RangeLine.{RangeLine}

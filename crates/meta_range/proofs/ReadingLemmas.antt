@@ -1,12 +1,12 @@
 -- A tree that is read has the files that were given, and a tree whose files are given is read.
 use Rattle.std.proofs.Common.{T, inl, inr, ◌≡◌, ℕ, zero, suc, ◌+◌, ◌-◌, ◌<◌, ◌≤◌, ◌^◌, Bool, true, false, cond, ◌&&◌, eqb, List, [], ◌∷◌, ◌++◌, length, get_or, take, drop, map, Option, Some, None, Result, Ok, Err, refl, sym, ap, subst, ◌∙◌, append_assoc, drop-cons, add-one, arith}
 use Rattle.std.specs.List.{AllByRecursion, Contains}
-use Rattle.std.specs.FinMap.{entries, len, from_sorted, entries_sorted, entries-from_sorted, len-entries}
+use Rattle.std.specs.FinMap.{entries, from_sorted, entries-from_sorted, len-entries}
 use Rattle.std.specs.FinMap.Entries.{below_all}
 use Rattle.std.specs.Str.{bytes_eq}
 use Rattle.std.specs.declared.cmp.Ordering.TheVariants.{Less}
 use Rattle.std.specs.Ordering.{is_lt}
-use Rattle.std.proofs.lemmas.Bool.{eqb-true, eqb-false, eq-eqb, cases_Bool}
+use Rattle.std.proofs.lemmas.Bool.{eqb-true, eq-eqb, cases_Bool}
 use Rattle.std.proofs.lemmas.List.{append-nil, length-append, length-take, take_more}
 use Rattle.std.proofs.Math.Seq.{take-append_seam, drop-append_seam}
 use Rattle.std.proofs.lemmas.Slice.Eq.{bytes_eq-Decides}
@@ -21,12 +21,12 @@ use Rattle.lake_format.specs.declared.cut.Cut.{Cut}
 use Rattle.lake_format.specs.declared.range_line.RangeLine.{RangeLine}
 use Rattle.lake_format.proofs.CutLemmas.{ranges_none, ranges_of, first_below}
 use Rattle.range_file.specs.Rows.{RowValue}
-use Rattle.range_file.specs.Reading.{range_from, Fails as RangeFails}
+use Rattle.range_file.specs.Reading.{Fails as RangeFails}
 use Rattle.range_file.specs.declared.fault.RangeFault.{RangeFault}
 use Rattle.range_file.specs.declared.fault.RangeFault.TheVariants.{NoMemory as RangeNoMemory}
 use Rattle.range_file.proofs.ReadingLemmas.{again as range_again}
 use Rattle.meta_range.specs.Steps.{◌>>=◌}
-use Rattle.meta_range.specs.Ranges.{TreeValue, rows_of, metarange_of, files_of, tree_of, first_file, AreRanges}
+use Rattle.meta_range.specs.Ranges.{TreeValue, rows_of, metarange_of, files_of, tree_of, AreRanges}
 use Rattle.meta_range.specs.Files.{bytes_named, FitsTree}
 use Rattle.meta_range.specs.Metarange.{metarange_from, Fails as MetaFails}
 use Rattle.meta_range.specs.Reading.{Fails, whole, read_file, of_metarange, in_metarange, of_range, in_range, is_said, read_range, read_ranges, first_stray, not_cut, cut_of, tree_from, AreGiven, IsTreeOf, IsGiven, IsRead, AreRead}
@@ -34,7 +34,7 @@ use Rattle.meta_range.specs.declared.file.File.{File}
 use Rattle.meta_range.specs.declared.fault.MetaFault.{MetaFault}
 use Rattle.meta_range.specs.declared.fault.MetaFault.TheVariants.{NoMemory as MetaNoMemory}
 use Rattle.meta_range.specs.declared.fault.TreeFault.{TreeFault}
-use Rattle.meta_range.specs.declared.fault.TreeFault.TheVariants.{Missing, Damaged, Mismatch, NotCut, NoMemory}
+use Rattle.meta_range.specs.declared.fault.TreeFault.TheVariants.{Damaged, NotCut, NoMemory}
 use Rattle.meta_range.proofs.RangesLemmas.{all_append, rows_within, rows_of_cut, line_is, is_metarange}
 use Rattle.meta_range.proofs.MetarangeLemmas.{again as metarange_again}
 use Rattle.meta_range.proofs.LawLemmas.{ranges_are}

@@ -1,5 +1,5 @@
 -- Files by their names, and the maps that trees can hold.
-use Rattle.std.specs.Prelude.{◌≡◌, ◌≢◌, ◌<◌, ◌^◌, ℕ, List, map, Option, option_map, find}
+use Rattle.std.specs.Prelude.{◌≡◌, ◌≢◌, ◌<◌, ◌^◌, ℕ, List, Option, option_map, find}
 use Rattle.std.specs.List.{AllByRecursion, Contains}
 use Rattle.std.specs.FinMap.{entries, len}
 use Rattle.std.specs.Str.{bytes_eq}

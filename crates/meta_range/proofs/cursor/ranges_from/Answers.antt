@@ -1,4 +1,4 @@
-use Rattle.std.proofs.Common.{rules, ◌≡◌, ◌++◌, length, ap, sym, ◌∙◌}
+use Rattle.std.proofs.Common.{rules, ◌++◌, length, ap, sym, ◌∙◌}
 use Rattle.std.proofs.lemmas.List.Sorted.{IsPartitionPoint-from_clause}
 use Rattle.lake_values.specs.Cursor.{entries_from}
 use Rattle.meta_range.specs.Ranges.{rows_of}

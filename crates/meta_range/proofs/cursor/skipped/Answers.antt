@@ -1,6 +1,5 @@
-use Rattle.std.proofs.Common.{◌≡◌, ◌<◌, ◌++◌, length, ap, sym, subst, ◌∙◌}
+use Rattle.std.proofs.Common.{◌<◌, ◌++◌, length, ap, sym, subst, ◌∙◌}
 use Rattle.lake_format.proofs.CutLemmas.{some_left, none_left}
-use Rattle.lake_values.specs.Cursor.{entries_from}
 use Rattle.meta_range.specs.Ranges.{rows_of}
 use Rattle.meta_range.proofs.RangesLemmas.{ascend_front, ascend_back}
 use Rattle.meta_range.proofs.CursorLemmas.{rows_stay, rows_gone, left_from}

@@ -1,4 +1,4 @@
-use Rattle.std.proofs.Common.{◌≡◌, ◌≤◌, ◌*◌, ◌^◌, length, take}
+use Rattle.std.proofs.Common.{◌≡◌, ◌≤◌, ◌*◌, length, take}
 use Rattle.meta_range.specs.Ranges.{rows_of}
 use Rattle.meta_range.proofs.reading.count_rows.Given as goal
 

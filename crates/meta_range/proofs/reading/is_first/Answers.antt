@@ -3,7 +3,7 @@ use Rattle.std.specs.Option.{option_copied}
 use Rattle.std.proofs.lemmas.Bool.{eqb-true, eq-eqb, ltb-true, lt-ltb}
 use Rattle.lake_format.specs.Spelling.{row_spelling}
 use Rattle.lake_format.proofs.CutLemmas.{scanned_none}
-use Rattle.lake_format.specs.Cutting.{is_break, first_len}
+use Rattle.lake_format.specs.Cutting.{is_break}
 use Rattle.range_file.specs.Rows.{RowValue}
 use Rattle.meta_range.proofs.FirstLemmas.{first_full, first_break, first_more, first_ends, first_goes_on, first_alone}
 use Rattle.meta_range.proofs.reading.is_first.Goals as goal

@@ -1,4 +1,4 @@
-use Rattle.std.proofs.Common.{[], ◌∷◌, ◌++◌, length, ap, sym, subst, ◌∙◌, take, drop, ◌+◌}
+use Rattle.std.proofs.Common.{[], length, ap, sym, subst, ◌∙◌, take, drop, ◌+◌}
 use Rattle.std.proofs.lemmas.List.{take_all}
 use Rattle.std.proofs.lemmas.Result.{err_from_is_err_and}
 use Rattle.meta_range.specs.Reading.{Fails, read_range, read_ranges, AreRead}

@@ -1,11 +1,11 @@
-use Rattle.std.proofs.Common.{◌∷◌, [], ◌++◌, ap, sym, subst, ◌∙◌, arith}
+use Rattle.std.proofs.Common.{◌∷◌, [], ap, sym, subst, ◌∙◌, arith}
 use Rattle.std.specs.List.{AllByRecursion}
 use Rattle.lake_base.specs.Maps.{HasAscendingKeys}
 use Rattle.lake_base.proofs.MapsLemmas.{ascends_drop}
 use Rattle.lake_format.specs.Spelling.{IsRange}
 use Rattle.lake_format.specs.Cutting.{first_len, ranges}
 use Rattle.lake_format.proofs.CutLemmas.{first_of, some_left, none_left}
-use Rattle.meta_range.specs.Ranges.{TreeValue, AreRanges}
+use Rattle.meta_range.specs.Ranges.{TreeValue}
 use Rattle.meta_range.proofs.RangesLemmas.{all_append, ascend_take}
 use Rattle.meta_range.proofs.BuildLemmas.{one_more, all_made, is_made}
 use Rattle.meta_range.proofs.tree.Tree.build.Goals as goal
