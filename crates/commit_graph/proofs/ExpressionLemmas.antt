@@ -1,13 +1,13 @@
 -- Numbers and moves of expressions: what is scanned is the longest, and nothing else could be meant.
 use Rattle.std.proofs.Common.{◌≡◌, get_or, take, drop, drop-cons, add-one, ℕ, zero, suc, ◌-◌, ◌+◌, ◌*◌, ◌^◌, ◌<◌, ◌≤◌, Bool, true, false, cond, eqb, ltb, ◌&&◌, List, [], ◌∷◌, ◌++◌, length, Option, Some, None, refl, sym, ap, subst, ◌∙◌, append_assoc, inl, inr, arith}
-use Rattle.std.proofs.lemmas.Bool.{cases_Bool, eqb-true, eqb-false, ne_eqb, ltb-false, le-ltb, ltb-true, lt-ltb}
+use Rattle.std.proofs.lemmas.Bool.{cases_Bool, eqb-true, ltb-true, lt-ltb}
 use Rattle.std.proofs.lemmas.Bool.Decides.{nat_tests}
 use Rattle.std.proofs.lemmas.List.{append-nil, length-append, length-drop, drop_all, take_all}
 use Rattle.std.specs.List.{AllByRecursion}
 use Rattle.lake_base.specs.Names.{is_digit, continues_ref}
 use Rattle.commit_graph.specs.declared.expression.Move.{Move}
 use Rattle.commit_graph.specs.declared.expression.Move.TheVariants.{Back, Parent}
-use Rattle.commit_graph.specs.Expressions.{decimal, AreDigits, IsNumber, sign, number_of, AreMoves}
+use Rattle.commit_graph.specs.Expressions.{decimal, IsNumber, sign, number_of, AreMoves}
 use Rattle.commit_graph.specs.Scanning.{takes_digit, number_from, read_number, read_move, BeginsLike, IsScanned, tail_len}
 
 both_true : (a b : Bool) → (a && b) ≡ true → (a ≡ true) × (b ≡ true)

@@ -1,6 +1,6 @@
 -- The name at the front of an expression, and what the whole text then is.
-use Rattle.std.proofs.Common.{◌≡◌, ℕ, zero, suc, ◌-◌, ◌+◌, ◌<◌, ◌≤◌, Bool, true, false, not, cond, eqb, ltb, List, [], ◌∷◌, ◌++◌, length, take, drop, position, Option, Some, None, option_map, Result, Ok, Err, refl, sym, ap, subst, ◌∙◌, append_assoc, inl, inr, arith}
-use Rattle.std.proofs.lemmas.Bool.{cases_Bool, eqb-true, ne_eqb, ltb-false, le-ltb}
+use Rattle.std.proofs.Common.{◌≡◌, ℕ, zero, suc, ◌-◌, ◌+◌, ◌≤◌, Bool, true, false, not, cond, eqb, ltb, List, [], ◌∷◌, ◌++◌, length, take, drop, position, Option, Some, None, option_map, Result, Err, refl, sym, ap, subst, ◌∙◌, append_assoc, inl, inr, arith}
+use Rattle.std.proofs.lemmas.Bool.{cases_Bool, ne_eqb, ltb-false, le-ltb}
 use Rattle.std.proofs.lemmas.List.{append-nil, length-append, take_at, drop_at}
 use Rattle.std.specs.List.{AllByRecursion, position_or_len}
 use Rattle.lake_base.specs.Names.{ref_fault, bad_byte, begins_ref, continues_ref}
@@ -9,7 +9,7 @@ use Rattle.lake_base.specs.declared.names.NameFault.TheVariants.{Empty, TooLong,
 use Rattle.lake_base.proofs.NamesLemmas.{all_pass}
 use Rattle.commit_graph.specs.declared.expression.Move.{Move}
 use Rattle.commit_graph.specs.declared.expression.Move.TheVariants.{Back, Parent}
-use Rattle.commit_graph.specs.Expressions.{RefExprValue, AreMoves, at_sign, NoAt, sign, IsExpression, Begins, IsStray}
+use Rattle.commit_graph.specs.Expressions.{RefExprValue, AreMoves, at_sign, NoAt, IsExpression, IsStray}
 use Rattle.commit_graph.specs.declared.expression.ExprFault.{ExprFault}
 use Rattle.commit_graph.specs.declared.expression.ExprFault.TheVariants.{Bad, NoMemory}
 use Rattle.commit_graph.specs.Scanning.{BeginsLike, IsScanned, IsStopped, StopsMoves, read_move, tail_len, name_len}

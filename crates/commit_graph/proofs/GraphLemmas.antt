@@ -1,6 +1,6 @@
 -- The commits of a graph: their look-ups in the tree that keeps them, and a graph with one commit more.
-use Rattle.std.proofs.Common.{◌≡◌, ℕ, zero, suc, ◌+◌, ◌≤◌, T, Bool, true, false, cond, List, [], ◌∷◌, ◌++◌, length, Option, Some, None, refl, sym, ap, subst, ◌∙◌, map as list_map, arith, Bor, inl, inr, ◌⊎◌, ◌<◌, get_or, drop, add-one, drop-cons, eqb, rules, not, append_assoc}
-use Rattle.std.proofs.lemmas.Bool.{cases_Bool, cases_lt, eqb-true}
+use Rattle.std.proofs.Common.{◌≡◌, ℕ, suc, ◌+◌, ◌≤◌, Bool, true, false, cond, List, [], ◌∷◌, ◌++◌, length, Option, Some, None, refl, sym, ap, subst, ◌∙◌, map as list_map, arith, Bor, inl, inr, ◌⊎◌, ◌<◌, get_or, drop, add-one, drop-cons, eqb, rules, not, append_assoc}
+use Rattle.std.proofs.lemmas.Bool.{cases_Bool, eqb-true}
 use Rattle.std.proofs.lemmas.List.{nil_from_length}
 use Rattle.std.proofs.lemmas.List.Elements.{All-contains, All-from_recursion}
 use Rattle.std.proofs.lemmas.Option.{slice_get-map}
@@ -30,7 +30,7 @@ use Rattle.std.specs.declared.cmp.Ordering.{Ordering}
 use Rattle.lake_base.specs.Maps.{byte_order}
 use Rattle.lake_base.specs.declared.digest.Digest.{Digest}
 use Rattle.lake_values.specs.Commit.{CommitRecordValue}
-use Rattle.lake_values.specs.Ancestry.{Graph, graph_of, commit_of, id_of, parents_in, parents, generation, due_generation, IsDue, IsGraph}
+use Rattle.lake_values.specs.Ancestry.{Graph, graph_of, commit_of, id_of, parents_in, parents, generation, due_generation, IsDue}
 use Rattle.commit_graph.specs.Graphs.{IsNamed, IsSound}
 
 -- ids in the order of a tree's keys

@@ -8,7 +8,7 @@ use Rattle.std.specs.List.{flat_map, AllByRecursion}
 use Rattle.lake_base.specs.declared.digest.Digest.{Digest}
 use Rattle.lake_values.specs.Commit.{CommitRecordValue}
 use Rattle.lake_format.specs.Reading.{◌>>=◌, Fails, read_number, read_bytes, read_text, read_long_text, read_metadata}
-use Rattle.lake_format.specs.Spelling.{short_text, long_text, pairs_spelling, commit_spelling, AreBytes, IsDigest, IsText, IsSpelledCommit}
+use Rattle.lake_format.specs.Spelling.{short_text, long_text, pairs_spelling, commit_spelling, AreBytes, IsDigest, IsSpelledCommit}
 use Rattle.lake_format.specs.declared.fields.FieldFault.{FieldFault}
 use Rattle.lake_format.specs.declared.fields.FieldFault.TheVariants.{Short, Bad, NoMemory}
 use Rattle.lake_format.proofs.FieldsLemmas.{bind_ok, guard_ok, ok_is, Takes, takes_then, wide16, wide64, number_takes, number_again, bytes_take, bytes_takes, bytes_again, text_limits, text_takes, text_again, long_text_limits, long_text_takes, long_text_again}

@@ -1,5 +1,5 @@
 -- The walk of first parents, and where moves lead.
-use Rattle.std.proofs.Common.{◌≡◌, ℕ, zero, suc, ◌-◌, ◌+◌, ◌<◌, ◌≤◌, List, [], ◌∷◌, ◌++◌, length, get_or, drop, Option, Some, None, Result, Ok, Err, Bor, true, false, refl, sym, ap, subst, ◌∙◌, inl, inr, add-one, drop-cons, arith}
+use Rattle.std.proofs.Common.{◌≡◌, ℕ, zero, suc, ◌+◌, ◌<◌, ◌≤◌, List, [], ◌∷◌, ◌++◌, length, get_or, drop, Option, Some, None, Ok, Err, Bor, true, false, refl, sym, ap, subst, ◌∙◌, inl, inr, add-one, drop-cons, arith}
 use Rattle.std.proofs.lemmas.Bool.{cases_lt}
 use Rattle.std.proofs.lemmas.List.{append-nil, nil_from_length, length-drop}
 use Rattle.std.specs.List.{Contains, slice_get}
@@ -7,7 +7,6 @@ use Rattle.std.specs.Option.{unwrap_or, option_map, option_map_or, option_and_th
 use Rattle.lake_base.specs.declared.digest.Digest.{Digest}
 use Rattle.lake_values.specs.Commit.{CommitRecordValue}
 use Rattle.lake_values.specs.Ancestry.{Graph, commit_of, parents_in, parents, generation, first_parent, back, walk_within, walk, IsGraph}
-use Rattle.commit_graph.specs.Graphs.{IsSound}
 use Rattle.commit_graph.specs.Moves.{moved, resolved}
 use Rattle.commit_graph.specs.declared.expression.Move.{Move}
 use Rattle.commit_graph.specs.declared.expression.Move.TheVariants.{Back, Parent}

@@ -1,5 +1,5 @@
 -- Expressions of commits: which texts they are, and where a text stops being one.
-use Rattle.std.specs.Prelude.{◌≡◌, ◌+◌, ◌-◌, ◌*◌, ◌<◌, ◌≤◌, ◌^◌, ℕ, Bool, true, false, List, [], ◌∷◌, ◌++◌, length, take, None, Result, Ok, Err}
+use Rattle.std.specs.Prelude.{◌≡◌, ◌+◌, ◌-◌, ◌*◌, ◌<◌, ◌≤◌, ◌^◌, ℕ, Bool, true, false, List, [], ◌∷◌, ◌++◌, length, take, None}
 use Rattle.std.specs.List.{AllByRecursion}
 use Rattle.lake_base.specs.Names.{ref_fault, is_digit}
 use Rattle.commit_graph.specs.declared.expression.Move.{Move}

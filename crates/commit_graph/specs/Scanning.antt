@@ -1,5 +1,5 @@
 -- Reading an expression from the left: the longest name, and the longest number of each move.
-use Rattle.std.specs.Prelude.{◌≡◌, ◌+◌, ◌-◌, ◌*◌, ◌==◌, ◌&&◌, ◌≤◌, ℕ, zero, suc, Bool, true, false, List, [], ◌∷◌, ◌++◌, length, nat_lt, Option, Some, None, if◌then◌else◌}
+use Rattle.std.specs.Prelude.{◌≡◌, ◌+◌, ◌-◌, ◌*◌, ◌==◌, ◌&&◌, ◌≤◌, ℕ, zero, suc, Bool, List, [], ◌∷◌, ◌++◌, length, nat_lt, Option, Some, None, if◌then◌else◌}
 use Rattle.lake_base.specs.Names.{begins_ref, continues_ref, is_digit}
 use Rattle.commit_graph.specs.declared.expression.Move.{Move}
 use Rattle.commit_graph.specs.declared.expression.Move.TheVariants.{Back, Parent}

@@ -148,23 +148,19 @@ impl Graph {
 
     /// The walk of first parents: the commit itself, its first parent, and so on. Nothing where there is no such
     /// commit.
-    pub fn first_parents(
-        &self,
-        alloc: Global,
-        from: &CommitId,
-    ) -> Result<Sequence<CommitId>, NoMemory>
-        ensures { IfOk result (λ ids. ids ≡ walk self.now from.now) }
+    pub fn first_parents(&self, alloc: Global, from: &CommitId) -> Result<Vec<CommitId>, NoMemory>
+        ensures { IfOk result (λ ids. ids.items ≡ walk self.now from.now) }
     {
         let mut ids = Vec::new(alloc);
         let mut at = *from;
         for _ in 0..self.generation(from) {
             ids.push(at)?;
             let Some(parent) = self.first_parent(&at) else {
-                return Ok(Sequence::of(ids));
+                return Ok(ids);
             };
             at = parent;
         }
-        Ok(Sequence::of(ids))
+        Ok(ids)
     }
 
     // Where a move leads.

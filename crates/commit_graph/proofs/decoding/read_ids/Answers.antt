@@ -1,6 +1,5 @@
-use Rattle.std.proofs.Common.{[], ap, sym, subst, ◌∙◌}
+use Rattle.std.proofs.Common.{[]}
 use Rattle.std.proofs.lemmas.Result.{err_from_is_err_and}
-use Rattle.lake_format.specs.Reading.{Fails}
 use Rattle.commit_graph.specs.Reading.{read_ids}
 use Rattle.commit_graph.proofs.ReadingLemmas.{goes_on, ends, is_done}
 use Rattle.commit_graph.proofs.decoding.read_ids.Goals as goal

@@ -4,7 +4,7 @@ use Rattle.lake_base.specs.Digest.{sha256}
 use Rattle.lake_values.specs.Commit.{CommitRecordValue}
 use Rattle.lake_values.specs.Ancestry.{graph_of, commit_of, id_of}
 use Rattle.lake_format.specs.Spelling.{commit_id}
-use Rattle.commit_graph.specs.Graphs.{IsNamed, IsSound}
+use Rattle.commit_graph.specs.Graphs.{IsSound}
 use Rattle.commit_graph.specs.Adding.{missing_parent}
 use Rattle.commit_graph.specs.declared.fault.GraphFault.TheVariants.{NoParent}
 use Rattle.commit_graph.proofs.ReadingLemmas.{apart}

@@ -10,7 +10,7 @@ pub returns-in_default : goal.returns-in_default
 returns-in_default c =
     let g = c.args.self.now in
     let lt : c.loop.counter < generation g c.args.from.now = omega (arith, c.generation-end.ensures) in
-    c.of.ensures ∙ c.in_ok-push.ensures.items ∙ walk_ends g c.loop.counter c.args.from.now c.loop.at c.loop.ids.items c.loop.invariant.so_far (c.loop.invariant.stands lt) c.in_default.ensures lt
+    c.in_ok-push.ensures.items ∙ walk_ends g c.loop.counter c.args.from.now c.loop.at c.loop.ids.items c.loop.invariant.so_far (c.loop.invariant.stands lt) c.in_default.ensures lt
 
 pub loop-preserved : goal.loop-preserved
 loop-preserved c =
@@ -26,4 +26,4 @@ pub returns : goal.returns
 returns c =
     let g = c.args.self.now in
     let end : c.loop.counter ≡ generation g c.args.from.now = omega (arith, c.generation-end.ensures) in
-    c.of-2.ensures ∙ walk_whole g c.loop.counter c.args.from.now c.loop.ids.items c.loop.invariant.so_far end
+    walk_whole g c.loop.counter c.args.from.now c.loop.ids.items c.loop.invariant.so_far end

@@ -1,4 +1,4 @@
-use Rattle.std.proofs.Common.{◌≡◌, ◌<◌, ◌≤◌, Some}
+use Rattle.std.proofs.Common.{◌≡◌, ◌<◌, Some}
 use Rattle.lake_values.specs.Ancestry.{generation, back, walk_within}
 use Rattle.commit_graph.proofs.graph.Graph.first_parents.Given as goal
 

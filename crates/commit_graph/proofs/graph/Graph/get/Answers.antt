@@ -1,5 +1,4 @@
-use Rattle.std.proofs.Common.{◌∙◌, ap, sym}
-use Rattle.lake_values.specs.Ancestry.{commit_of}
+use Rattle.std.proofs.Common.{◌∙◌, sym}
 use Rattle.commit_graph.proofs.GraphLemmas.{commit_from}
 use Rattle.commit_graph.proofs.graph.Graph.get.Goals as goal
 
