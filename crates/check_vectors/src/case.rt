@@ -1,4 +1,4 @@
-//! A line as a case: its members by name.
+//! A line: the name of a kind, or a case, its members by name.
 
 use crate::fault::CaseFault;
 use serde_json::{Map, Value};
@@ -35,31 +35,46 @@ impl Form {
     }
 }
 
-/// A line's members. Those of the question are taken out, so that the answer that is due is left.
+/// What stands on a line.
+#[derive(Drop)]
+pub enum Line {
+    /// The name of the kind of the cases after it.
+    Kind(String),
+    /// A case.
+    Case(Case),
+}
+
+impl Line {
+    /// Reads a line.
+    pub fn read(alloc: Global, line: &[u8]) -> Result<Line, CaseFault> {
+        match Value::from_slice(alloc, line) {
+            Ok(value) => Line::of(value),
+            Err(error) if error.is_memory() => Err(CaseFault::NoMemory),
+            Err(_) => Err(CaseFault::NotJson),
+        }
+    }
+
+    // The line of this value.
+    fn of(value: Value) -> Result<Line, CaseFault> {
+        match value {
+            Value::String(name) => Ok(Line::Kind(name)),
+            Value::Object(members) => Ok(Line::Case(Case::of(members))),
+            _ => Err(CaseFault::NotObject),
+        }
+    }
+}
+
+/// A case's members. Those of the question are taken out, so that the answer that is due is left.
 #[derive(Drop)]
 pub struct Case {
     members: Map<String, Value>,
 }
 
 impl Case {
-    /// The case of a line, without what it is about.
-    pub fn read(alloc: Global, line: &[u8]) -> Result<Case, CaseFault> {
-        match Value::from_slice(alloc, line) {
-            Ok(value) => Case::of(value),
-            Err(error) if error.is_memory() => Err(CaseFault::NoMemory),
-            Err(_) => Err(CaseFault::NotJson),
-        }
-    }
-
-    // The case of a line's value.
-    fn of(value: Value) -> Result<Case, CaseFault> {
-        match value {
-            Value::Object(mut members) => {
-                let _about = members.remove("about");
-                Ok(Case { members })
-            }
-            _ => Err(CaseFault::NotObject),
-        }
+    // The case of these members, without what it is about.
+    fn of(mut members: Map<String, Value>) -> Case {
+        let _about = members.remove("about");
+        Case { members }
     }
 
     /// Whether a fault is due.
@@ -88,6 +103,27 @@ impl Case {
         match self.take(name)? {
             Value::Array(list) => Ok(list),
             _ => Err(CaseFault::Malformed(name)),
+        }
+    }
+
+    /// Takes out a member that is a number.
+    pub fn take_number(&mut self, name: &'static str) -> Result<u64, CaseFault> {
+        match self.take(name)?.as_u64() {
+            Some(number) => Ok(number),
+            None => Err(CaseFault::Malformed(name)),
+        }
+    }
+
+    /// The answer that is due, of these members, or else the fault that is.
+    pub fn answer_or_fault(
+        self,
+        alloc: Global,
+        forms: &[(&'static str, Form)],
+    ) -> Result<Value, CaseFault> {
+        if self.has_fault() {
+            self.answer(alloc, &[("fault", Form::Fault)])
+        } else {
+            self.answer(alloc, forms)
         }
     }
 

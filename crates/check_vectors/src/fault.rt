@@ -12,6 +12,8 @@ pub enum CaseFault {
     NotJson,
     /// It is JSON, and no object.
     NotObject,
+    /// No kind has the last name of one.
+    UnknownKind,
     /// It asks nothing that is known.
     UnknownAsk,
     /// It has a member that isn't known, of this name.
@@ -29,6 +31,7 @@ impl fmt::Display for CaseFault {
         match self {
             CaseFault::NotJson => f.write_str("it isn't JSON"),
             CaseFault::NotObject => f.write_str("it is no object"),
+            CaseFault::UnknownKind => f.write_str("its kind isn't known"),
             CaseFault::UnknownAsk => f.write_str("it asks nothing that is known"),
             CaseFault::UnknownMember(name) => write!(f, "its member {name} isn't known"),
             CaseFault::Missing(name) => write!(f, "it lacks the member \"{name}\""),

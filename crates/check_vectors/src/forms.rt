@@ -1,11 +1,12 @@
 //! The forms that members have in common: JSON in a text, hex, paths, entries, changes and metadata. Each reader is
 //! told the member's name, which its fault has.
 
+use crate::case::Case;
 use crate::fault::CaseFault;
 use hex::FromHexError;
-use lake_base::{NameFault, NoMemory, Path, RefName, Text};
+use lake_base::{Digest, NameFault, NoMemory, Path, RefName, Text};
 use lake_format::{EntryFault, entry_read};
-use lake_values::{Change, Changes, Entry, Pairs, are_pairs, has_ascending_keys};
+use lake_values::{Change, Changes, Entry, KeyMap, Pairs, are_pairs, has_ascending_keys};
 use serde_json::{Map, Value};
 use std::alloc::Global;
 
@@ -54,8 +55,33 @@ pub fn bytes_of(alloc: Global, value: &Value, member: &'static str) -> Result<Ve
     }
 }
 
-// The bytes of a path or a text: those of a JSON string, or of `{"hex":".."}`.
-fn text_bytes(alloc: Global, value: &Value, member: &'static str) -> Result<Vec<u8>, CaseFault> {
+/// Takes bytes out of a case.
+pub fn take_bytes(
+    alloc: Global,
+    case: &mut Case,
+    member: &'static str,
+) -> Result<Vec<u8>, CaseFault> {
+    let value = case.take(member)?;
+    bytes_of(alloc, &value, member)
+}
+
+/// A digest, of its lower-case hex.
+pub fn digest_of(value: &Value, member: &'static str) -> Result<Digest, CaseFault> {
+    let Some(digits) = value.as_str() else {
+        return Err(CaseFault::Malformed(member));
+    };
+    match Digest::read(digits.as_bytes()) {
+        Ok(digest) => Ok(digest),
+        Err(_) => Err(CaseFault::Malformed(member)),
+    }
+}
+
+/// The bytes of a path or a text: those of a JSON string, or of `{"hex":".."}`.
+pub fn text_bytes(
+    alloc: Global,
+    value: &Value,
+    member: &'static str,
+) -> Result<Vec<u8>, CaseFault> {
     match value {
         Value::String(text) => Ok(text.as_bytes().to_vec(alloc)?),
         Value::Object(names) if names.len() == 1 => match names.get("hex") {
@@ -102,8 +128,8 @@ pub fn change_of(alloc: Global, value: &Value, member: &'static str) -> Result<C
     }
 }
 
-// The two values of a list of two.
-fn pair_of<'a>(
+/// The two values of a list of two.
+pub fn pair_of<'a>(
     value: &'a Value,
     member: &'static str,
 ) -> Result<(&'a Value, &'a Value), CaseFault> {
@@ -140,6 +166,31 @@ pub fn changes_of(
     }
     if has_ascending_keys(changes.as_slice()) {
         Ok(Changes::from_vec(changes))
+    } else {
+        Err(CaseFault::Malformed(member))
+    }
+}
+
+// A path and its entry.
+fn path_and_entry(
+    alloc: Global,
+    value: &Value,
+    member: &'static str,
+) -> Result<(Path, Entry), CaseFault> {
+    let (path, entry) = pair_of(value, member)?;
+    let path = path_of(alloc, path, member)?;
+    let entry = entry_of(alloc, entry, member)?;
+    Ok((path, entry))
+}
+
+/// A key map, whose paths strictly ascend.
+pub fn map_of(alloc: Global, list: &[Value], member: &'static str) -> Result<KeyMap, CaseFault> {
+    let mut entries = Vec::with_capacity(alloc, list.len())?;
+    for value in list {
+        entries.push(path_and_entry(alloc, value, member)?)?;
+    }
+    if has_ascending_keys(entries.as_slice()) {
+        Ok(KeyMap::from_vec(entries))
     } else {
         Err(CaseFault::Malformed(member))
     }

@@ -1,28 +1,56 @@
 //! The program `check_vectors`: it reads cases from standard input, a line of JSON each, asks the crates, and reports
 //! where their answer isn't the one that the line says is due.
 //!
-//! - `case`: a line as a case, its members by name; `fault`: why a line is no case.
-//! - `forms`: the forms that members have in common.
-//! - `rules`: the cases of settings.
+//! - `case`: a line, the name of a kind or a case, its members by name; `fault`: why a line is no case.
+//! - `forms`, `tree_forms`: the forms that members have in common; `answers`: what the crates answer, as JSON values.
+//! - `kind`: the kinds of cases, a module each: `rules`, of settings; `ranges`, `metaranges`, `trees` and `tree_reads`, of
+//!   the files of trees; `commits` and `expressions`, of commits.
 //! - `report`: what is reported.
 #![tactic(auto)]
 
+mod answers;
 mod case;
+mod commits;
+mod expressions;
 mod fault;
 mod forms;
+mod kind;
+mod metaranges;
+mod ranges;
 mod report;
 mod rules;
+mod tree_forms;
+mod tree_reads;
+mod trees;
 
-use crate::case::Case;
+use crate::case::Line;
 use crate::fault::CaseFault;
+use crate::kind::Kind;
 use crate::report::{Tally, Verdict};
 use std::alloc::Global;
 use std::io::{self, BufRead, BufReader, BufWriter, Write};
 use std::process::ExitCode;
 
-// What comes of one line.
-fn check(alloc: Global, line: &[u8]) -> Result<Verdict, CaseFault> {
-    rules::check(alloc, Case::read(alloc, line)?)
+// What comes of one line, whose kind is this one, or one that isn't known. A line that names a kind sets it.
+fn check(alloc: Global, kind: &mut Option<Kind>, line: &[u8]) -> Result<Verdict, CaseFault> {
+    match Line::read(alloc, line)? {
+        Line::Kind(name) => {
+            *kind = Kind::named(name.as_str());
+            named(*kind)
+        }
+        Line::Case(case) => match *kind {
+            Some(kind) => kind.check(alloc, case),
+            None => Err(CaseFault::UnknownKind),
+        },
+    }
+}
+
+// What comes of a line that names this kind, or one that isn't known.
+fn named(kind: Option<Kind>) -> Result<Verdict, CaseFault> {
+    match kind {
+        Some(_) => Ok(Verdict::Named),
+        None => Err(CaseFault::UnknownKind),
+    }
 }
 
 // Checks the cases of a reader, a line each.
@@ -32,13 +60,14 @@ fn check_lines<R: BufRead, W: Write>(
     out: &mut W,
 ) -> io::Result<Tally> {
     let mut tally = Tally::new();
+    let mut kind = Some(Kind::Rules);
     let mut line = Vec::new(alloc);
     for number in 1..u64::MAX {
         line.clear();
         if reader.read_until(b'\n', &mut line)? == 0 {
             break;
         }
-        tally.record(out, number, check(alloc, line.as_slice()))?;
+        tally.record(out, number, check(alloc, &mut kind, line.as_slice()))?;
     }
     tally.write(out)?;
     Ok(tally)

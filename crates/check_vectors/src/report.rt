@@ -15,6 +15,8 @@ pub enum Verdict {
         due: Value,
         had: Value,
     },
+    /// It names a kind, and is no case.
+    Named,
     /// What it asks is not built yet.
     NotBuilt,
 }
@@ -62,6 +64,7 @@ impl Tally {
     ) -> io::Result<()> {
         match found {
             Ok(Verdict::Same) => self.same = self.same.saturating_add(1),
+            Ok(Verdict::Named) => {}
             Ok(Verdict::NotBuilt) => self.not_built = self.not_built.saturating_add(1),
             Ok(Verdict::Differs { kind, due, had }) => {
                 self.differ = self.differ.saturating_add(1);

@@ -27,23 +27,15 @@ pub fn check_setting(alloc: Global, ask: Ask, mut case: Case) -> Result<Verdict,
 
 // The answer that is due of the reading of a setting: a fault, or its rules, which for retention are an object.
 fn setting_due(alloc: Global, ask: Ask, case: Case) -> Result<Value, CaseFault> {
-    if case.has_fault() {
-        return fault_due(alloc, case);
-    }
     match ask {
         Ask::ReadRetention => rules_due(alloc, case, Form::Object),
         _ => rules_due(alloc, case, Form::List),
     }
 }
 
-// The fault that is due.
-fn fault_due(alloc: Global, case: Case) -> Result<Value, CaseFault> {
-    case.answer(alloc, &[("fault", Form::Fault)])
-}
-
-// The rules that are due, of this form, and the text that is kept of them.
+// The rules that are due, of this form, and the text that is kept of them, or else the fault that is.
 fn rules_due(alloc: Global, case: Case, rules: Form) -> Result<Value, CaseFault> {
-    case.answer(alloc, &[("rules", rules), ("written", Form::Text)])
+    case.answer_or_fault(alloc, &[("rules", rules), ("written", Form::Text)])
 }
 
 // What the crates answer of a setting that is hooks.

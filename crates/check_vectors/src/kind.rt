@@ -1,0 +1,48 @@
+//! The kinds of cases, each by the name that a line of its own gives it.
+
+use crate::case::Case;
+use crate::fault::CaseFault;
+use crate::report::Verdict;
+use crate::{commits, expressions, metaranges, ranges, rules, tree_reads, trees};
+use std::alloc::Global;
+
+/// What cases are about.
+#[derive(Clone, Copy)]
+pub enum Kind {
+    Rules,
+    Ranges,
+    Metaranges,
+    Trees,
+    TreeReads,
+    Commits,
+    Expressions,
+}
+
+impl Kind {
+    /// The kind of this name.
+    pub fn named(name: &str) -> Option<Kind> {
+        match name {
+            "rules" => Some(Kind::Rules),
+            "ranges" => Some(Kind::Ranges),
+            "metaranges" => Some(Kind::Metaranges),
+            "trees" => Some(Kind::Trees),
+            "tree_reads" => Some(Kind::TreeReads),
+            "commits" => Some(Kind::Commits),
+            "expressions" => Some(Kind::Expressions),
+            _ => None,
+        }
+    }
+
+    /// Asks the crates, and compares the answer with the one that is due.
+    pub fn check(self, alloc: Global, case: Case) -> Result<Verdict, CaseFault> {
+        match self {
+            Kind::Rules => rules::check(alloc, case),
+            Kind::Ranges => ranges::check(alloc, case),
+            Kind::Metaranges => metaranges::check(alloc, case),
+            Kind::Trees => trees::check(alloc, case),
+            Kind::TreeReads => tree_reads::check(alloc, case),
+            Kind::Commits => commits::check(alloc, case),
+            Kind::Expressions => expressions::check(alloc, case),
+        }
+    }
+}

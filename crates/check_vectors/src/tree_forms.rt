@@ -1,0 +1,75 @@
+//! The forms of trees: a cut and files, read and answered, and the map of a tree.
+ghost use Rattle.std.specs.Prelude.{◌<◌, IfOk};
+
+use crate::answers::{bytes_value, digest_value, pair_value, row_value};
+use crate::case::Case;
+use crate::fault::CaseFault;
+use crate::forms::{bytes_of, digest_of, pair_of};
+use lake_base::{NoMemory, Sequence};
+use lake_values::EntryCursor;
+use meta_range::{File, Tree};
+use range_file::Cut;
+use serde_json::Value;
+use std::alloc::Global;
+
+/// Takes a cut out of a case: its modulus isn't 0.
+pub fn take_cut(case: &mut Case) -> Result<Cut, CaseFault>
+    ensures { IfOk result (λ cut. 0 < cut.modulus) }
+{
+    let max_bytes = case.take_number("max_bytes")?;
+    let modulus = case.take_number("modulus")?;
+    if modulus == 0 {
+        return Err(CaseFault::Malformed("modulus"));
+    }
+    Ok(Cut { max_bytes, modulus })
+}
+
+// A file, of its name and its bytes.
+fn file_of(alloc: Global, value: &Value, member: &'static str) -> Result<File, CaseFault> {
+    let (name, bytes) = pair_of(value, member)?;
+    let name = digest_of(name, member)?;
+    let bytes = Sequence::of(bytes_of(alloc, bytes, member)?);
+    Ok(File { name, bytes })
+}
+
+/// Files.
+pub fn files_of(
+    alloc: Global,
+    list: &[Value],
+    member: &'static str,
+) -> Result<Vec<File>, CaseFault> {
+    let mut files = Vec::with_capacity(alloc, list.len())?;
+    for value in list {
+        files.push(file_of(alloc, value, member)?)?;
+    }
+    Ok(files)
+}
+
+// A file, as its name and its bytes.
+fn file_value(alloc: Global, file: &File) -> Result<Value, NoMemory> {
+    let name = digest_value(alloc, &file.name)?;
+    let bytes = bytes_value(alloc, file.bytes.as_slice())?;
+    pair_value(alloc, name, bytes)
+}
+
+/// Files, as answered.
+pub fn files_value(alloc: Global, files: &[File]) -> Result<Value, NoMemory> {
+    let mut list = Vec::with_capacity(alloc, files.len())?;
+    for file in files {
+        list.push(file_value(alloc, file)?)?;
+    }
+    Ok(Value::Array(list))
+}
+
+/// The map of a tree.
+pub fn map_value(alloc: Global, tree: &Tree) -> Result<Value, NoMemory> {
+    let mut list = Vec::new(alloc);
+    let mut cursor = tree.seek(None);
+    for _ in 0..u64::MAX {
+        let Some((path, entry)) = cursor.next() else {
+            break;
+        };
+        list.push(row_value(alloc, path, entry)?)?;
+    }
+    Ok(Value::Array(list))
+}
