@@ -1,16 +1,14 @@
--- The first common ancestor of a list, in the order of the log, and the base as a function.
-use Rattle.std.proofs.Common.{◌≡◌, ℕ, ◌+◌, ◌<◌, ◌≤◌, Bool, true, false, cond, List, length, get_or, Some, None, Option, refl, sym, ap, subst}
+-- The first common ancestor of a list, in the order of the log.
+use Rattle.std.proofs.Common.{◌≡◌, ℕ, ◌+◌, ◌<◌, ◌≤◌, Bool, true, false, cond, List, length, get_or, Some, None, Option, refl, sym, subst}
 use Rattle.std.specs.Option.{MatchOption}
 use Rattle.std.specs.List.{AllWithin}
 use Rattle.std.proofs.lemmas.List.Elements.{AllWithin-more, at_read}
 use Rattle.lake_values.specs.Commit.{CommitRecordValue}
-use Rattle.lake_values.specs.Ancestry.{Graph, graph_of, IsGraph, IsCommon, is_ancestor, comes_first, ancestors_in_order, base, IsBase}
+use Rattle.lake_values.specs.Ancestry.{Graph, graph_of, IsCommon, comes_first, IsBase}
 use Rattle.lake_base.specs.declared.digest.Digest.{Digest}
 use Rattle.lake_reference.specs.AncestrySteps.{first_of}
-use Rattle.lake_reference.proofs.OrderLemmas.{find_first, find_none, same_place}
-use Rattle.lake_reference.proofs.AncestryOrderLemmas.{log_total, log_same, not_before_itself, still_after}
+use Rattle.lake_values.proofs.AncestryOrderLemmas.{not_before_itself, still_after}
 use Rattle.lake_reference.proofs.AncestryReachLemmas.{listed, within_contains}
-use Rattle.lake_reference.proofs.AncestorsLemmas.{ancestor_from, ancestor_to, ancestors_from, ancestors_to, ancestors_ascend}
 
 -- the best of the first commits of a list that are ancestors of both
 abbrev pub BestOf : Graph → Digest → Digest → List (Digest × CommitRecordValue) → ℕ → Option Digest → Type 0
@@ -61,47 +59,3 @@ best_of_all cs a b i end (Some best) (common, all) = record {
       let w = listed cs id c.0.0 in
       subst (λ d. comes_first (graph_of cs) d best ≡ false) w.2 (within_contains (λ y. IsCommon (graph_of cs) a b y.0 → comes_first (graph_of cs) y.0 best ≡ false) cs i w.0 end all w.1 (subst (IsCommon (graph_of cs) a b) (sym w.2) c));
 }
-
--- ---- the base as a function
-
-module _ (g : Graph) (graph : IsGraph g) (a b : Digest) where
-  -- it is a common ancestor, and the first
-  pub base_is : (c : Digest) → base g a b ≡ Some c → IsBase g a b c
-  unfolding base
-  base_is c is =
-      let told = find_first (log_total g) (λ old. is_ancestor g old b) (ancestors_in_order g a) (ancestors_ascend g a) c is in
-      record {
-        common = (ancestors_from g graph a c told.0, ancestor_from g graph c b told.1);
-        first = λ other both. told.2 other (ancestors_to g graph a other both.0) (ancestor_to g graph other b both.1);
-      }
-
-  -- none means that there is no common ancestor
-  pub base_none : base g a b ≡ None → (id : Digest) → IsCommon g a b id → ⊥
-  unfolding base
-  base_none is id both =
-      find_none (λ old. is_ancestor g old b) (ancestors_in_order g a) is id (ancestors_to g graph a id both.0) (ancestor_to g graph id b both.1)
-
-  -- there is one base at most
-  one_base : (c d : Digest) → IsBase g a b c → IsBase g a b d → c ≡ d
-  one_base c d x y = same_place (log_total g) (log_same g) c d (y.first c x.common) (x.first d y.common)
-
-  -- the base is what the function gives
-  pub base_some : (c : Digest) → IsBase g a b c → base g a b ≡ Some c
-  base_some c x = by (base g a b) refl
-    where
-      by : (o : Option Digest) → base g a b ≡ o → o ≡ Some c
-      by (Some d) e = ap Some (one_base d c (base_is d e) x)
-      by None e = absurd (base_none e c x.common)
-
-  -- where there is no common ancestor, it gives none
-  pub no_base : ((id : Digest) → IsCommon g a b id → ⊥) → base g a b ≡ None
-  no_base never = by (base g a b) refl
-    where
-      by : (o : Option Digest) → base g a b ≡ o → o ≡ None
-      by (Some d) e = absurd (never d (base_is d e).common)
-      by None e = refl
-
-  -- the answer of a search for it
-  pub base_answered : (r : Option Digest) → MatchOption r ((id : Digest) → IsCommon g a b id → ⊥) (IsBase g a b) → r ≡ base g a b
-  base_answered None never = sym (no_base never)
-  base_answered (Some c) is = sym (base_some c is)

@@ -1,7 +1,6 @@
 -- Look-ups in the graph of a list of commits.
-use Rattle.std.proofs.Common.{◌≡◌, ℕ, suc, ◌+◌, ◌<◌, ◌≤◌, Bool, true, false, cond, List, [], ◌∷◌, length, get_or, drop, Some, None, refl, sym, ap, ◌∙◌, add-one, drop-cons, arith}
+use Rattle.std.proofs.Common.{◌≡◌, ℕ, suc, ◌+◌, ◌<◌, true, false, cond, List, [], ◌∷◌, length, get_or, drop, Some, None, sym, ap, ◌∙◌, add-one, drop-cons}
 use Rattle.std.proofs.Math.Seq.{drop-length}
-use Rattle.std.specs.Option.{unwrap_or, option_map}
 use Rattle.std.specs.Ordering.{eq_by_cmp}
 use Rattle.std.specs.Str.{bytes_eq}
 use Rattle.std.specs.FinMap.{get-insert, get-empty}
@@ -10,12 +9,9 @@ use Rattle.std.proofs.lemmas.Map.Text.{is_eq-slice_cmp}
 use Rattle.std.proofs.lemmas.Slice.Eq.{bytes_eq-Decides}
 use Rattle.lake_values.specs.Commit.{CommitRecordValue}
 use Rattle.lake_base.specs.Maps.{byte_order}
-use Rattle.lake_values.specs.Ancestry.{Graph, graph_of, commit_of, parents_in, parents, generation, date, due_generation}
+use Rattle.lake_values.specs.Ancestry.{graph_of, commit_of}
 use Rattle.lake_base.specs.declared.digest.Digest.{Digest}
-
-pub otherwise : (r : Bool) → (r ≡ true → ⊥) → r ≡ false
-otherwise true never = absurd (never refl)
-otherwise false never = refl
+use Rattle.lake_values.proofs.AncestryLemmas.{otherwise}
 
 -- the bytes of two ids tie exactly if they are the same
 tied : (a b : List ℕ) → a ≡ b → eq_by_cmp byte_order a b ≡ true
@@ -55,34 +51,3 @@ module _ (cs : List (Digest × CommitRecordValue)) (id : Digest) (i : ℕ) (seen
 
   pub found_nowhere : i ≡ length cs → None ≡ commit_of (graph_of cs) id
   found_nowhere e = sym (seen ∙ ap (λ l. commit_of (graph_of l) id) (ap (λ n. drop n cs) e ∙ drop-length cs) ∙ no_commit id)
-
--- what is said of a commit that is there, and of one that is not
-module _ (graph : Graph) (id : Digest) where
-  pub parents_some : (c : CommitRecordValue) → Some c ≡ commit_of graph id → c.parents ≡ parents graph id
-  unfolding parents
-  parents_some c e = ap parents_in e
-
-  pub parents_none : None ≡ commit_of graph id → [] ≡ parents graph id
-  unfolding parents
-  parents_none e = ap parents_in e
-
-  pub generation_some : (c : CommitRecordValue) → Some c ≡ commit_of graph id → c.generation ≡ generation graph id
-  unfolding generation
-  generation_some c e = ap (λ o. unwrap_or (option_map (λ (x : CommitRecordValue). x.generation) o) 0) e
-
-  pub generation_none : None ≡ commit_of graph id → 0 ≡ generation graph id
-  unfolding generation
-  generation_none e = ap (λ o. unwrap_or (option_map (λ (x : CommitRecordValue). x.generation) o) 0) e
-
-  pub date_some : (c : CommitRecordValue) → Some c ≡ commit_of graph id → c.date ≡ date graph id
-  unfolding date
-  date_some c e = ap (λ o. unwrap_or (option_map (λ (x : CommitRecordValue). x.date) o) 0) e
-
-  pub date_none : None ≡ commit_of graph id → 0 ≡ date graph id
-  unfolding date
-  date_none e = ap (λ o. unwrap_or (option_map (λ (x : CommitRecordValue). x.date) o) 0) e
-
--- the generation due is not 0
-pub due_some : (graph : Graph) (ids : List Digest) → 1 ≤ due_generation graph ids
-due_some graph [] = omega arith
-due_some graph (id ∷ ids) = omega (arith, due_some graph ids)

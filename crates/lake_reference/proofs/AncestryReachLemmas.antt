@@ -1,5 +1,5 @@
--- Which commits are reached, and within how many steps.
-use Rattle.std.proofs.Common.{◌≡◌, ℕ, zero, suc, ◌+◌, ◌-◌, ◌<◌, ◌≤◌, ◌↔◌, Bool, true, false, List, [], ◌∷◌, length, get_or, refl, sym, ap, subst, ◌∙◌, arith, MatchBool}
+-- The commits of a list, and what tests of their bytes tell.
+use Rattle.std.proofs.Common.{◌≡◌, ℕ, zero, suc, ◌+◌, ◌<◌, ◌≤◌, ◌↔◌, Bool, true, false, List, [], ◌∷◌, length, get_or, refl, sym, ap, subst, ◌∙◌, arith, MatchBool}
 use Rattle.std.specs.Bool.{IsTrue}
 use Rattle.std.specs.Option.{IsSome, is_some}
 use Rattle.std.specs.Str.{bytes_eq}
@@ -8,18 +8,11 @@ use Rattle.std.proofs.lemmas.List.{get_or_default}
 use Rattle.std.proofs.lemmas.List.Elements.{Contains-get_or, AllWithin-more, at_read}
 use Rattle.std.proofs.lemmas.Slice.Eq.{bytes_eq-Decides}
 use Rattle.lake_values.specs.Commit.{CommitRecordValue}
-use Rattle.lake_values.specs.Ancestry.{Graph, graph_of, commit_of, parents, IsDue, IsGraph, Reaches}
+use Rattle.lake_values.specs.Ancestry.{Graph, graph_of, commit_of, IsDue, IsGraph}
 use Rattle.lake_base.specs.declared.digest.Digest.{Digest}
-use Rattle.lake_reference.specs.AncestrySteps.{IsReachedWithin}
-use Rattle.lake_reference.proofs.OrderLemmas.{Contains-first, Contains-later}
+use Rattle.lake_values.proofs.OrderLemmas.{Contains-first, Contains-later}
+use Rattle.lake_values.proofs.AncestryLemmas.{differ, one_id}
 use Rattle.lake_reference.proofs.AncestryGraphLemmas.{first_is, first_not, no_commit}
-
-pub differ : true ≡ false → ⊥
-differ e = cc
-
--- ids of the same bytes are one
-pub same_id : (a b : Digest) → a.0 ≡ b.0 → a ≡ b
-same_id a b e = λ i. record { 0 = e i }
 
 -- ---- the commits of a list
 
@@ -45,7 +38,7 @@ pub listed : (cs : List (Digest × CommitRecordValue)) (id : Digest) → IsSome 
 listed [] id some = absurd (differ (sym some ∙ ap is_some (no_commit id)))
 listed (y ∷ cs) id some =
     by_bytes y.0.0 id.0
-    (λ same. (y, Contains-first y cs, same_id y.0 id same))
+    (λ same. (y, Contains-first y cs, one_id y.0 id same))
     (λ other. let w = listed cs id (ap is_some (sym (first_not y cs id other)) ∙ some) in (w.0, Contains-later y w.0 cs w.1, w.2))
 
 pub graph_from_all : (cs : List (Digest × CommitRecordValue)) (g : Graph) → g ≡ graph_of cs → ((x : Digest × CommitRecordValue) → Contains cs x → IsDue g x.0) → IsGraph g
@@ -65,27 +58,7 @@ graph_tested (c ∷ cs) false some = (
   λ graph. absurd (some.2 c (graph (get_or (c ∷ cs) some.0 c).0 (stands (c ∷ cs) (get_or (c ∷ cs) some.0 c) (Contains-get_or (c ∷ cs) some.0 c some.1)))),
 )
 
--- ---- in so many steps
-
-pub reached_here : (g : Graph) (steps : ℕ) (old id : Digest) → id.0 ≡ old.0 → IsReachedWithin g steps old id
-unfolding Reaches
-reached_here g steps old id e = (0, omega arith, same_id id old e)
-
-pub reached_through : (g : Graph) (steps : ℕ) (old id parent : Digest) → 0 < steps → Contains (parents g id) parent → IsReachedWithin g (steps - 1) old parent → IsReachedWithin g steps old id
-unfolding Reaches
-reached_through g steps old id parent some has (n, le, r) = (suc n, omega arith, (parent, has, r))
-
--- no step leads there, and none is left
-pub reached_not : (g : Graph) (old id : Digest) → (id.0 ≡ old.0 → ⊥) → IsReachedWithin g 0 old id → ⊥
-unfolding Reaches
-reached_not g old id other (zero, le, r) = other (ap (λ d. d.0) r)
-reached_not g old id other (suc n, le, r) = absurd (omega arith)
-
--- no parent leads there
-pub reached_never : (g : Graph) (steps : ℕ) (old id : Digest) → (id.0 ≡ old.0 → ⊥) → ((parent : Digest) → Contains (parents g id) parent → IsReachedWithin g (steps - 1) old parent → ⊥) → IsReachedWithin g steps old id → ⊥
-unfolding Reaches
-reached_never g steps old id other none (zero, le, r) = other (ap (λ d. d.0) r)
-reached_never g steps old id other none (suc n, le, (parent, has, r)) = none parent has (n, omega arith, r)
+-- ---- tests
 
 pub true_for : {P : Type 0} → P → IsTrue true ↔ P
 true_for p = (λ _. p, λ _. refl)

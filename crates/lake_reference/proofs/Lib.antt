@@ -1,14 +1,10 @@
-pub mod AncestorsLemmas
 pub mod AncestryBaseLemmas
 pub mod AncestryGraphLemmas
-pub mod AncestryOrderLemmas
 pub mod AncestryReachLemmas
-pub mod AncestryWalkLemmas
 pub mod FilesLemmas
 pub mod FilesLineLemmas
 pub mod HooksLemmas
 pub mod MergeLemmas
-pub mod OrderLemmas
 pub mod OrderPlaceLemmas
 pub mod RetentionKeptLemmas
 pub mod RetentionLemmas

@@ -17,7 +17,7 @@ use Rattle.lake_base.specs.declared.digest.Digest.{Digest}
 use Rattle.std.specs.Option.{IsSome}
 use Rattle.lake_reference.specs.OrderSteps.{with_item}
 use Rattle.lake_reference.proofs.AncestryReachLemmas.{listed, within_contains}
-use Rattle.lake_reference.proofs.OrderLemmas.{Contains-first, Contains-later, Contains-nothing, first_or_later, same_ascending}
+use Rattle.lake_values.proofs.OrderLemmas.{Contains-first, Contains-later, Contains-nothing, first_or_later, same_ascending}
 
 -- ---- the place of an item
 

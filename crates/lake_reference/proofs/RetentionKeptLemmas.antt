@@ -9,16 +9,15 @@ use Rattle.lake_values.specs.Ancestry.{Graph, IsGraph, id_order, ids, same_id, d
 use Rattle.lake_values.specs.Keeping.{cutoff, days_of, IsHead, IsFollower, IsFollowed, IsYoung, IsKeptBy, IsKept, is_id, is_head, is_follower, is_followed, is_young, is_kept, kept}
 use Rattle.lake_values.specs.Settings.{RulesValue}
 use Rattle.lake_base.specs.declared.digest.Digest.{Digest}
-use Rattle.lake_reference.proofs.AncestryOrderLemmas.{ids_from, ids_to, ids_ascend}
-use Rattle.lake_reference.proofs.AncestryReachLemmas.{differ}
-use Rattle.lake_reference.proofs.AncestryReachLemmas as reach
-use Rattle.lake_reference.proofs.AncestryWalkLemmas.{walk_from, walk_to}
-use Rattle.lake_reference.proofs.OrderLemmas.{any_from, any_to, Contains-filter, Contains-from_filter}
+use Rattle.lake_values.proofs.AncestryOrderLemmas.{ids_from, ids_to, ids_ascend}
+use Rattle.lake_values.proofs.AncestryLemmas.{differ, one_id}
+use Rattle.lake_values.proofs.AncestryWalkLemmas.{walk_from, walk_to}
+use Rattle.lake_values.proofs.OrderLemmas.{any_from, any_to, Contains-filter, Contains-from_filter}
 
 -- ---- tests
 
 same_from : (a b : Digest) → same_id a b ≡ true → b ≡ a
-same_from a b t = sym (reach.same_id a b ((bytes_eq-Decides a.0 b.0).0 t))
+same_from a b t = sym (one_id a b ((bytes_eq-Decides a.0 b.0).0 t))
 
 same_to : (a b : Digest) → b ≡ a → same_id a b ≡ true
 same_to a b e = (bytes_eq-Decides a.0 b.0).1 (ap (λ (d : Digest). d.0) (sym e))

@@ -13,8 +13,8 @@
 ghost use Rattle.std.specs.Prelude.{◌≡◌, ◌↔◌, ◌+◌, ◌<◌, ◌≤◌, ◌^◌, ℕ, length, slice_get, IsSome, IsTrue, Some, None, IfOk, OnOk, OnErr, MatchOption, option_copied};
 ghost use Rattle.std.specs.List.{Contains, insert};
 ghost use Rattle.std.specs.List.Sorted.{IsStrictlySortedBy};
-ghost use Rattle.lake_values.specs.Ancestry.{Graph, graph_of, commit_of, id_order, ids, parents, generation, date, due_generation, IsGraph, IsDue, Reaches, IsAncestor, IsCommon, is_ancestor, log_order, comes_first, ancestors_in_order, base, IsBase, back, first_parent, IsOnWalk, walk};
-ghost use Rattle.lake_reference.specs.AncestrySteps.{IsReachedWithin, first_of};
+ghost use Rattle.lake_values.specs.Ancestry.{Graph, graph_of, commit_of, id_order, ids, parents, generation, date, due_generation, IsGraph, IsDue, Reaches, IsReachedWithin, IsAncestor, IsCommon, is_ancestor, log_order, comes_first, ancestors_in_order, base, IsBase, back, first_parent, IsOnWalk, walk};
+ghost use Rattle.lake_reference.specs.AncestrySteps.{first_of};
 ghost use Rattle.lake_reference.specs.OrderSteps.{with_item};
 ghost use Rattle.lake_base.specs.declared.digest.Digest.{Digest as Id};
 

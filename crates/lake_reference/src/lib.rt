@@ -1,4 +1,4 @@
-//! The reference: merges, commit graphs, retention, the files of trees, and rules, plainly and slowly.
+//! The reference: merges, commit graphs, retention, the files of trees, and patterns, plainly and slowly.
 //!
 //! Each function's contract is a definition of `lake_values` or `lake_format`, and its body looks at all that there is, in the order
 //! of the definition. Tests run it on worked values, which shows that the definitions say what was meant; a reader
@@ -9,7 +9,7 @@
 //! - `merge`: the answer of a merge, and the paths that conflict, with the laws of both.
 //! - `retention`: which commits the rules keep, one by one and as a list, with its law.
 //! - `segments`, `files`: the runs of rows between break keys, and the files of a tree.
-//! - `hooks`: patterns, protected branches and what hooks deny.
+//! - `hooks`: patterns and protected branches.
 #![tactic(auto)]
 
 pub mod ancestry;

@@ -38,7 +38,8 @@ module _ {X : Type 0} where
   rest_ascends p None rest h = h
   rest_ascends p (Some x) rest h = tail_ascends (p, x) rest h
 
-  rows_ascend : (p : List ℕ) (value : Option X) (rest : List (List ℕ × X)) → T (below_all byte_order p rest) → HasAscendingKeys rest → HasAscendingKeys (rows_at p value ++ rest)
+  -- a value at a key below a list that ascends
+  pub rows_ascend : (p : List ℕ) (value : Option X) (rest : List (List ℕ × X)) → T (below_all byte_order p rest) → HasAscendingKeys rest → HasAscendingKeys (rows_at p value ++ rest)
   rows_ascend p None rest h sorted = sorted
   rows_ascend p (Some x) rest h sorted = both _ _ h sorted
 

@@ -127,7 +127,7 @@ same_value_is None (Some y) e = absurd cc
 same_value_is (Some x) None e = absurd cc
 same_value_is (Some x) (Some y) e = ap Some ((same_entry_decides x y).0 e)
 
-same_as_itself : (v : Option EntryValue) → same_value v v ≡ true
+pub same_as_itself : (v : Option EntryValue) → same_value v v ≡ true
 same_as_itself None = refl
 same_as_itself (Some x) = (same_entry_decides x x).1 refl
 

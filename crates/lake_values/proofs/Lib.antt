@@ -1,6 +1,12 @@
+pub mod AncestryLemmas
+pub mod AncestryOrderLemmas
+pub mod AncestryWalkLemmas
 pub mod CursorLemmas
 pub mod JoinLemmas
 pub mod KeyMapLemmas
+pub mod LogLemmas
+pub mod MergingLemmas
+pub mod OrderLemmas
 pub mod PairsLemmas
 pub mod ResetLemmas
 pub mod RetentionLemmas

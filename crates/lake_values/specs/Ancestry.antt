@@ -1,6 +1,6 @@
 -- Commit graphs: ancestors, generations, the order of the log, the merge base, and the way back by first parents
 -- (Git's words; that a base is of greatest generation and then of least id is this project's profile).
-use Rattle.std.specs.Prelude.{◌≡◌, ◌+◌, ◌++◌, ◌&&◌, ◌||◌, false, ℕ, zero, suc, max, Bool, List, [], ◌∷◌, map, slice_get, Option, Some, None, IsSome, is_some, option_map, option_and_then}
+use Rattle.std.specs.Prelude.{◌≡◌, ◌≤◌, ◌+◌, ◌++◌, ◌&&◌, ◌||◌, false, ℕ, zero, suc, max, Bool, List, [], ◌∷◌, map, slice_get, Option, Some, None, IsSome, is_some, option_map, option_and_then}
 use Rattle.std.specs.Option.{unwrap_or, option_to_list}
 use Rattle.std.specs.Ordering.{is_lt, nat_cmp, ordering_then}
 use Rattle.std.specs.declared.cmp.Ordering.{Ordering}
@@ -82,6 +82,10 @@ IsAncestor graph old id = IsSome (commit_of graph old) × ((steps : ℕ) × Reac
 -- an ancestor of both
 abbrev pub IsCommon : Graph → Digest → Digest → Digest → Type 0
 IsCommon graph a b old = IsAncestor graph old a × IsAncestor graph old b
+
+-- reached in at most so many steps
+abbrev pub IsReachedWithin : Graph → ℕ → Digest → Digest → Type 0
+IsReachedWithin graph most old id = (steps : ℕ) × (steps ≤ most) × Reaches graph steps id old
 
 -- whether a commit reaches that one by parents in at most so many steps
 unfoldable pub is_reached : Graph → ℕ → Digest → Digest → Bool

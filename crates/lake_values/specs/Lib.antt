@@ -7,6 +7,7 @@ pub mod HookDecisions
 pub mod Join
 pub mod Keeping
 pub mod KeyMap
+pub mod Log
 pub mod Merging
 pub mod Pairs
 pub mod Reset

@@ -125,9 +125,28 @@ impl TryCopy for KeyMap {
     }
 }
 
+/// The change of a path that has this new value and had that old one: none where the two are equal, else a put of
+/// the new entry, or a deletion.
+pub fn change_between(
+    alloc: Global,
+    new: Option<&Entry>,
+    old: Option<&Entry>,
+) -> Result<Option<Change>, NoMemory>
+    ensures { IfOk result (λ change.
+        change ≡ change_between (option_copied new.entry) (option_copied old.entry)) }
+{
+    if same_value(new, old) {
+        return Ok(None);
+    }
+    match new {
+        Some(entry) => Ok(Some(Change::Put(entry.copy(alloc)?))),
+        None => Ok(Some(Change::Delete)),
+    }
+}
+
 /// What changes say at their paths and a map elsewhere, and what new changes say at theirs and old ones
 /// elsewhere. Changes over changes are applied as one after the other. One change over others is that change
-/// set in them. Of three, it is one which two are put together first. (A law: it does nothing.)
+/// set in them. Putting changes over changes is associative. (A law: it does nothing.)
 pub fn laws_of_changes()
     ensures applied { (changes : ChangesValue) (old : KeyMapValue) (path : List ℕ)
         → map.get (apply changes old) path ≡ value_after (map.get changes path) (map.get old path) }
@@ -201,13 +220,7 @@ impl Join for Difference {
         new: Option<&Entry>,
         old: Option<&Entry>,
     ) -> Result<Option<Change>, NoMemory> {
-        if same_value(new, old) {
-            return Ok(None);
-        }
-        match new {
-            Some(entry) => Ok(Some(Change::Put(entry.copy(alloc)?))),
-            None => Ok(Some(Change::Delete)),
-        }
+        change_between(alloc, new, old)
     }
 
     ghost nothing = { refl };

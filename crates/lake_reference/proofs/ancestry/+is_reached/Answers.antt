@@ -1,10 +1,10 @@
 use Rattle.std.proofs.Common.{◌-◌, ◌<◌, [], get_or, subst, sym, ◌∙◌, arith}
 use Rattle.std.specs.List.{Contains}
 use Rattle.std.proofs.lemmas.List.Elements.{Contains-get_or}
-use Rattle.lake_values.specs.Ancestry.{graph_of, parents}
+use Rattle.lake_values.specs.Ancestry.{graph_of, parents, IsReachedWithin}
 use Rattle.lake_base.specs.declared.digest.Digest.{Digest}
-use Rattle.lake_reference.specs.AncestrySteps.{IsReachedWithin}
-use Rattle.lake_reference.proofs.AncestryReachLemmas.{true_for, false_for, same_bytes, other_bytes, reached_here, reached_not, reached_through, reached_never, one_more, within_contains, differ}
+use Rattle.lake_values.proofs.AncestryLemmas.{reached_here, reached_not, reached_through, reached_never, differ}
+use Rattle.lake_reference.proofs.AncestryReachLemmas.{true_for, false_for, same_bytes, other_bytes, one_more, within_contains}
 use Rattle.lake_reference.proofs.ancestry.+is_reached.Goals as goal
 
 pub returns-then-eq : goal.returns-then-eq

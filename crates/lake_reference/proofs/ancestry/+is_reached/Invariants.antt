@@ -1,7 +1,6 @@
 use Rattle.std.proofs.Common.{◌-◌}
 use Rattle.std.specs.List.{AllWithin}
-use Rattle.lake_values.specs.Ancestry.{graph_of}
-use Rattle.lake_reference.specs.AncestrySteps.{IsReachedWithin}
+use Rattle.lake_values.specs.Ancestry.{graph_of, IsReachedWithin}
 use Rattle.lake_reference.proofs.ancestry.+is_reached.Given as goal
 
 -- the steps that are left

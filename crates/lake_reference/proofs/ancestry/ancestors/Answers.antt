@@ -1,8 +1,7 @@
 use Rattle.std.proofs.Common.{◌+◌, ap, subst, sym, ◌∙◌}
 use Rattle.lake_values.specs.Ancestry.{graph_of, IsAncestor, log_order, ancestors_in_order}
-use Rattle.lake_reference.proofs.AncestorsLemmas.{ancestors_from, ancestors_to, ancestors_ascend}
-use Rattle.lake_reference.proofs.AncestryOrderLemmas.{log_total, log_same}
-use Rattle.lake_reference.proofs.AncestryReachLemmas.{differ}
+use Rattle.lake_values.proofs.AncestryOrderLemmas.{ancestors_from, ancestors_to, ancestors_ascend, log_total, log_same}
+use Rattle.lake_values.proofs.AncestryLemmas.{differ}
 use Rattle.lake_reference.proofs.OrderPlaceLemmas.{HasThose, those_start, those_more, those_same, those_all}
 use Rattle.lake_reference.proofs.ancestry.ancestors.Goals as goal
 use Rattle.lake_reference.proofs.ancestry.ancestors.Goals.{then-is_ancestor+in_ok-put_in_log, else-is_ancestor}

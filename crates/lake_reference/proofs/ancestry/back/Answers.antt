@@ -1,7 +1,7 @@
 use Rattle.std.proofs.Common.{sym, ap, ◌∙◌, arith}
 use Rattle.std.specs.Option.{IsSome, is_some}
 use Rattle.lake_values.specs.Ancestry.{graph_of, commit_of}
-use Rattle.lake_reference.proofs.AncestryWalkLemmas.{there_where_found, none_where_none, starts, no_walk, back_past, back_next, back_ends}
+use Rattle.lake_values.proofs.AncestryWalkLemmas.{there_where_found, none_where_none, starts, no_walk, back_past, back_next, back_ends}
 use Rattle.lake_reference.proofs.ancestry.back.Goals as goal
 
 pub returns-in_err-commit_of : goal.returns-in_err-commit_of

@@ -1,9 +1,10 @@
 use Rattle.std.proofs.Common.{◌+◌, sym, subst, ◌∙◌, ap, Some}
 use Rattle.lake_values.specs.Ancestry.{graph_of}
-use Rattle.lake_reference.proofs.AncestryBaseLemmas.{BestOf, best_stays, best_more, best_of_all, base_answered}
-use Rattle.lake_reference.proofs.AncestryReachLemmas.{differ}
+use Rattle.lake_reference.proofs.AncestryBaseLemmas.{BestOf, best_stays, best_more, best_of_all}
+use Rattle.lake_values.proofs.AncestryOrderLemmas.{base_answered}
 use Rattle.lake_reference.proofs.ancestry.base.Goals as goal
 use Rattle.lake_reference.proofs.ancestry.base.Goals.{then-is_common, else-is_common}
+use Rattle.lake_values.proofs.AncestryLemmas.{differ}
 
 pub loop-id-preserved : goal.loop-id-preserved
 loop-id-preserved c =

@@ -1,7 +1,7 @@
 use Rattle.std.proofs.Common.{ap, ◌∙◌}
 use Rattle.lake_values.specs.Ancestry.{graph_of}
 use Rattle.lake_values.specs.Commit.{CommitRecordValue}
-use Rattle.lake_reference.proofs.AncestryGraphLemmas.{date_some, date_none}
+use Rattle.lake_values.proofs.AncestryLemmas.{date_some, date_none}
 use Rattle.lake_reference.proofs.ancestry.date.Goals as goal
 
 pub returns-in-Some : goal.returns-in-Some

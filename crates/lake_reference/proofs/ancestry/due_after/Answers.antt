@@ -1,6 +1,6 @@
 use Rattle.std.proofs.Common.{arith}
 use Rattle.lake_values.specs.Ancestry.{graph_of}
-use Rattle.lake_reference.proofs.AncestryGraphLemmas.{due_some}
+use Rattle.lake_values.proofs.AncestryLemmas.{due_some}
 use Rattle.lake_reference.proofs.ancestry.due_after.Goals as goal
 
 pub loop-parent-init : goal.loop-parent-init

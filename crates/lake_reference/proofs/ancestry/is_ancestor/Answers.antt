@@ -1,8 +1,8 @@
 use Rattle.std.proofs.Common.{sym, ◌∙◌}
 use Rattle.std.specs.Option.{IsSome}
 use Rattle.lake_values.specs.Ancestry.{graph_of, commit_of}
-use Rattle.lake_reference.proofs.AncestorsLemmas.{ancestor_tested}
-use Rattle.lake_reference.proofs.AncestryWalkLemmas.{there_where_found}
+use Rattle.lake_values.proofs.AncestryLemmas.{ancestor_tested}
+use Rattle.lake_values.proofs.AncestryWalkLemmas.{there_where_found}
 use Rattle.lake_reference.proofs.ancestry.is_ancestor.Goals as goal
 
 pub returns-then-is_some : goal.returns-then-is_some

@@ -2,7 +2,7 @@ use Rattle.std.proofs.Common.{◌≤◌, ℕ, Some, subst, ap, ◌∙◌, arith}
 use Rattle.std.specs.Option.{IsSome}
 use Rattle.lake_values.specs.Ancestry.{graph_of, commit_of}
 use Rattle.lake_reference.proofs.RetentionLemmas.{told_ids, told_apart, holds_else, refuted}
-use Rattle.lake_reference.proofs.AncestryWalkLemmas.{there_where_found, none_where_none, starts, off_no_walk, back_next, stands_more, off_ended_walk, off_whole_walk}
+use Rattle.lake_values.proofs.AncestryWalkLemmas.{there_where_found, none_where_none, starts, off_no_walk, back_next, stands_more, off_ended_walk, off_whole_walk}
 use Rattle.lake_base.specs.declared.digest.Digest.{Digest}
 use Rattle.lake_reference.proofs.ancestry.is_on_walk.Goals as goal
 

@@ -1,4 +1,5 @@
-use Rattle.lake_reference.proofs.AncestorsLemmas.{ancestor_from, ancestor_to, ancestors_from, ancestors_to, ancestors_ascend}
+use Rattle.lake_values.proofs.AncestryLemmas.{ancestor_from, ancestor_to}
+use Rattle.lake_values.proofs.AncestryOrderLemmas.{ancestors_from, ancestors_to, ancestors_ascend}
 use Rattle.lake_reference.proofs.ancestry.law_of_ancestors.Goals as goal
 
 pub returns : goal.returns

@@ -1,4 +1,4 @@
-use Rattle.lake_reference.proofs.AncestryBaseLemmas.{base_is, base_some, base_none, no_base}
+use Rattle.lake_values.proofs.AncestryOrderLemmas.{base_is, base_some, base_none, no_base}
 use Rattle.lake_reference.proofs.ancestry.law_of_bases.Goals as goal
 
 pub returns : goal.returns

@@ -1,4 +1,4 @@
-use Rattle.lake_reference.proofs.AncestorsLemmas.{parent_lesser, steps_above, reached_lesser}
+use Rattle.lake_values.proofs.AncestryLemmas.{parent_lesser, steps_above, reached_lesser}
 use Rattle.lake_reference.proofs.ancestry.law_of_generations.Goals as goal
 
 pub returns : goal.returns

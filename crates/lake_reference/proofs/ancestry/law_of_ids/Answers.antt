@@ -1,4 +1,4 @@
-use Rattle.lake_reference.proofs.AncestryOrderLemmas.{ids_from, ids_to, ids_ascend}
+use Rattle.lake_values.proofs.AncestryOrderLemmas.{ids_from, ids_to, ids_ascend}
 use Rattle.lake_reference.proofs.ancestry.law_of_ids.Goals as goal
 
 pub returns : goal.returns

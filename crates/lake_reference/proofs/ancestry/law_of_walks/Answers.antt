@@ -1,4 +1,4 @@
-use Rattle.lake_reference.proofs.AncestryWalkLemmas.{walk_from, walk_to, walk_places}
+use Rattle.lake_values.proofs.AncestryWalkLemmas.{walk_from, walk_to, walk_places}
 use Rattle.lake_reference.proofs.ancestry.law_of_walks.Goals as goal
 
 pub returns : goal.returns

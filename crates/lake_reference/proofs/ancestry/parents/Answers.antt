@@ -1,7 +1,7 @@
 use Rattle.std.proofs.Common.{ap, ◌∙◌}
 use Rattle.lake_values.specs.Ancestry.{graph_of}
 use Rattle.lake_values.specs.Commit.{CommitRecordValue}
-use Rattle.lake_reference.proofs.AncestryGraphLemmas.{parents_some, parents_none}
+use Rattle.lake_values.proofs.AncestryLemmas.{parents_some, parents_none}
 use Rattle.lake_reference.proofs.ancestry.parents.Goals as goal
 
 pub returns-in-Some : goal.returns-in-Some

@@ -2,7 +2,8 @@ use Rattle.std.proofs.Common.{◌≡◌, ◌∙◌, ◌++◌, ◌∷◌, [], Lis
 use Rattle.std.proofs.lemmas.Bool.{false≢true}
 use Rattle.lake_reference.proofs.merge.conflicts.Goals.{then-eq+in_ok-copy+in_ok-push, else-eq}
 use Rattle.lake_values.specs.Merging.{is_conflict, is_neither}
-use Rattle.lake_reference.proofs.MergeLemmas.{told_neither, conflicting, conflicting_next, conflicts_all}
+use Rattle.lake_values.proofs.MergingLemmas.{told_neither}
+use Rattle.lake_reference.proofs.MergeLemmas.{conflicting, conflicting_next, conflicts_all}
 use Rattle.lake_reference.proofs.merge.conflicts.Goals as goal
 
 pub loop-path-init : goal.loop-path-init

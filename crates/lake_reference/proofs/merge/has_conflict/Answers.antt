@@ -1,7 +1,8 @@
 use Rattle.std.proofs.Common.{◌≡◌, ◌∙◌, ap, sym}
 use Rattle.std.proofs.lemmas.Bool.{false≢true}
 use Rattle.lake_values.specs.Merging.{is_conflict, is_neither}
-use Rattle.lake_reference.proofs.MergeLemmas.{told_neither, neither, conflicting_next, no_conflict, some_conflict}
+use Rattle.lake_values.proofs.MergingLemmas.{told_neither, neither, some_conflict}
+use Rattle.lake_reference.proofs.MergeLemmas.{conflicting_next, no_conflict}
 use Rattle.lake_reference.proofs.merge.has_conflict.Goals as goal
 
 pub loop-path-preserved : goal.loop-path-preserved

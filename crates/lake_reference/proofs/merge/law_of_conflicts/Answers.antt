@@ -1,4 +1,4 @@
-use Rattle.lake_reference.proofs.MergeLemmas.{are_conflicts, refused_from, refused_to}
+use Rattle.lake_values.proofs.MergingLemmas.{are_conflicts, refused_from, refused_to}
 use Rattle.lake_reference.proofs.merge.law_of_conflicts.Goals as goal
 
 pub returns : goal.returns

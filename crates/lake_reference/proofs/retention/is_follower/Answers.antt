@@ -2,7 +2,7 @@ use Rattle.std.proofs.Common.{◌≡◌, ◌≤◌, ℕ, Some, subst, ◌∙◌,
 use Rattle.std.specs.Option.{IsSome}
 use Rattle.lake_values.specs.Ancestry.{graph_of, commit_of, first_parent, date}
 use Rattle.lake_reference.proofs.RetentionLemmas.{told_apart, refuted}
-use Rattle.lake_reference.proofs.AncestryWalkLemmas.{there_where_found, none_where_none, starts, no_follower_started, back_next, FollowsAt, follows_here, no_follower_ended, no_follower_whole}
+use Rattle.lake_values.proofs.AncestryWalkLemmas.{there_where_found, none_where_none, starts, no_follower_started, back_next, FollowsAt, follows_here, no_follower_ended, no_follower_whole}
 use Rattle.lake_reference.proofs.retention.is_follower.Goals as goal
 use Rattle.lake_reference.proofs.retention.is_follower.Goals.{else-eq-via-then-eq+else-limit-date, else-eq-via-else-eq}
 

@@ -1,6 +1,6 @@
 use Rattle.std.proofs.Common.{◌≡◌, ◌<◌, ℕ, Some}
 use Rattle.lake_values.specs.Ancestry.{graph_of, back}
-use Rattle.lake_reference.proofs.AncestryWalkLemmas.{FollowsAt}
+use Rattle.lake_values.proofs.AncestryWalkLemmas.{FollowsAt}
 use Rattle.lake_reference.proofs.retention.is_follower.Given as goal
 
 -- it stands so many steps back, and the commit follows none before that is dated at or after the limit

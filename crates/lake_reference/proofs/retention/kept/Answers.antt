@@ -2,8 +2,8 @@ use Rattle.std.proofs.Common.{◌+◌, ap, subst, sym, ◌∙◌}
 use Rattle.std.specs.Option.{option_copied}
 use Rattle.lake_values.specs.Ancestry.{graph_of, id_order}
 use Rattle.lake_values.specs.Keeping.{IsKept, kept}
-use Rattle.lake_reference.proofs.AncestryOrderLemmas.{ids_total, ids_same}
-use Rattle.lake_reference.proofs.AncestryReachLemmas.{differ}
+use Rattle.lake_values.proofs.AncestryOrderLemmas.{ids_total, ids_same}
+use Rattle.lake_values.proofs.AncestryLemmas.{differ}
 use Rattle.lake_reference.proofs.OrderPlaceLemmas.{HasThose, those_start, those_more, those_same, those_all}
 use Rattle.lake_reference.proofs.RetentionKeptLemmas.{kept_from, kept_to, kept_ascends}
 use Rattle.lake_reference.proofs.retention.kept.Goals as goal

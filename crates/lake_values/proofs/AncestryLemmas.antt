@@ -1,19 +1,77 @@
--- Generations along ways back, and ancestors as functions tell them.
-use Rattle.std.proofs.Common.{◌≡◌, ℕ, zero, suc, ◌+◌, ◌<◌, ◌≤◌, ◌↔◌, ◌&&◌, ◌||◌, Bool, true, false, List, [], ◌∷◌, Some, None, Option, refl, sym, ap, subst, ◌∙◌, arith}
+-- What a graph has: what is said of its commits, generations along ways back, and ancestors as functions tell them.
+use Rattle.std.proofs.Common.{◌≡◌, ℕ, zero, suc, ◌+◌, ◌-◌, ◌<◌, ◌≤◌, ◌↔◌, ◌&&◌, ◌||◌, Bool, true, false, List, [], ◌∷◌, Some, None, Option, refl, sym, ap, subst, ◌∙◌, arith}
 use Rattle.std.specs.Bool.{IsTrue}
-use Rattle.std.specs.Option.{IsSome, is_some}
+use Rattle.std.specs.Option.{IsSome, is_some, unwrap_or, option_map}
 use Rattle.std.specs.List.{Contains, list_any}
-use Rattle.std.specs.List.Sorted.{IsStrictlySortedBy}
-use Rattle.std.proofs.lemmas.List.Kept.{IsStrictlySortedBy-filter}
 use Rattle.std.proofs.lemmas.Slice.Eq.{bytes_eq-Decides}
-use Rattle.lake_values.specs.Commit.{CommitRecordValue}
-use Rattle.lake_values.specs.Ancestry.{Graph, commit_of, same_id, parents, generation, due_generation, IsGraph, Reaches, IsAncestor, is_reached, is_ancestor, log, log_order, ancestors_in_order}
 use Rattle.lake_base.specs.declared.digest.Digest.{Digest}
-use Rattle.lake_reference.specs.AncestrySteps.{IsReachedWithin}
-use Rattle.lake_reference.proofs.AncestryGraphLemmas.{parents_none}
-use Rattle.lake_reference.proofs.AncestryOrderLemmas.{log_to, log_ascends}
-use Rattle.lake_reference.proofs.AncestryReachLemmas.{differ, reached_here, reached_not, reached_through, reached_never}
-use Rattle.lake_reference.proofs.OrderLemmas.{Contains-nothing, Contains-filter, Contains-from_filter, any_from, any_to}
+use Rattle.lake_values.specs.Commit.{CommitRecordValue}
+use Rattle.lake_values.specs.Ancestry.{Graph, commit_of, same_id, parents_in, parents, generation, date, due_generation, IsGraph, Reaches, IsReachedWithin, IsAncestor, is_reached, is_ancestor}
+use Rattle.lake_values.proofs.OrderLemmas.{Contains-nothing, any_from, any_to}
+
+pub otherwise : (r : Bool) → (r ≡ true → ⊥) → r ≡ false
+otherwise true never = absurd (never refl)
+otherwise false never = refl
+
+pub differ : true ≡ false → ⊥
+differ e = cc
+
+-- ids of the same bytes are one
+pub one_id : (a b : Digest) → a.0 ≡ b.0 → a ≡ b
+one_id a b e = λ i. record { 0 = e i }
+
+-- ---- what is said of a commit that is there, and of one that is not
+module _ (graph : Graph) (id : Digest) where
+  pub parents_some : (c : CommitRecordValue) → Some c ≡ commit_of graph id → c.parents ≡ parents graph id
+  unfolding parents
+  parents_some c e = ap parents_in e
+
+  pub parents_none : None ≡ commit_of graph id → [] ≡ parents graph id
+  unfolding parents
+  parents_none e = ap parents_in e
+
+  pub generation_some : (c : CommitRecordValue) → Some c ≡ commit_of graph id → c.generation ≡ generation graph id
+  unfolding generation
+  generation_some c e = ap (λ o. unwrap_or (option_map (λ (x : CommitRecordValue). x.generation) o) 0) e
+
+  pub generation_none : None ≡ commit_of graph id → 0 ≡ generation graph id
+  unfolding generation
+  generation_none e = ap (λ o. unwrap_or (option_map (λ (x : CommitRecordValue). x.generation) o) 0) e
+
+  pub date_some : (c : CommitRecordValue) → Some c ≡ commit_of graph id → c.date ≡ date graph id
+  unfolding date
+  date_some c e = ap (λ o. unwrap_or (option_map (λ (x : CommitRecordValue). x.date) o) 0) e
+
+  pub date_none : None ≡ commit_of graph id → 0 ≡ date graph id
+  unfolding date
+  date_none e = ap (λ o. unwrap_or (option_map (λ (x : CommitRecordValue). x.date) o) 0) e
+
+-- the generation due is not 0
+pub due_some : (graph : Graph) (ids : List Digest) → 1 ≤ due_generation graph ids
+due_some graph [] = omega arith
+due_some graph (id ∷ ids) = omega (arith, due_some graph ids)
+
+-- ---- in so many steps
+
+pub reached_here : (g : Graph) (steps : ℕ) (old id : Digest) → id.0 ≡ old.0 → IsReachedWithin g steps old id
+unfolding Reaches
+reached_here g steps old id e = (0, omega arith, one_id id old e)
+
+pub reached_through : (g : Graph) (steps : ℕ) (old id parent : Digest) → 0 < steps → Contains (parents g id) parent → IsReachedWithin g (steps - 1) old parent → IsReachedWithin g steps old id
+unfolding Reaches
+reached_through g steps old id parent some has (n, le, r) = (suc n, omega arith, (parent, has, r))
+
+-- no step leads there, and none is left
+pub reached_not : (g : Graph) (old id : Digest) → (id.0 ≡ old.0 → ⊥) → IsReachedWithin g 0 old id → ⊥
+unfolding Reaches
+reached_not g old id other (zero, le, r) = other (ap (λ d. d.0) r)
+reached_not g old id other (suc n, le, r) = absurd (omega arith)
+
+-- no parent leads there
+pub reached_never : (g : Graph) (steps : ℕ) (old id : Digest) → (id.0 ≡ old.0 → ⊥) → ((parent : Digest) → Contains (parents g id) parent → IsReachedWithin g (steps - 1) old parent → ⊥) → IsReachedWithin g steps old id → ⊥
+unfolding Reaches
+reached_never g steps old id other none (zero, le, r) = other (ap (λ d. d.0) r)
+reached_never g steps old id other none (suc n, le, (parent, has, r)) = none parent has (n, omega arith, r)
 
 -- ---- generations
 
@@ -98,11 +156,11 @@ module _ (g : Graph) where
           holds_else true refute = refl
           holds_else false refute = absurd (refute refl)
 
-and_both : (a b : Bool) → (a && b) ≡ true → (a ≡ true) × (b ≡ true)
+pub and_both : (a b : Bool) → (a && b) ≡ true → (a ≡ true) × (b ≡ true)
 and_both true b e = (refl, e)
 and_both false b e = cc
 
-and_of : (a b : Bool) → a ≡ true → b ≡ true → (a && b) ≡ true
+pub and_of : (a b : Bool) → a ≡ true → b ≡ true → (a && b) ≡ true
 and_of true b p q = q
 and_of false b p q = cc
 
@@ -119,15 +177,3 @@ module _ (g : Graph) (graph : IsGraph g) where
   ancestor_to old id a =
       let above = steps_above g graph a.1.0 id old a.1.1 in
       and_of (is_some (commit_of g old)) (is_reached g (generation g id) id old) a.0 (reached_to g (generation g id) id old (a.1.0, omega (arith, above), a.1.1))
-
-  pub ancestors_from : (id old : Digest) → Contains (ancestors_in_order g id) old → IsAncestor g old id
-  unfolding ancestors_in_order
-  ancestors_from id old within = ancestor_from old id (Contains-from_filter (λ x. is_ancestor g x id) (log g) old within).1
-
-  pub ancestors_to : (id old : Digest) → IsAncestor g old id → Contains (ancestors_in_order g id) old
-  unfolding ancestors_in_order
-  ancestors_to id old a = Contains-filter (λ x. is_ancestor g x id) (log g) old (log_to g old a.0) (ancestor_to old id a)
-
-pub ancestors_ascend : (g : Graph) (id : Digest) → IsStrictlySortedBy (log_order g) (ancestors_in_order g id)
-unfolding ancestors_in_order
-ancestors_ascend g id = IsStrictlySortedBy-filter (log_order g) (λ x. is_ancestor g x id) (log g) (log_ascends g)

@@ -1,47 +1,47 @@
--- The order of the log, and the commits of a graph in the order of their ids and in that of the log.
-use Rattle.std.proofs.Common.{◌≡◌, ℕ, true, false, List, [], ◌∷◌, ◌||◌, map, refl, sym, ap, subst, ◌∙◌}
+-- The order of the log, the commits of a graph in the order of their ids and in that of the log, and the merge base.
+use Rattle.std.proofs.Common.{◌≡◌, ℕ, true, false, Some, None, Option, List, [], ◌∷◌, ◌||◌, map, refl, sym, ap, subst, ◌∙◌}
 use Rattle.std.specs.Cmp.{IsTotalOrder}
 use Rattle.std.specs.List.{Contains, AllByRecursion, list_any}
 use Rattle.std.specs.List.Sorted.{IsStrictlySortedBy}
-use Rattle.std.specs.Option.{IsSome, is_some}
+use Rattle.std.specs.Option.{IsSome, is_some, MatchOption}
 use Rattle.std.specs.Ordering.{is_lt, is_eq, eq_by_cmp, nat_cmp, ordering_then}
 use Rattle.std.specs.declared.cmp.Ordering.{Ordering}
 use Rattle.std.specs.declared.cmp.Ordering.TheVariants.{Less, Equal, Greater}
 use Rattle.std.specs.FinMap.{IsAntisymmetric, get, keys, entries, from_entries, get-from_entries, contains_key-keys}
 use Rattle.std.specs.FinMap.Entries.{is_some-find}
+use Rattle.std.proofs.lemmas.List.Kept.{IsStrictlySortedBy-filter}
 use Rattle.std.proofs.lemmas.Cmp.{nat_cmp_total, nat_list_cmp_total, on_total, then_total, back_total, tied_itself}
 use Rattle.lake_values.specs.Commit.{CommitRecordValue}
 use Rattle.lake_base.specs.Maps.{byte_order}
-use Rattle.lake_values.specs.Ancestry.{Graph, commit_of, id_of, id_order, ids, generation, log, log_order, comes_first}
+use Rattle.lake_values.specs.Ancestry.{Graph, commit_of, id_of, id_order, ids, generation, log, log_order, comes_first, IsGraph, IsAncestor, IsCommon, is_ancestor, ancestors_in_order, base, IsBase}
 use Rattle.lake_base.specs.declared.digest.Digest.{Digest}
 use Rattle.lake_base.proofs.MapsLemmas.{same_key}
-use Rattle.lake_reference.proofs.OrderLemmas.{Contains-map, Contains-from_map, keys_ascend, there_from_key, key_from_there}
-use Rattle.lake_reference.proofs.AncestryGraphLemmas.{otherwise}
-use Rattle.lake_reference.proofs.AncestryReachLemmas.{differ, same_id}
+use Rattle.lake_values.proofs.OrderLemmas.{Contains-map, Contains-from_map, Contains-filter, Contains-from_filter, keys_ascend, there_from_key, key_from_there, find_first, find_none, same_place}
+use Rattle.lake_values.proofs.AncestryLemmas.{otherwise, differ, one_id, ancestor_from, ancestor_to}
 
 -- ---- the order of the log
 
 pub log_total : (g : Graph) → IsTotalOrder (log_order g)
 log_total g = then_total (on_total (generation g) (back_total nat_cmp_total)) (on_total (λ (id : Digest). id.0) nat_list_cmp_total)
 
-then_equal : (o p : Ordering) → ordering_then o p ≡ Equal → p ≡ Equal
+pub then_equal : (o p : Ordering) → ordering_then o p ≡ Equal → p ≡ Equal
 then_equal Less p e = cc
 then_equal Equal p e = e
 then_equal Greater p e = cc
 
 -- byte lists of one place are one
-bytes_same : IsAntisymmetric byte_order
+pub bytes_same : IsAntisymmetric byte_order
 bytes_same x y e = same_key x y e
 
 pub ids_total : IsTotalOrder id_order
 ids_total = on_total (λ (id : Digest). id.0) nat_list_cmp_total
 
 pub ids_same : IsAntisymmetric id_order
-ids_same x y e = same_id x y (bytes_same x.0 y.0 e)
+ids_same x y e = one_id x y (bytes_same x.0 y.0 e)
 
 -- ids of one place in the log are one
 pub log_same : (g : Graph) → IsAntisymmetric (log_order g)
-log_same g x y e = same_id x y (bytes_same x.0 y.0 (then_equal _ _ e))
+log_same g x y e = one_id x y (bytes_same x.0 y.0 (then_equal _ _ e))
 
 -- ids tie in the log where their bytes do
 log_ties : (g : Graph) (x y : Digest) → is_eq (log_order g x y) ≡ is_eq (byte_order x.0 y.0)
@@ -57,7 +57,7 @@ log_ties g x y = by (byte_order x.0 y.0) refl (nat_cmp (generation g y) (generat
     by Equal e r f = ap (λ s. is_eq (ordering_then s Equal)) (sym f ∙ level)
       where
         level : nat_cmp (generation g y) (generation g x) ≡ Equal
-        level = subst (λ d. nat_cmp (generation g d) (generation g x) ≡ Equal) (same_id x y (bytes_same x.0 y.0 e)) (tied_itself nat_cmp_total (generation g x))
+        level = subst (λ d. nat_cmp (generation g d) (generation g x) ≡ Equal) (one_id x y (bytes_same x.0 y.0 e)) (tied_itself nat_cmp_total (generation g x))
 
 less_when : (r : Ordering) → is_lt r ≡ true → r ≡ Less
 less_when Less e = refl
@@ -134,3 +134,62 @@ sorted_ids (k ∷ ks) ascend = (above_ids k ks ascend.0, sorted_ids ks ascend.1)
 pub ids_ascend : (g : Graph) → IsStrictlySortedBy id_order (ids g)
 unfolding ids
 ids_ascend g = sorted_ids (keys g) (keys_ascend byte_order g)
+
+-- ---- the ancestors of a commit
+
+module _ (g : Graph) (graph : IsGraph g) where
+  pub ancestors_from : (id old : Digest) → Contains (ancestors_in_order g id) old → IsAncestor g old id
+  unfolding ancestors_in_order
+  ancestors_from id old within = ancestor_from g graph old id (Contains-from_filter (λ x. is_ancestor g x id) (log g) old within).1
+
+  pub ancestors_to : (id old : Digest) → IsAncestor g old id → Contains (ancestors_in_order g id) old
+  unfolding ancestors_in_order
+  ancestors_to id old a = Contains-filter (λ x. is_ancestor g x id) (log g) old (log_to g old a.0) (ancestor_to g graph old id a)
+
+pub ancestors_ascend : (g : Graph) (id : Digest) → IsStrictlySortedBy (log_order g) (ancestors_in_order g id)
+unfolding ancestors_in_order
+ancestors_ascend g id = IsStrictlySortedBy-filter (log_order g) (λ x. is_ancestor g x id) (log g) (log_ascends g)
+
+-- ---- the base as a function
+
+module _ (g : Graph) (graph : IsGraph g) (a b : Digest) where
+  -- it is a common ancestor, and the first
+  pub base_is : (c : Digest) → base g a b ≡ Some c → IsBase g a b c
+  unfolding base
+  base_is c is =
+      let told = find_first (log_total g) (λ old. is_ancestor g old b) (ancestors_in_order g a) (ancestors_ascend g a) c is in
+      record {
+        common = (ancestors_from g graph a c told.0, ancestor_from g graph c b told.1);
+        first = λ other both. told.2 other (ancestors_to g graph a other both.0) (ancestor_to g graph other b both.1);
+      }
+
+  -- none means that there is no common ancestor
+  pub base_none : base g a b ≡ None → (id : Digest) → IsCommon g a b id → ⊥
+  unfolding base
+  base_none is id both =
+      find_none (λ old. is_ancestor g old b) (ancestors_in_order g a) is id (ancestors_to g graph a id both.0) (ancestor_to g graph id b both.1)
+
+  -- there is one base at most
+  one_base : (c d : Digest) → IsBase g a b c → IsBase g a b d → c ≡ d
+  one_base c d x y = same_place (log_total g) (log_same g) c d (y.first c x.common) (x.first d y.common)
+
+  -- the base is what the function gives
+  pub base_some : (c : Digest) → IsBase g a b c → base g a b ≡ Some c
+  base_some c x = by (base g a b) refl
+    where
+      by : (o : Option Digest) → base g a b ≡ o → o ≡ Some c
+      by (Some d) e = ap Some (one_base d c (base_is d e) x)
+      by None e = absurd (base_none e c x.common)
+
+  -- where there is no common ancestor, it gives none
+  pub no_base : ((id : Digest) → IsCommon g a b id → ⊥) → base g a b ≡ None
+  no_base never = by (base g a b) refl
+    where
+      by : (o : Option Digest) → base g a b ≡ o → o ≡ None
+      by (Some d) e = absurd (never d (base_is d e).common)
+      by None e = refl
+
+  -- the answer of a search for it
+  pub base_answered : (r : Option Digest) → MatchOption r ((id : Digest) → IsCommon g a b id → ⊥) (IsBase g a b) → r ≡ base g a b
+  base_answered None never = sym (no_base never)
+  base_answered (Some c) is = sym (base_some c is)

@@ -115,11 +115,11 @@ module _ {K : Type 0} {R : K → K → Ordering} (o : IsTotalOrder R) where
   not_below_itself : (x : K) → R x x ≡ Less → ⊥
   not_below_itself x e = let tie = tied_itself o x in cc
 
-  below_later : (x q : K) (xs : List K) → IsStrictlySortedBy R (x ∷ xs) → Contains xs q → R x q ≡ Less
+  pub below_later : (x q : K) (xs : List K) → IsStrictlySortedBy R (x ∷ xs) → Contains xs q → R x q ≡ Less
   below_later x q xs ascend within = each_holds (λ y. R x y ≡ Less) xs q (sorted_head R x xs ascend) within
 
   -- nothing of a list that ascends comes before its first
-  not_before_first : (x q : K) (xs : List K) → IsStrictlySortedBy R (x ∷ xs) → Contains (x ∷ xs) q → is_lt (R q x) ≡ false
+  pub not_before_first : (x q : K) (xs : List K) → IsStrictlySortedBy R (x ∷ xs) → Contains (x ∷ xs) q → is_lt (R q x) ≡ false
   not_before_first x q xs ascend within = elim (first_or_later x q xs within) [
     | inl same ↦ subst (λ k. is_lt (R k x) ≡ false) same (ap is_lt (tied_itself o x))
     | inr later ↦ ap is_lt (o.antisymm q x ∙ ap ordering_reverse (below_later x q xs ascend later))

@@ -10,8 +10,8 @@ use Rattle.lake_values.specs.Ancestry.{Graph, commit_of, parents_in, parents, ge
 use Rattle.lake_values.specs.Commit.{CommitRecordValue}
 use Rattle.lake_values.specs.Keeping.{IsFollower}
 use Rattle.lake_base.specs.declared.digest.Digest.{Digest}
-use Rattle.lake_reference.proofs.OrderLemmas.{Contains-nothing, Contains-first, first_or_later}
-use Rattle.lake_reference.proofs.AncestryGraphLemmas.{due_some}
+use Rattle.lake_values.proofs.OrderLemmas.{Contains-nothing, Contains-first, first_or_later}
+use Rattle.lake_values.proofs.AncestryLemmas.{due_some}
 
 -- a commit that was found is there
 pub there_where_found : (found : Option (Bor CommitRecordValue)) (o : Option CommitRecordValue) → option_copied found ≡ o → is_some found ≡ true → IsSome o
