@@ -267,6 +267,7 @@ module _ (text name : List ℕ) (at : Bool) (rest : List ℕ) (h : IsHeaded text
       let len_more : length (pre ++ byte ∷ []) ≡ place + 1 = omega (arith, length-append pre (byte ∷ []), len) in
       let past : take (place + 1) text ≡ pre ++ byte ∷ [] = ap (take (place + 1)) one_more ∙ take_at (pre ++ byte ∷ []) r (place + 1) len_more in
       record {
+        within = omega (arith, at_is, n_is);
         before = (whole moves, ([], record { tail = s.front; parts = ap (λ l. l ++ []) upto ∙ append-nil pre; named = h.named; moves = s.spelled }));
         stops = λ b. absurd (none_goes_on moves byte r s none b.0 b.1.0 (subst (IsExpression b.0) (ap (λ l. l ++ b.1.0) past ∙ append_assoc pre (byte ∷ []) b.1.0 ∙ sym (regroup (byte ∷ b.1.0))) b.1.1));
         none = λ e x. none_goes_on moves byte r s none e r (subst (IsExpression e) (split ∙ sym (regroup (byte ∷ r))) x);
@@ -279,6 +280,7 @@ module _ (text name : List ℕ) (at : Bool) (rest : List ℕ) (h : IsHeaded text
 pub no_name : (text : List ℕ) → name_len text ≡ 0 → IsStray text 0
 unfolding name_len
 no_name text none = record {
+  within = omega arith;
   before = (record { name = 97 ∷ []; at = false; moves = [] }, (97 ∷ [], record { tail = []; parts = refl; named = refl; moves = refl }));
   stops = λ b. past text none b.0 b.1.0 b.1.1;
   none = λ e x. nowhere text none e x;

@@ -1,5 +1,5 @@
 -- The commits of a graph: their look-ups in the tree that keeps them, and a graph with one commit more.
-use Rattle.std.proofs.Common.{◌≡◌, ℕ, suc, ◌+◌, ◌≤◌, Bool, true, false, cond, List, [], ◌∷◌, ◌++◌, length, Option, Some, None, refl, sym, ap, subst, ◌∙◌, map as list_map, arith, Bor, inl, inr, ◌⊎◌, ◌<◌, get_or, drop, add-one, drop-cons, eqb, rules, not, append_assoc}
+use Rattle.std.proofs.Common.{◌≡◌, ℕ, suc, ◌+◌, Bool, true, false, cond, List, [], ◌∷◌, ◌++◌, length, Option, Some, None, refl, sym, ap, subst, ◌∙◌, map as list_map, arith, Bor, inl, inr, ◌⊎◌, ◌<◌, get_or, drop, add-one, drop-cons, eqb, rules, not, append_assoc}
 use Rattle.std.proofs.lemmas.Bool.{cases_Bool, eqb-true}
 use Rattle.std.proofs.lemmas.List.{nil_from_length}
 use Rattle.std.proofs.lemmas.List.Elements.{All-contains, All-from_recursion}
@@ -30,7 +30,8 @@ use Rattle.std.specs.declared.cmp.Ordering.{Ordering}
 use Rattle.lake_base.specs.Maps.{byte_order}
 use Rattle.lake_base.specs.declared.digest.Digest.{Digest}
 use Rattle.lake_values.specs.Commit.{CommitRecordValue}
-use Rattle.lake_values.specs.Ancestry.{Graph, graph_of, commit_of, id_of, parents_in, parents, generation, due_generation, IsDue}
+use Rattle.lake_values.specs.Ancestry.{Graph, graph_of, commit_of, id_of, parents, generation, due_generation, IsDue}
+use Rattle.lake_values.proofs.AncestryLemmas.{parents_some, generation_some}
 use Rattle.commit_graph.specs.Graphs.{IsNamed, IsSound}
 
 -- ids in the order of a tree's keys
@@ -83,25 +84,6 @@ length_keyed (e ∷ es) = ap suc (length_keyed es)
 pub len_from : (es : Commits) → IsStrictlySortedBy by_id (list_map (λ e. e.0) es) → tree.len (graph_of es) ≡ length es
 len_from es h = tree.len-entries (graph_of es) ∙ ap length (entries_from es h) ∙ length_keyed es
 
--- ---- what is said of a commit that is there, and of one that is not
-
-module _ (graph : Graph) (id : Digest) where
-  pub parents_some : (c : CommitRecordValue) → Some c ≡ commit_of graph id → c.parents ≡ parents graph id
-  unfolding parents
-  parents_some c e = ap parents_in e
-
-  pub parents_none : None ≡ commit_of graph id → [] ≡ parents graph id
-  unfolding parents
-  parents_none e = ap parents_in e
-
-  pub generation_some : (c : CommitRecordValue) → Some c ≡ commit_of graph id → c.generation ≡ generation graph id
-  unfolding generation
-  generation_some c e = ap (λ o. unwrap_or (option_map (λ (x : CommitRecordValue). x.generation) o) 0) e
-
-  pub generation_none : None ≡ commit_of graph id → 0 ≡ generation graph id
-  unfolding generation
-  generation_none e = ap (λ o. unwrap_or (option_map (λ (x : CommitRecordValue). x.generation) o) 0) e
-
 -- no commits are a graph
 pub sound_empty : (es : Commits) → es ≡ [] → IsSound (graph_of es)
 sound_empty es none = subst (λ es. IsSound (graph_of es)) (sym none) (record { due = λ id some. absurd (nothing id some); names = λ id c e. absurd (not_found id c e) })
@@ -129,11 +111,6 @@ at_from es place r sorted is =
     shown (Some x) = refl
 
 -- ---- a commit more
-
--- the generation due is not 0
-pub due_some : (graph : Graph) (ids : List Digest) → 1 ≤ due_generation graph ids
-due_some graph [] = omega arith
-due_some graph (id ∷ ids) = omega (arith, due_some graph ids)
 
 abbrev AreThere : Graph → List Digest → Type 0
 AreThere graph ids = AllByRecursion (λ id. IsSome (commit_of graph id)) ids

@@ -67,6 +67,7 @@ Begins text = (e : RefExprValue) × ((more : List ℕ) × IsExpression e (text +
 -- the least place at which no expression goes on: some begin like the text before it; none goes on with the byte
 -- there, or the text ends there and is none
 pub record IsStray (text : List ℕ) (place : ℕ) : Type 0 where
+  pub within : place ≤ length text
   pub before : Begins (take place text)
   pub stops : Begins (take (place + 1) text) → length text ≤ place
   pub none : (e : RefExprValue) → IsExpression e text → ⊥

@@ -84,7 +84,7 @@ impl Graph {
     }
 
     // Its parents; none where there is no such commit.
-    fn parents(&self, id: &CommitId) -> &[CommitId]
+    pub(crate) fn parents(&self, id: &CommitId) -> &[CommitId]
         ensures { result.now ≡ parents self.now id.now }
     {
         match self.get(id) {
@@ -94,8 +94,9 @@ impl Graph {
     }
 
     // Its generation; 0 where there is no such commit.
-    fn generation(&self, id: &CommitId) -> u64
-        ensures { result ≡ generation self.now id.now }
+    pub(crate) fn generation(&self, id: &CommitId) -> u64
+        ensures generation { result ≡ generation self.now id.now }
+        ensures valid { IsSound self.now }
     {
         match self.get(id) {
             Some(commit) => commit.generation,

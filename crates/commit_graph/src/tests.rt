@@ -1,4 +1,5 @@
-//! Tests of commits, expressions and graphs.
+//! Tests of commits, expressions, graphs and their logs.
 mod commits;
 mod expressions;
 mod graphs;
+mod logs;

@@ -7,7 +7,7 @@ use std::alloc::Global;
 use std::test::Fail;
 
 // A commit of this generation and date, with these parents.
-fn commit(
+pub(super) fn commit(
     alloc: Global,
     generation: u8,
     date: u8,
@@ -27,15 +27,15 @@ fn commit(
 }
 
 // The ids of R, X, Y and M.
-#[derive(Drop)]
-struct Ids {
-    r: CommitId,
-    x: CommitId,
-    y: CommitId,
-    m: CommitId,
+#[derive(Clone, Copy)]
+pub(super) struct Ids {
+    pub r: CommitId,
+    pub x: CommitId,
+    pub y: CommitId,
+    pub m: CommitId,
 }
 
-fn grow(alloc: Global, graph: &mut Graph) -> Result<Ids, Fail> {
+pub(super) fn grow(alloc: Global, graph: &mut Graph) -> Result<Ids, Fail> {
     let r = graph.add(alloc, commit(alloc, 1, 0, &[])?)?;
     let x = graph.add(alloc, commit(alloc, 2, 1, &[r])?)?;
     let y = graph.add(alloc, commit(alloc, 2, 2, &[r])?)?;

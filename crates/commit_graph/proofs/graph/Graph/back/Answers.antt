@@ -1,7 +1,7 @@
 use Rattle.std.proofs.Common.{sym, ap, ◌∙◌, arith}
 use Rattle.std.specs.Option.{IsSome, is_some}
 use Rattle.lake_values.specs.Ancestry.{commit_of}
-use Rattle.commit_graph.proofs.WalkLemmas.{there_where_found, none_where_none, starts, no_walk, back_past, back_next, back_ends}
+use Rattle.lake_values.proofs.AncestryWalkLemmas.{there_where_found, none_where_none, starts, no_walk, back_past, back_next, back_ends}
 use Rattle.commit_graph.proofs.graph.Graph.back.Goals as goal
 
 pub returns-in_err-get : goal.returns-in_err-get

@@ -1,5 +1,5 @@
 use Rattle.std.proofs.Common.{arith}
-use Rattle.commit_graph.proofs.GraphLemmas.{due_some}
+use Rattle.lake_values.proofs.AncestryLemmas.{due_some}
 use Rattle.commit_graph.proofs.graph.Graph.due_after.Goals as goal
 
 pub loop-parent-init : goal.loop-parent-init

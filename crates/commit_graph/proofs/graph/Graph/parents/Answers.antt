@@ -1,6 +1,6 @@
 use Rattle.std.proofs.Common.{ap, ◌∙◌}
 use Rattle.lake_values.specs.Commit.{CommitRecordValue}
-use Rattle.commit_graph.proofs.GraphLemmas.{parents_some, parents_none}
+use Rattle.lake_values.proofs.AncestryLemmas.{parents_some, parents_none}
 use Rattle.commit_graph.proofs.graph.Graph.parents.Goals as goal
 
 pub returns-in-Some : goal.returns-in-Some
