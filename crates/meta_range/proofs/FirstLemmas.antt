@@ -1,47 +1,22 @@
--- Whether rows are the first range of themselves and what follows them, and files found by name.
+-- Whether rows are the first range of themselves and what follows them.
 use Rattle.std.proofs.Common.{◌≡◌, ℕ, zero, suc, ◌+◌, ◌-◌, ◌<◌, ◌≤◌, true, false, cond, not, eqb, List, [], ◌∷◌, ◌++◌, length, get_or, take, drop, Option, Some, None, refl, sym, ap, subst, ◌∙◌, inl, inr, drop-cons, add-one, arith}
-use Rattle.std.specs.List.{slice_get, find, list_all}
-use Rattle.std.specs.Option.{option_map}
-use Rattle.std.specs.Str.{bytes_eq}
+use Rattle.std.specs.List.{slice_get, list_all}
 use Rattle.std.proofs.lemmas.Bool.{cases_Bool, cases_lt, eq-eqb, ne_eqb}
 use Rattle.std.proofs.lemmas.List.{append-nil, length-append, length-take, take_all, get_or_append_left}
 use Rattle.std.proofs.Math.Seq.{take-append_seam, drop-append_seam}
-use Rattle.lake_base.specs.declared.digest.Digest.{Digest}
 use Rattle.lake_format.specs.Spelling.{row_spelling}
 use Rattle.lake_format.specs.Cutting.{is_break, row_bytes, is_range, first_len, ranges}
 use Rattle.lake_format.specs.declared.cut.Cut.{Cut}
 use Rattle.lake_format.proofs.CutLemmas.{IsScanned, IsNextRow, scanned_more, scanned_full, scanned_break, scanned_all, first_can, first_longest, first_below, ranges_of}
 use Rattle.range_file.specs.Rows.{RowValue}
 use Rattle.meta_range.specs.Ranges.{rows_of}
-use Rattle.meta_range.specs.Files.{bytes_named}
 use Rattle.meta_range.specs.Reading.{first_stray}
-use Rattle.meta_range.specs.declared.file.File.{File}
-
--- ---- files by name
-
-module _ (name : Digest) (files : List File) (i : ℕ) (all : Option (List ℕ)) where
-  pub named_here : (file : File) → i < length files → file ≡ get_or files i file → bytes_eq file.name.0 name.0 ≡ true → bytes_named name (drop i files) ≡ all → Some file.bytes ≡ all
-  unfolding bytes_named
-  named_here file lt is same so_far =
-      let rest : drop i files ≡ file ∷ drop (suc i) files = drop-cons files i file lt ∙ ap (λ f. f ∷ drop (suc i) files) (sym is) in
-      sym (ap (bytes_named name) rest ∙ ap (λ b. option_map (λ (f : File). f.bytes) (cond b (Some file) (find (λ f. bytes_eq f.name.0 name.0) (drop (suc i) files)))) same) ∙ so_far
-
-  pub named_after : (file : File) → i < length files → file ≡ get_or files i file → bytes_eq file.name.0 name.0 ≡ false → bytes_named name (drop i files) ≡ all → bytes_named name (drop (i + 1) files) ≡ all
-  unfolding bytes_named
-  named_after file lt is other so_far =
-      let rest : drop i files ≡ file ∷ drop (suc i) files = drop-cons files i file lt ∙ ap (λ f. f ∷ drop (suc i) files) (sym is) in
-      ap (λ k. bytes_named name (drop k files)) (add-one i)
-      ∙ sym (ap (bytes_named name) rest ∙ ap (λ b. option_map (λ (f : File). f.bytes) (cond b (Some file) (find (λ f. bytes_eq f.name.0 name.0) (drop (suc i) files)))) other) ∙ so_far
 
 none_after : {X : Type 0} (xs : List X) (i : ℕ) → length xs ≤ i → drop i xs ≡ []
 none_after [] zero le = refl
 none_after [] (suc i) le = refl
 none_after (x ∷ xs) zero le = absurd (omega arith)
 none_after (x ∷ xs) (suc i) le = none_after xs i (omega arith)
-
-pub named_none : (name : Digest) (files : List File) (i : ℕ) (all : Option (List ℕ)) → length files ≤ i → bytes_named name (drop i files) ≡ all → None ≡ all
-unfolding bytes_named
-named_none name files i all le so_far = sym (ap (bytes_named name) (none_after files i le)) ∙ so_far
 
 -- ---- the first range of rows and what follows them
 

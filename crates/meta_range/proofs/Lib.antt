@@ -5,3 +5,5 @@ pub mod LawLemmas
 pub mod ReadingLemmas
 pub mod FirstLemmas
 pub mod BuildLemmas
+pub mod NamesLemmas
+pub mod TrioLemmas

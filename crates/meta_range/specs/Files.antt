@@ -12,6 +12,10 @@ use Rattle.meta_range.specs.declared.file.File.{File}
 abbrev pub file_of : List ℕ → File
 file_of bytes = record { name = file_name bytes; bytes = bytes }
 
+-- the name under which a file is given
+abbrev pub given_name : File → Digest
+given_name file = file.name
+
 -- the bytes of the first of these files that has this name
 unfoldable pub bytes_named : Digest → List File → Option (List ℕ)
 bytes_named name files = option_map (λ file. file.bytes) (find (λ file. bytes_eq file.name.0 name.0) files)

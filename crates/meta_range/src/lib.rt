@@ -1,10 +1,11 @@
 //! Trees: a key map cut into ranges, each a file that is known by its SHA-256, so that two trees share every range
 //! that is the same in both.
 //!
-//! - `tree`, `shared_range`: the tree of a map, what stands in it, and its files.
+//! - `tree`, `shared_range`, `limits`: the tree of a map, what stands in it, and its files.
+//! - `trio`, `named_ranges`, `places`: three trees of a merge, and their ranges by name.
 //! - `cursor`: its rows, one after the other.
 //! - `metarange`: the file that says of a tree's ranges which they are, written and read.
-//! - `reading`, `file`, `fault`: a tree from its files, or the first fault.
+//! - `reading`, `given_files`, `file`, `fault`: a tree from its files, or the first fault.
 //!
 //! The promise to the layer above: a tree is its key map, and has exactly the files that the cut gives; a tree is
 //! read just where these files are given.
@@ -13,17 +14,25 @@
 mod cursor;
 mod fault;
 mod file;
+mod given_files;
+mod limits;
 mod metarange;
+mod named_ranges;
+mod places;
 mod reading;
 mod shared_range;
 #[cfg(test)]
 mod tests;
 mod threads;
 mod tree;
+mod trio;
 
 pub use cursor::Cursor;
 pub use fault::{MetaFault, TreeFault};
 pub use file::File;
 pub use lake_values::cursor::EntryCursor;
+pub use limits::law_of_limits;
 pub use metarange::{laws_of_metaranges, read_metarange};
+pub use threads::trees_cross;
 pub use tree::{Tree, law_of_names};
+pub use trio::{Trio, law_of_agreement};

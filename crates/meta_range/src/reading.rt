@@ -10,6 +10,7 @@ ghost use Rattle.meta_range.specs.Reading.{ReadsAs, AreGiven, is_said, read_file
 
 use crate::fault::{TreeFault, of_metarange, of_range};
 use crate::file::File;
+use crate::given_files::GivenFiles;
 use crate::metarange::read_metarange;
 use crate::shared_range::SharedRange;
 use crate::tree::Tree;
@@ -38,38 +39,39 @@ impl Tree {
         // Which fault it is.
         ensures exact { ReadsAs (λ tree. tree) result (tree_from name.now files.now cut.now) }
     {
-        let tree = read_tree(alloc, name, files, cut)?;
+        let given = GivenFiles::of(alloc, files)?;
+        let tree = read_tree(alloc, name, &given, cut)?;
         Ok(tree)
     }
 }
 
 // The tree of the metarange of this name.
-fn read_tree(alloc: Global, name: &Digest, files: &[File], cut: &Cut) -> Result<Tree, TreeFault>
+fn read_tree(alloc: Global, name: &Digest, given: &GivenFiles, cut: &Cut) -> Result<Tree, TreeFault>
     requires { 0 < cut.now.modulus }
-    ensures reads { ReadsAs (λ tree. tree) result (tree_from name.now files.now cut.now) }
-    ensures found { IfOk result (λ tree. IsTreeOf name.now files.now cut.now tree) }
+    ensures reads { ReadsAs (λ tree. tree) result (tree_from name.now given.now cut.now) }
+    ensures found { IfOk result (λ tree. IsTreeOf name.now given.now cut.now tree) }
 {
-    let bytes = read_file(name, files)?;
+    let bytes = read_file(name, given)?;
     let lines = match read_metarange(alloc, bytes) {
         Ok(lines) => lines,
         Err(fault) => return Err(of_metarange(fault)),
     };
-    let ranges = read_ranges(alloc, files, lines.as_slice())?;
+    let ranges = read_ranges(alloc, given, lines.as_slice())?;
     if count_rows(ranges.as_slice()) >= 4294967296 {
         return Err(TreeFault::NoMemory);
     }
     if let Some(at) = not_cut(ranges.as_slice(), cut) {
         return Err(TreeFault::NotCut(at));
     }
-    Ok(Tree::named(*name, ranges))
+    Ok(Tree::named(alloc, *name, ranges)?)
 }
 
 // The bytes of the file of this name, whose SHA-256 it is.
 #[tactic(auto, unfolding(crate::specs::Reading::read_file))]
-fn read_file<'a>(name: &Digest, files: &'a [File]) -> Result<&'a [u8], TreeFault>
-    ensures { ReadsAs (λ bytes. bytes.now) result (read_file name.now files.now) }
+fn read_file<'a>(name: &Digest, given: &GivenFiles<'a>) -> Result<&'a [u8], TreeFault>
+    ensures { ReadsAs (λ bytes. bytes.now) result (read_file name.now given.now) }
 {
-    let Some(bytes) = bytes_named(name, files) else {
+    let Some(bytes) = bytes_named(name, given) else {
         return Err(TreeFault::Missing(*name));
     };
     let found = Digest::of(bytes);
@@ -83,30 +85,29 @@ fn read_file<'a>(name: &Digest, files: &'a [File]) -> Result<&'a [u8], TreeFault
 }
 
 // The bytes of the first file of this name.
-fn bytes_named<'a>(name: &Digest, files: &'a [File]) -> Option<&'a [u8]>
-    ensures { option_copied result ≡ bytes_named name.now files.now }
+#[tactic(auto, unfolding(crate::specs::Files::bytes_named))]
+fn bytes_named<'a>(name: &Digest, given: &GivenFiles<'a>) -> Option<&'a [u8]>
+    ensures { option_copied result ≡ bytes_named name.now given.now }
 {
-    for file in files {
-        if file.name == *name {
-            return Some(file.bytes.as_slice());
-        }
+    match given.named(name) {
+        Some(file) => Some(file.bytes.as_slice()),
+        None => None,
     }
-    None
 }
 
 // The ranges of which this is said.
 fn read_ranges(
     alloc: Global,
-    files: &[File],
+    given: &GivenFiles,
     lines: &[RangeLine],
 ) -> Result<Vec<SharedRange>, TreeFault>
-    ensures reads { ReadsAs (λ ranges. ranges.items) result (read_ranges files.now [] lines.now) }
-    ensures found { IfOk result (λ ranges. AreRead files.now lines.now ranges.items) }
+    ensures reads { ReadsAs (λ ranges. ranges.items) result (read_ranges given.now [] lines.now) }
+    ensures found { IfOk result (λ ranges. AreRead given.now lines.now ranges.items) }
 {
     let mut ranges = Vec::new(alloc);
     for line in lines {
         let at = ranges.as_slice().len();
-        ranges.push(read_range(alloc, files, at, line)?)?;
+        ranges.push(read_range(alloc, given, at, line)?)?;
     }
     Ok(ranges)
 }
@@ -115,14 +116,14 @@ fn read_ranges(
 #[tactic(auto, unfolding(crate::specs::Reading::read_range))]
 fn read_range(
     alloc: Global,
-    files: &[File],
+    given: &GivenFiles,
     at: usize,
     line: &RangeLine,
 ) -> Result<SharedRange, TreeFault>
-    ensures reads { ReadsAs (λ range. range) result (read_range files.now at line.now) }
-    ensures found { IfOk result (λ range. IsRead files.now line.now range) }
+    ensures reads { ReadsAs (λ range. range) result (read_range given.now at line.now) }
+    ensures found { IfOk result (λ range. IsRead given.now line.now range) }
 {
-    let bytes = read_file(&line.name, files)?;
+    let bytes = read_file(&line.name, given)?;
     let rows = match decode(alloc, bytes) {
         Ok(rows) => rows,
         Err(fault) => return Err(of_range(fault, at)),

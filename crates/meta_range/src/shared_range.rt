@@ -4,7 +4,9 @@ ghost use Rattle.std.specs.Ordering.{is_lt};
 ghost use Rattle.lake_base.specs.Maps.{HasAscendingKeys, byte_order};
 ghost use Rattle.lake_format.specs.Spelling.{range_spelling, path_at, file_name, IsRange};
 ghost use Rattle.range_file.specs.Rows.{AreRows};
+ghost use Rattle.lake_values.specs.Sameness.{same_row};
 ghost use Rattle.meta_range.specs.Files.{file_of};
+ghost use Rattle.meta_range.specs.Names.{same_rows};
 
 use crate::file::File;
 use lake_base::copying::TryCopy;
@@ -13,7 +15,7 @@ use lake_base::names::Path;
 use lake_base::outside::NoMemory;
 use lake_base::sequence::Sequence;
 use lake_values::cursor::is_below;
-use lake_values::entry::Entry;
+use lake_values::entry::{Entry, same_entry};
 use range_file::{Range, Row, encode};
 use std::alloc::Global;
 use std::marker::Model;
@@ -128,4 +130,32 @@ impl SharedRange {
     {
         is_below(self.last().as_slice(), least)
     }
+    /// Whether the other range has the same rows.
+    pub(crate) fn has_rows_of(&self, other: &SharedRange) -> bool
+        ensures { result ≡ same_rows self.now other.now }
+    {
+        same_rows(self.rows(), other.rows())
+    }
+}
+
+// Whether rows are the same.
+fn same_rows(rows: &[Row], others: &[Row]) -> bool
+    ensures { result ≡ same_rows rows.now others.now }
+{
+    if rows.len() != others.len() {
+        return false;
+    }
+    for (at, row) in rows.iter().enumerate() {
+        if !same_row(row, &others[at]) {
+            return false;
+        }
+    }
+    true
+}
+
+// Whether a path and its entry are the same.
+fn same_row(row: &Row, other: &Row) -> bool
+    ensures { result ≡ same_row row.now other.now }
+{
+    row.path == other.path && same_entry(&row.entry, &other.entry)
 }

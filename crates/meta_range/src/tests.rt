@@ -1,7 +1,8 @@
-//! Tables of trees, whose rows have 34 bytes each: their ranges, look-ups and cursors, and each fault of a reading.
+//! Tables of trees, whose rows have 34 bytes each: their ranges, look-ups and cursors, the trees of a merge, and each
+//! fault of a reading.
 ghost use Rattle.std.specs.Prelude.{◌<◌};
 
-use crate::{EntryCursor, File, MetaFault, Tree, TreeFault, read_metarange};
+use crate::{EntryCursor, File, MetaFault, Tree, TreeFault, Trio, read_metarange};
 use lake_base::digest::Digest;
 use lake_base::names::Path;
 use lake_base::sequence::Sequence;
@@ -10,7 +11,8 @@ use lake_values::changes::Changes;
 use lake_values::entry::Change;
 use lake_values::key_map::KeyMap;
 use range_file::{Cut, RangeFault, USUAL_CUT};
-use std::alloc::Global;
+use std::alloc::{AllocError, Global};
+use std::sync::Arc;
 use std::test::Fail;
 
 // The object of 5 bytes at `s3://x`, with no checksum, content type or metadata.
@@ -110,6 +112,44 @@ fn paths_are_found_and_passed(rt: HostRuntime) -> Result<(), Fail> {
     Ok(())
 }
 
+// Base, source and destination by their paths: all ranges are shared, the first is, and none is.
+const TRIOS: [[&[u8]; 3]; 4] = [
+    [b"abz", b"abz", b"abz"],
+    [b"abz", b"aby", b"abyz"],
+    [b"a", b"b", b"z"],
+    [b"", b"", b""],
+];
+
+#[test]
+fn trees_of_a_merge_agree(rt: HostRuntime) -> Result<(), Fail> {
+    let alloc = rt.alloc();
+    for [base, source, dest] in TRIOS {
+        let base = tree_of(alloc, base, 68)?;
+        let source = tree_of(alloc, source, 68)?;
+        let dest = tree_of(alloc, dest, 68)?;
+        let name = source.name();
+        let trio = trio_of(alloc, base, source, dest)?.ok_or("apart")?;
+        assert!(rt; trio.source().name() == name);
+    }
+    Ok(())
+}
+
+// The three, where they agree.
+fn trio_of(
+    alloc: Global,
+    base: Tree,
+    source: Tree,
+    dest: Tree,
+) -> Result<Option<Trio>, AllocError> {
+    if !Trio::agrees(&base, &source, &dest) {
+        return Ok(None);
+    }
+    let base = Arc::new(alloc, base)?;
+    let source = Arc::new(alloc, source)?;
+    let dest = Arc::new(alloc, dest)?;
+    Ok(Some(Trio::new(base, source, dest)))
+}
+
 // The fault of reading the tree of `a`, `b` and `z`, in ranges of one row, by ranges of at most so many bytes.
 fn fault_by(alloc: Global, files: &[File], max_bytes: u64) -> Result<Option<TreeFault>, Fail> {
     let name = tree_of(alloc, b"abz", 67)?.name();
@@ -124,6 +164,54 @@ fn a_tree_is_read_by_its_own_cut(rt: HostRuntime) -> Result<(), Fail> {
     for (max_bytes, fault) in [(67, None), (10, None), (68, Some(TreeFault::NotCut(0)))] {
         assert_eq!(rt; fault_by(rt.alloc(), files.as_slice(), max_bytes)?, fault);
     }
+    Ok(())
+}
+
+// The fault of reading the tree of `a`, `b` and `z` from files in any order, one of them given twice.
+#[test]
+fn the_first_file_of_a_name_counts_in_any_order(rt: HostRuntime) -> Result<(), Fail> {
+    let alloc = rt.alloc();
+    let mut files = tree_of(alloc, b"abz", 67)?.files(alloc)?;
+    files.reverse();
+    let named = tree_of(alloc, b"abz", 67)?.name();
+    files.push(file(alloc, named, b"")?)?;
+    assert_eq!(rt; fault_by(alloc, files.as_slice(), 67)?, None);
+    files.reverse();
+    let found = Digest::of(b"");
+    let fault = fault_by(alloc, files.as_slice(), 67)?;
+    assert_eq!(rt; fault, Some(TreeFault::Damaged { named, found }));
+    Ok(())
+}
+
+// The tree of 300 paths of two bytes, in ranges of one row.
+fn wide_tree(alloc: Global) -> Result<Tree, Fail> {
+    let mut changes = Changes::new(alloc);
+    for high in b'a'..b'p' {
+        for low in b'a'..b'u' {
+            let (entry, _) = entry_read(alloc, ENTRY, 0)?;
+            changes.set(Path::read(alloc, &[high, low])?, Change::Put(entry))?;
+        }
+    }
+    let map = KeyMap::new(alloc).apply(alloc, &changes)?;
+    Ok(Tree::build(alloc, &map, &NARROW)?)
+}
+
+// Ranges of one row.
+const NARROW: Cut = Cut {
+    max_bytes: 1,
+    modulus: 1024,
+};
+
+#[test]
+fn a_tree_of_many_ranges_is_read_in_any_order(rt: HostRuntime) -> Result<(), Fail> {
+    let alloc = rt.alloc();
+    let tree = wide_tree(alloc)?;
+    let mut files = tree.files(alloc)?;
+    assert_eq!(rt; files.len(), 301);
+    files.reverse();
+    let read = Tree::read(alloc, &tree.name(), files.as_slice(), &NARROW)?;
+    assert!(rt; read.name() == tree.name());
+    assert!(rt; Trio::agrees(&tree, &read, &tree));
     Ok(())
 }
 

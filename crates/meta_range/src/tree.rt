@@ -20,6 +20,7 @@ ghost use Rattle.meta_range.specs.Ranges.{AreRanges, tree_of, metarange_of, firs
 
 use crate::file::File;
 use crate::metarange::metarange_bytes;
+use crate::named_ranges::NamedRanges;
 use crate::shared_range::SharedRange;
 use lake_base::digest::Digest;
 use lake_base::names::Path;
@@ -39,7 +40,7 @@ use std::marker::Model;
 pub struct Tree {
     // The SHA-256 of the metarange, taken once.
     name: Digest,
-    ranges: Vec<SharedRange>,
+    ranges: NamedRanges,
 }
 
 impl Model for Tree {
@@ -51,9 +52,9 @@ impl Model for Tree {
 
     ghost coded = { tree_code };
 
-    ghost view = { λ tree. tree_of tree.ranges.items };
+    ghost view = { λ tree. tree_of tree.ranges };
 
-    ghost invariant = { λ tree. AreRanges tree.ranges.items × (tree.name ≡ file_name (metarange_of tree.ranges.items)) };
+    ghost invariant = { λ tree. AreRanges tree.ranges × (tree.name ≡ file_name (metarange_of tree.ranges)) };
 }
 
 impl Tree {
@@ -126,16 +127,21 @@ impl Tree {
         ensures { IfOk result (λ tree. tree ≡ tree_of ranges.items) }
     {
         let metarange = metarange_bytes(alloc, ranges.as_slice())?;
-        Ok(Tree::named(Digest::of(metarange.as_slice()), ranges))
+        Tree::named(alloc, Digest::of(metarange.as_slice()), ranges)
     }
 
     // The tree of these ranges, whose metarange has this name.
-    pub(crate) fn named(name: Digest, ranges: Vec<SharedRange>) -> Tree
+    pub(crate) fn named(
+        alloc: Global,
+        name: Digest,
+        ranges: Vec<SharedRange>,
+    ) -> Result<Tree, NoMemory>
         requires valid { AreRanges ranges.items }
         requires named { name ≡ file_name (metarange_of ranges.items) }
-        ensures { result ≡ tree_of ranges.items }
+        ensures { IfOk result (λ tree. tree ≡ tree_of ranges.items) }
     {
-        Tree { name, ranges }
+        let ranges = NamedRanges::of(alloc, ranges)?;
+        Ok(Tree { name, ranges })
     }
 
     // Its ranges.
@@ -143,7 +149,15 @@ impl Tree {
         ensures ranges { self.now ≡ tree_of result.now }
         ensures valid { AreRanges result.now }
     {
-        self.ranges.as_slice()
+        self.named_ranges().as_slice()
+    }
+
+    // Its ranges, which are found by their names.
+    pub(crate) fn named_ranges(&self) -> &NamedRanges
+        ensures ranges { self.now ≡ tree_of result.now }
+        ensures valid { AreRanges result.now }
+    {
+        &self.ranges
     }
 }
 
