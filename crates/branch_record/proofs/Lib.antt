@@ -1,0 +1,6 @@
+pub mod ChangesLemmas
+pub mod LayersLemmas
+pub mod PrefixLemmas
+pub mod ResetLemmas
+pub mod RowsLemmas
+pub mod TokensLemmas

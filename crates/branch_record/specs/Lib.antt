@@ -1,0 +1,5 @@
+pub mod Looking
+pub mod Overlay
+pub mod Record
+pub mod Steps
+pub mod Tokens
