@@ -7,5 +7,6 @@ pub mod OutcomeLaws
 pub mod ReadingLaws
 pub mod RunLaws
 pub mod ServingLaws
+pub mod SessionLemmas
 pub mod UriLemmas
 pub mod WordLemmas

@@ -10,14 +10,14 @@ ghost use Rattle.lake_program.specs.Batch.{entry_of};
 use crate::command::Command;
 use crate::text::{lost, no_path, refused, uploaded};
 use block_store::{Blocks, SureBlocks};
-use lake_base::{Digest, NoMemory, Path, RefName, RepoName, Text};
+use lake_base::{Digest, NameFault, NoMemory, Path, RefName, RepoName, Text};
 use lake_core::PlainLake;
 use lake_model::{By, FIRST_BRANCH, FIRST_REPO, StepFault};
 use lake_values::{Change, Entry, Pairs, Place};
 use std::alloc::Global;
 
 // How an uploaded text is kept.
-const CONTENT_TYPE: &[u8] = b"application/octet-stream";
+const CONTENT_TYPE: &str = "application/octet-stream";
 
 /// What is printed of a request, and whether it was done.
 #[derive(Debug, Drop)]
@@ -49,19 +49,13 @@ impl Session {
     pub fn new(alloc: Global) -> Result<Session, NoMemory>
         ensures { IfOk result (λ session. lake_of session ≡ fresh_lake) }
     {
-        let Ok(repo) = RepoName::read(alloc, FIRST_REPO) else {
-            return Err(NoMemory);
-        };
-        let Ok(branch) = RefName::read(alloc, FIRST_BRANCH) else {
-            return Err(NoMemory);
-        };
         Ok(Session {
             alloc,
             lake: PlainLake::fresh(alloc)?,
             blocks: SureBlocks::new(alloc),
             calls: 0,
-            repo,
-            branch,
+            repo: read_first_repo(alloc)?,
+            branch: read_first_branch(alloc)?,
         })
     }
 
@@ -213,6 +207,36 @@ impl Session {
     }
 }
 
+// The name of the repository that a fresh lake has.
+fn read_first_repo(alloc: Global) -> Result<RepoName, NoMemory>
+    ensures { IfOk result (λ repo. repo ≡ fresh_repo) }
+{
+    match RepoName::read(alloc, FIRST_REPO) {
+        Ok(repo) => Ok(repo),
+        Err(fault) => Err(want_of_memory(fault)),
+    }
+}
+
+// The name of its branch.
+fn read_first_branch(alloc: Global) -> Result<RefName, NoMemory>
+    ensures { IfOk result (λ branch. branch ≡ fresh_branch) }
+{
+    match RefName::read(alloc, FIRST_BRANCH) {
+        Ok(branch) => Ok(branch),
+        Err(fault) => Err(want_of_memory(fault)),
+    }
+}
+
+// A name that has no fault was refused, which only want of memory does.
+fn want_of_memory(fault: NameFault) -> NoMemory
+    requires { fault ≡ NameFault.NoMemory }
+{
+    match fault {
+        NameFault::NoMemory => NoMemory,
+        _ => unreachable!(),
+    }
+}
+
 // What is printed of a refused step.
 fn refusal(alloc: Global, fault: StepFault) -> Result<Reply, NoMemory>
     ensures { IfOk result (λ reply. (reply.text.items ≡ refused fault) × (reply.done ≡ false) × (fault ≢ StepFault.NoMemory)) }
@@ -234,9 +258,7 @@ fn made(
 ) -> Result<(Change, Vec<u8>), NoMemory>
     ensures { IfOk result (λ made. (made.0 ≡ Put (entry_of number text.now moment)) × (made.1.items ≡ uploaded path.now text.now)) }
 {
-    let Ok(content_type) = Text::read(alloc, CONTENT_TYPE, 255) else {
-        return Err(NoMemory);
-    };
+    let content_type = Text::of(String::from_str(alloc, CONTENT_TYPE)?);
     let entry = Entry {
         place: Place::Own {
             number,

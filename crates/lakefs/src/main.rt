@@ -21,10 +21,7 @@ fn words<R: Env + AllocGlobal>(rt: &R) -> Result<Vec<Text>, NoMemory> {
         Err(_) => return Ok(words),
     };
     for argument in arguments.skip(1) {
-        let Ok(word) = Text::read(rt.alloc(), argument.as_bytes(), usize::MAX) else {
-            return Err(NoMemory);
-        };
-        words.push(word)?;
+        words.push(Text::of(argument))?;
     }
     Ok(words)
 }
