@@ -8,5 +8,6 @@ pub mod ReadingLaws
 pub mod RunLaws
 pub mod ServingLaws
 pub mod SessionLemmas
+pub mod StatusLemmas
 pub mod UriLemmas
 pub mod WordLemmas

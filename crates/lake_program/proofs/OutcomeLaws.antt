@@ -8,13 +8,15 @@ use Rattle.std.specs.List.{All}
 use Rattle.std.specs.Str.Lines.{lines}
 use Rattle.lake_base.specs.declared.outside.Failed.{Failed}
 use Rattle.lake_program.specs.declared.words.Timing.{Timing}
+use Rattle.lake_program.specs.declared.status.ExitStatus.{ExitStatus}
+use Rattle.lake_program.specs.declared.status.ExitStatus.TheVariants.{Done, Refused, SourceFailed, SinkFailed, OutOfMemory}
 use Rattle.lake_program.specs.Batch.{Lake, Served, leaving, success, turn, before, batch, batch_of, cut_off, ended_lines, fresh_lake}
 use Rattle.lake_program.specs.Front.{IsPrefix, AsStated, IsServed}
 use Rattle.lake_program.specs.Text.{out_of_memory, too_long}
 use Rattle.lake_program.specs.Feeding.{Progress, InLine, line_room, Holds, stated, Went, Stuck, Cut, Comes, Feeds, Turns, Answers, Serves}
 use Rattle.lake_program.specs.Reading.{Reached, Part}
 use Rattle.lake_program.specs.Outcome.{start, IsWhole, Outcome}
-use Rattle.lake_program.specs.Status.{status_of, Ended}
+use Rattle.lake_program.specs.Status.{status_of, end_status, IsThrough}
 use Rattle.lake_program.proofs.Fronts.{front_of_self, front_after, front_more, as_stated_more}
 use Rattle.lake_program.proofs.ReadingLaws.{front_within}
 use Rattle.lake_program.proofs.LineLemmas.{lines_cut, lines_last, ended_cut, ended_last}
@@ -62,15 +64,15 @@ as_stated_of limit input fed m out front cut later =
 
 -- the sink failed
 pub outcome_sink_failed : (timing : Timing) (limit : ℕ) (r0 r1 w0 w1 left : Option (List ℕ)) (input : List ℕ) (new : Progress) (failed : Failed)
-    → Part timing r0 r1 w0 w1 start new limit input (Err failed) → Outcome timing limit r0 r1 w0 w1 left input 4
+    → Part timing r0 r1 w0 w1 start new limit input (Err failed) → Outcome timing limit r0 r1 w0 w1 left input SinkFailed
 outcome_sink_failed timing limit r0 r1 w0 w1 left input new failed part = record {
   moments = part.feeds.moments;
   out = part.feeds.out;
   took = part.feeds.took;
   wrote = part.feeds.wrote;
   as_stated = as_stated_of limit input part.fed part.feeds.moments part.feeds.out part.front (part.feeds.went [] holds_start refl);
-  whole = λ low. absurd (omega (arith, low));
-  given = λ is. absurd (omega (arith, is));
+  whole = λ through. absurd through;
+  given = λ is. absurd cc;
 }
 
 -- what the lines that ended in what was given come to
@@ -94,7 +96,7 @@ all_served given m out new comes =
 
 -- the source failed
 pub outcome_source_failed : (timing : Timing) (limit total : ℕ) (r0 r1 w0 w1 left : Option (List ℕ)) (input : List ℕ) (new : Progress)
-    → total ≤ limit → Reached timing r0 r1 w0 w1 start new input left total → Outcome timing limit r0 r1 w0 w1 left input 3
+    → total ≤ limit → Reached timing r0 r1 w0 w1 start new input left total → Outcome timing limit r0 r1 w0 w1 left input SourceFailed
 outcome_source_failed timing limit total r0 r1 w0 w1 left input new within reached =
     let comes = reached.feeds.went [] holds_start refl in
     let front = front_within limit reached.fed reached.left input reached.whole (omega (arith, reached.count, within)) in
@@ -104,7 +106,7 @@ outcome_source_failed timing limit total r0 r1 w0 w1 left input new within reach
       took = reached.feeds.took;
       wrote = reached.feeds.wrote;
       as_stated = as_stated_of limit input reached.fed reached.feeds.moments reached.feeds.out front (comes_cut start [] reached.fed reached.feeds.moments reached.feeds.out new comes);
-      whole = λ low. absurd (omega (arith, low));
+      whole = λ through. absurd through;
       given = λ is. record {
         given = reached.fed;
         left = reached.left;
@@ -122,23 +124,23 @@ last_turn (byte ∷ next) moments lake in_line = ap (λ (l : List (List ℕ)). b
     some : cond (nat_lt 0 (length (byte ∷ next))) ((byte ∷ next) ∷ []) [] ≡ (byte ∷ next) ∷ []
     some = grind (arith, nat_tests)
 
-absurd_high : {A : Type 0} (status : ℕ) → 2 ≤ status → status < 2 → A
-absurd_high status high low = absurd (omega (arith, high, low))
+-- where memory ran out, the batch isn't through
+starved_status : (status : ExitStatus) (starved done : Bool) → status ≡ status_of starved done → starved ≡ true → IsThrough status → ⊥
+starved_status status starved done is wants through = subst IsThrough (is ∙ ap (λ b. status_of b done) wants) through
 
--- where memory ran out, the status isn't below 2
-starved_high : (final : Progress) (result : Result (Unit {0}) Failed) (status : ℕ) → Ended final.starved final.done result status → OnOk result (final.starved ≡ true) → 2 ≤ status
-starved_high final (Ok u) status is starved = omega (arith, is ∙ ap (λ b. status_of b final.done) starved)
-starved_high final (Err failed) status is starved = omega (arith, is)
+not_through : (final : Progress) (result : Result (Unit {0}) Failed) (status : ExitStatus) → status ≡ end_status final.starved final.done result → OnOk result (final.starved ≡ true) → IsThrough status → ⊥
+not_through final (Ok u) status is starved through = starved_status status final.starved final.done is starved through
+not_through final (Err failed) status is starved through = subst IsThrough is through
 
 -- a batch that was read to its end has no status of a failed source
-not_three : (starved done : Bool) (result : Result (Unit {0}) Failed) (status : ℕ) → Ended starved done result status → status ≡ 3 → ⊥
-not_three true done (Ok u) status is three = omega (arith, is, three)
-not_three false true (Ok u) status is three = omega (arith, is, three)
-not_three false false (Ok u) status is three = omega (arith, is, three)
-not_three starved done (Err failed) status is three = omega (arith, is, three)
+not_source : (starved done : Bool) (result : Result (Unit {0}) Failed) (status : ExitStatus) → status ≡ end_status starved done result → status ≡ SourceFailed → ⊥
+not_source true done (Ok u) status is failed = cc
+not_source false true (Ok u) status is failed = cc
+not_source false false (Ok u) status is failed = cc
+not_source starved done (Err failure) status is failed = cc
 
 -- the source ended within the limit, and the line under way was served as the last
-module _ (timing : Timing) (limit : ℕ) (r0 r1 r2 w0 w1 w2 left : Option (List ℕ)) (input : List ℕ) (new final : Progress) (status : ℕ) (within : length input ≤ limit)
+module _ (timing : Timing) (limit : ℕ) (r0 r1 r2 w0 w1 w2 left : Option (List ℕ)) (input : List ℕ) (new final : Progress) (status : ExitStatus) (within : length input ≤ limit)
     (a : Feeds timing r0 r1 w0 w1 start new input (Ok tt)) where
   whole_is : (moments : List ℕ) → batch_of limit input moments ≡ batch (lines ([] ++ input ++ [])) moments fresh_lake
   whole_is moments = within_limit limit input moments (le_test (length input) limit within) ∙ ap (λ (l : List ℕ). batch (lines l) moments fresh_lake) (sym (append-nil input))
@@ -174,16 +176,16 @@ module _ (timing : Timing) (limit : ℕ) (r0 r1 r2 w0 w1 w2 left : Option (List 
       text = inr (front_after a.out out out_of_memory cut);
     })
 
-    done_is : (fed : new.starved ≡ false) (n out : List ℕ) (result : Result (Unit {0}) Failed) → Answers new.line n out new final result → Ended final.starved final.done result status → status < 2 → IsWhole limit input (a.moments ++ n) (a.out ++ out) status
-    done_is fed n out (Err failed) answers is low = absurd (omega (arith, is, low))
-    done_is fed n out (Ok u) answers is low =
+    done_is : (fed : new.starved ≡ false) (n out : List ℕ) (result : Result (Unit {0}) Failed) → Answers new.line n out new final result → status ≡ end_status final.starved final.done result → IsThrough status → IsWhole limit input (a.moments ++ n) (a.out ++ out) status
+    done_is fed n out (Err failed) answers is through = absurd (subst IsThrough is through)
+    done_is fed n out (Ok u) answers is through =
         elim final.starved as (λ b. final.starved ≡ b → MatchBool b (out ≡ out_of_memory) ((d : Bool) × (final.done ≡ (new.done && d)) × Turns new.line n out d new.lake final.lake) → IsWhole limit input (a.moments ++ n) (a.out ++ out) status) [
-          | true ↦ λ starved wants. absurd (omega (arith, low, is ∙ ap (λ b. status_of b final.done) starved))
+          | true ↦ λ starved wants. absurd (starved_status status final.starved final.done is starved through)
           | false ↦ λ plenty went.
               let shown = ap (batch_of limit input) (sym (append-nil (a.moments ++ n))) ∙ last_is n [] ∙ ap (λ (t : Served). before a.out v.done (before t.text t.done (leaving t.left (success t.lake [])))) (went.2 []) in
               record {
                 text = sym (ap (λ (s : Served). s.text) shown ∙ ap (λ (l : List ℕ). a.out ++ l) (append-nil out));
-                done = is ∙ ap (λ b. status_of b final.done) plenty ∙ ap (λ b. cond b 0 1) (all_done v.done went.0 final.done new.done v.all_done went.1 ∙ sym (ap (λ (s : Served). s.done) shown));
+                done = is ∙ ap (λ b. status_of b final.done) plenty ∙ ap (λ b. cond b Done Refused) (all_done v.done went.0 final.done new.done v.all_done went.1 ∙ sym (ap (λ (s : Served). s.done) shown));
                 just = λ later. ap (λ (s : Served). s.left) (last_is n later ∙ ap (λ (t : Served). before a.out v.done (before t.text t.done (leaving t.left (success t.lake [])))) (went.2 later));
               }
         ] refl answers
@@ -203,9 +205,9 @@ module _ (timing : Timing) (limit : ℕ) (r0 r1 r2 w0 w1 w2 left : Option (List 
     text = inl (front_more _ a.out out s.text);
   })
 
-  pub outcome_whole : (result : Result (Unit {0}) Failed) → Serves timing r1 r2 w1 w2 new final new.line result → Ended final.starved final.done result status → Outcome timing limit r0 r2 w0 w2 left input status
+  pub outcome_whole : (result : Result (Unit {0}) Failed) → Serves timing r1 r2 w1 w2 new final new.line result → status ≡ end_status final.starved final.done result → Outcome timing limit r0 r2 w0 w2 left input status
   outcome_whole result b is = record {
-    given = λ three. absurd (not_three final.starved final.done result status is three);
+    given = λ failed. absurd (not_source final.starved final.done result status is failed);
     moments = a.moments ++ b.moments;
     out = a.out ++ b.out;
     took = moments_then timing r0 r1 r2 a.moments b.moments a.took b.took;
@@ -216,14 +218,14 @@ module _ (timing : Timing) (limit : ℕ) (r0 r1 r2 w0 w1 w2 left : Option (List 
           | false ↦ λ fed v. went_stated v.0 v.1 v.2 b.moments b.out result (b.went fed)
         ] refl (a.went [] holds_start refl);
     whole = elim new.starved as (λ s. new.starved ≡ s → MatchBool s (Stuck start [] input a.moments a.out) ((next : List ℕ) × Holds next new.line × Went start [] input a.moments a.out new next)
-        → status < 2 → IsWhole limit input (a.moments ++ b.moments) (a.out ++ b.out) status) [
-          | true ↦ λ starved s. absurd_high status (starved_high final result status is (b.stays starved))
+        → IsThrough status → IsWhole limit input (a.moments ++ b.moments) (a.out ++ b.out) status) [
+          | true ↦ λ starved s through. absurd (not_through final result status is (b.stays starved) through)
           | false ↦ λ fed v. done_is v.0 v.1 v.2 fed b.moments b.out result (b.went fed) is
         ] refl (a.went [] holds_start refl);
   }
 
 -- the source gave more than the limit, and that is shown
-module _ (timing : Timing) (limit : ℕ) (r0 r1 w0 w1 w2 left : Option (List ℕ)) (input : List ℕ) (new : Progress) (status : ℕ) (more : limit < length input)
+module _ (timing : Timing) (limit : ℕ) (r0 r1 w0 w1 w2 left : Option (List ℕ)) (input : List ℕ) (new : Progress) (status : ExitStatus) (more : limit < length input)
     (a : Feeds timing r0 r1 w0 w1 start new (take limit input) (Ok tt)) where
   cut_is : (later : List ℕ) → batch_of limit input (a.moments ++ later) ≡ cut_off (batch (ended_lines ([] ++ take limit input ++ [])) (a.moments ++ later) fresh_lake)
   cut_is later =
@@ -250,23 +252,23 @@ module _ (timing : Timing) (limit : ℕ) (r0 r1 w0 w1 w2 left : Option (List ℕ
             (subst (λ (l : List ℕ). IsPrefix (a.out ++ out) (l ++ too_long)) (sym (append-nil a.out)) (front_after a.out out too_long front)))
       ] comes
 
-  pub outcome_too_long : (result : Result (Unit {0}) Failed) → Ended new.starved false result status
+  pub outcome_too_long : (result : Result (Unit {0}) Failed) → status ≡ end_status new.starved false result
       → OnOk result (IfSome w1 (λ written. w2 ≡ Some (written ++ too_long))) → OnErr result (WroteFront too_long w1 w2) → Outcome timing limit r0 r1 w0 w2 left input status
   outcome_too_long (Ok u) is wrote front = record {
-    given = λ three. absurd (not_three new.starved false (Ok u) status is three);
+    given = λ failed. absurd (not_source new.starved false (Ok u) status is failed);
     moments = a.moments;
     out = a.out ++ too_long;
     took = a.took;
     wrote = wrote_then w0 w1 w2 a.out too_long a.wrote wrote;
     as_stated = cut_stated too_long (front_of_self too_long) (a.went [] holds_start refl);
-    whole = λ low. elim new.starved as (λ b. new.starved ≡ b → MatchBool b (Stuck start [] (take limit input) a.moments a.out) ((next : List ℕ) × Holds next new.line × Went start [] (take limit input) a.moments a.out new next)
+    whole = λ through. elim new.starved as (λ b. new.starved ≡ b → MatchBool b (Stuck start [] (take limit input) a.moments a.out) ((next : List ℕ) × Holds next new.line × Went start [] (take limit input) a.moments a.out new next)
         → IsWhole limit input a.moments (a.out ++ too_long) status) [
-          | true ↦ λ starved s. absurd (omega (arith, low, is ∙ ap (λ b. status_of b false) starved))
+          | true ↦ λ starved s. absurd (starved_status status new.starved false is starved through)
           | false ↦ λ fed v.
               let shown = ap (batch_of limit input) (sym (append-nil a.moments)) ∙ after_lines v.0 v.1 v.2 [] in
               record {
                 text = sym (ap (λ (s : Served). s.text) shown ∙ ap (λ (l : List ℕ). l ++ too_long) (append-nil a.out));
-                done = is ∙ ap (λ b. status_of b false) fed ∙ sym (ap (λ (s : Served). cond s.done 0 1) shown);
+                done = is ∙ ap (λ b. status_of b false) fed ∙ sym (ap (λ (s : Served). cond s.done Done Refused) shown);
                 just = λ later. ap (λ (s : Served). s.left) (after_lines v.0 v.1 v.2 later);
               }
         ] refl (a.went [] holds_start refl);
@@ -279,18 +281,18 @@ module _ (timing : Timing) (limit : ℕ) (r0 r1 w0 w1 w2 left : Option (List ℕ
         took = a.took;
         wrote = wrote_then w0 w1 w2 a.out part.0 a.wrote part.2;
         as_stated = cut_stated part.0 part.1 (a.went [] holds_start refl);
-        whole = λ low. absurd (omega (arith, low, is));
-        given = λ three. absurd (not_three new.starved false (Err failed) status is three);
+        whole = λ through. absurd (subst IsThrough is through);
+        given = λ source. absurd (not_source new.starved false (Err failed) status is source);
       }
 
 -- no memory was found before the first byte was read
-pub outcome_none : (timing : Timing) (limit : ℕ) (readings written left : Option (List ℕ)) (input : List ℕ) → Outcome timing limit readings readings written written left input 7
+pub outcome_none : (timing : Timing) (limit : ℕ) (readings written left : Option (List ℕ)) (input : List ℕ) → Outcome timing limit readings readings written written left input OutOfMemory
 outcome_none timing limit readings written left input = record {
   moments = [];
   out = [];
   took = moments_none timing readings;
   wrote = wrote_none written;
   as_stated = λ more. inl (_, refl);
-  whole = λ low. absurd (omega (arith, low));
-  given = λ is. absurd (omega (arith, is));
+  whole = λ through. absurd through;
+  given = λ is. absurd cc;
 }

@@ -1,24 +1,44 @@
 -- The statuses of the program.
-use Rattle.std.specs.Prelude.{◌≡◌, ◌⊎◌, ◌||◌, ◌==◌, ◌++◌, ℕ, Bool, List, Option, Some, IfSome, IsTrue, Result, Ok, Err, if◌then◌else◌}
+use Rattle.std.specs.Prelude.{◌≡◌, ◌⊎◌, ◌++◌, ℕ, Bool, List, Option, Some, IfSome, Result, Ok, Err, if◌then◌else◌}
 use Rattle.lake_base.specs.declared.outside.Failed.{Failed}
+use Rattle.lake_program.specs.declared.status.ExitStatus.{ExitStatus}
+use Rattle.lake_program.specs.declared.status.ExitStatus.TheVariants.{Done, Refused, Usage, SourceFailed, SinkFailed, OutOfMemory}
 use Rattle.lake_program.specs.Front.{IsPrefix}
 use Rattle.lake_program.specs.Text.{usage}
 
+-- the number by which the system knows a status
+abbrev pub status_number : ExitStatus → ℕ
+status_number Done = 0
+status_number Refused = 1
+status_number Usage = 2
+status_number SourceFailed = 3
+status_number SinkFailed = 4
+status_number OutOfMemory = 7
+
+-- the number is that of a status
+abbrev pub IsStatusNumber : ℕ → Type 0
+IsStatusNumber number = (status : ExitStatus) × (number ≡ status_number status)
+
 -- the status of a batch that was read to its end, by whether memory ran out and whether each line was done
-abbrev pub status_of : Bool → Bool → ℕ
-status_of starved done = if starved then 7 else if done then 0 else 1
+abbrev pub status_of : Bool → Bool → ExitStatus
+status_of starved done = if starved then OutOfMemory else if done then Done else Refused
 
--- done; a line was refused; the source failed; a sink failed; out of memory
-abbrev pub IsBatchStatus : ℕ → Type 0
-IsBatchStatus status = IsTrue ((status == 0) || (status == 1) || (status == 3) || (status == 4) || (status == 7))
+-- the same, where the last writing came out so
+abbrev pub end_status : Bool → Bool → Result (Unit {0}) Failed → ExitStatus
+end_status starved done (Ok _) = status_of starved done
+end_status starved done (Err failed) = SinkFailed
 
--- the status of a batch whose last writing came out so
-abbrev pub Ended : Bool → Bool → Result (Unit {0}) Failed → ℕ → Type 0
-Ended starved done (Ok u) status = status ≡ status_of starved done
-Ended starved done (Err failed) status = status ≡ 4
+-- the batch was read to its end, and memory sufficed
+abbrev pub IsThrough : ExitStatus → Type 0
+IsThrough Done = Unit {0}
+IsThrough Refused = Unit {0}
+IsThrough Usage = ⊥
+IsThrough SourceFailed = ⊥
+IsThrough SinkFailed = ⊥
+IsThrough OutOfMemory = ⊥
 
 -- All of the text of a usage fault was written, or a front of it where that failed.
-abbrev pub ShowsUsage : Option (List ℕ) → Option (List ℕ) → ℕ → Type 0
+abbrev pub ShowsUsage : Option (List ℕ) → Option (List ℕ) → ExitStatus → Type 0
 ShowsUsage before after status =
-    ((status ≡ 2) × IfSome before (λ written. after ≡ Some (written ++ usage)))
-    ⊎ ((status ≡ 4) × IfSome before (λ written. (out : List ℕ) × IsPrefix out usage × (after ≡ Some (written ++ out))))
+    ((status ≡ Usage) × IfSome before (λ written. after ≡ Some (written ++ usage)))
+    ⊎ ((status ≡ SinkFailed) × IfSome before (λ written. (out : List ℕ) × IsPrefix out usage × (after ≡ Some (written ++ out))))

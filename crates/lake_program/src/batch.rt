@@ -4,13 +4,14 @@ ghost use Rattle.lake_base.specs.Outside.{HasCause, Rose};
 ghost use Rattle.lake_program.specs.Session.{lake_of};
 ghost use Rattle.lake_program.specs.Front.{IsPrefix};
 ghost use Rattle.lake_program.specs.Text.{too_long};
-ghost use Rattle.lake_program.specs.Status.{Ended, IsBatchStatus};
+ghost use Rattle.lake_program.specs.Status.{end_status};
 ghost use Rattle.lake_program.specs.Tally.{progress};
 ghost use Rattle.lake_program.specs.Feeding.{Moments, Turns, Serves, Feeds};
 
 use crate::command::{is_skipped, read_command};
 use crate::line_buffer::LineBuffer;
 use crate::session::{Reply, Session};
+use crate::status::ExitStatus;
 use crate::text::{NOT_BUILT, OUT_OF_MEMORY, TOO_LONG};
 use crate::words::Timing;
 use crate::write::write_all;
@@ -26,26 +27,19 @@ pub struct Tally {
     pub starved: bool,
 }
 
-// The statuses of a run: the source failed, a sink failed, and memory ran out.
-const SOURCE_FAILED: u8 = 3;
-
-pub const SINK_FAILED: u8 = 4;
-
-pub const OUT_OF_MEMORY_STATUS: u8 = 7;
-
 impl Tally {
     // The status of a batch that was read to its end, and whose last writing came out so.
-    fn ended(self, written: Result<(), Failed>) -> u8
-        ensures { Ended self.starved self.done written result }
+    fn status(self, written: Result<(), Failed>) -> ExitStatus
+        ensures { result ≡ end_status self.starved self.done written }
     {
         if written.is_err() {
-            SINK_FAILED
+            ExitStatus::SinkFailed
         } else if self.starved {
-            OUT_OF_MEMORY_STATUS
+            ExitStatus::OutOfMemory
         } else if self.done {
-            0
+            ExitStatus::Done
         } else {
-            1
+            ExitStatus::Refused
         }
     }
 
@@ -306,26 +300,26 @@ impl Batch {
 
     /// Ends a batch whose reading ended so: what is stated of the last line, or of a source that gave
     /// too much, is written, and the status is answered.
-    pub fn finish<C: Clock, W: Sink>(&mut self, end: End, clock: &mut C, sink: &mut W) -> u8
+    pub fn finish<C: Clock, W: Sink>(&mut self, end: End, clock: &mut C, sink: &mut W) -> ExitStatus
         requires { self.old.session.calls + 1 < 2 ^ 64 }
         ensures outcome { (limit : ℕ) (input : List ℕ) (earlier before left : Option (List ℕ))
             → Ends self.old.timing earlier (C.readings clock.old) before (W.written sink.old) start (progress_of self.old) limit input left end
             → Outcome self.old.timing limit earlier (C.readings clock.new) before (W.written sink.new) left input result }
-        ensures source { (result ≡ 3) ↔ (end ≡ End.SourceFailed) }
-        ensures sink { (W.faults sink.old ≤ W.faults sink.new) × (result ≡ 4 → (end ≢ End.SinkFailed) → Rose (W.faults sink.old) (W.faults sink.new)) }
-        ensures statuses { IsBatchStatus result }
+        ensures source { (result ≡ ExitStatus.SourceFailed) ↔ (end ≡ End.SourceFailed) }
+        ensures sink { (W.faults sink.old ≤ W.faults sink.new) × (result ≡ ExitStatus.SinkFailed → (end ≢ End.SinkFailed) → Rose (W.faults sink.old) (W.faults sink.new)) }
+        ensures statuses { result ≢ ExitStatus.Usage }
     {
         match end {
             End::Source => {
                 let closed = self.close(clock, sink);
-                self.tally.ended(closed)
+                self.tally.status(closed)
             }
             End::TooLong => {
                 let cut = self.cut_off(sink);
-                self.tally.ended(cut)
+                self.tally.status(cut)
             }
-            End::SourceFailed => SOURCE_FAILED,
-            End::SinkFailed => SINK_FAILED,
+            End::SourceFailed => ExitStatus::SourceFailed,
+            End::SinkFailed => ExitStatus::SinkFailed,
         }
     }
 }

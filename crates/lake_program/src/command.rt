@@ -3,7 +3,8 @@ ghost use Rattle.std.specs.Prelude.{◌≡◌, ◌≢◌, ◌<◌, ◌≤◌, �
 ghost use Rattle.lake_program.specs.Command.{is_skipped, words_of, path_of, request_of, cat_request, upload_request};
 ghost use Rattle.lake_program.specs.Seen.{requests_seen};
 
-use crate::word::{LINE_LIMIT, next_word};
+use crate::limits::LINE_LIMIT;
+use crate::word::next_word;
 use lake_base::{NameFault, NoMemory, Path};
 use std::alloc::Global;
 

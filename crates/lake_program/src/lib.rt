@@ -1,7 +1,8 @@
 //! The program as a library: a batch of commands on a lake in memory.
 //!
-//! - `run`: the call that the program makes, with the promise of what it prints.
-//! - `words`: the words that the program was started with. `command`, `word`: the commands of lines.
+//! - `run`: the call that the program makes, with the promise of what it prints; `status`: how it ends.
+//! - `words`: the words that the program was started with. `command`, `word`: the commands of lines. `limits`:
+//!   how long a line and a batch may be.
 //! - `line_buffer`, `batch`: the source read piece by piece, cut into lines that are served.
 //! - `session`: the requests of one client. `text`, `write`: what is printed, and writing it.
 //! - `adapters`, `host`: the real streams, clock and machine.
@@ -14,9 +15,11 @@ pub mod adapters;
 pub mod batch;
 pub mod command;
 pub mod host;
+pub mod limits;
 pub mod line_buffer;
 pub mod run;
 pub mod session;
+pub mod status;
 #[cfg(test)]
 mod tests;
 pub mod text;

@@ -1,30 +1,28 @@
 //! The program as one call.
-ghost use Rattle.std.specs.Prelude.{◌≡◌, ◌≢◌, ◌≤◌, ◌<◌, ◌^◌, ◌⊎◌, ◌++◌, ◌↔◌, ℕ, List, IfSome, IsSome, IsNone, IfOk, length, if◌then◌else◌};
+ghost use Rattle.std.specs.Prelude.{◌≡◌, ◌≢◌, ◌≤◌, ◌<◌, ◌^◌, ◌⊎◌, ◌++◌, ℕ, List, IfSome, IsSome, IsNone, IfOk, length, if◌then◌else◌};
 ghost use Rattle.lake_base.specs.Outside.{Rose, Quiet};
 ghost use Rattle.lake_base.specs.declared.limits.TheConstants.{PATH_LIMIT};
 ghost use Rattle.lake_model.specs.declared.history.TheConstants.{HISTORY_LIMIT};
-ghost use Rattle.lake_program.specs.declared.word.TheConstants.{LINE_LIMIT};
+ghost use Rattle.lake_program.specs.declared.limits.TheConstants.{LINE_LIMIT};
+ghost use Rattle.lake_program.specs.declared.status.ExitStatus.{ExitStatus as Status};
 ghost use Rattle.lake_program.specs.Words.{timing_of};
 ghost use Rattle.lake_program.specs.Batch.{batch_of, TakesJust};
 ghost use Rattle.lake_program.specs.Feeding.{Moments};
 ghost use Rattle.lake_program.specs.Outcome.{Outcome};
-ghost use Rattle.lake_program.specs.Status.{IsBatchStatus, ShowsUsage};
+ghost use Rattle.lake_program.specs.Status.{IsStatusNumber, ShowsUsage, status_number};
 
-use crate::batch::{Batch, OUT_OF_MEMORY_STATUS, SINK_FAILED};
+use crate::batch::Batch;
 use crate::host::Host;
+use crate::limits::BATCH_LIMIT;
+use crate::status::ExitStatus;
 use crate::text::USAGE;
 use crate::words::{Timing, batch_timing};
 use crate::write::write_all;
 use lake_base::{Clock, NoMemory, Sink, Source, Text};
 use std::alloc::Global;
 
-/// The most bytes of a batch.
-pub const BATCH_LIMIT: u64 = 1_073_741_824;
-
 // How many bytes are read at once.
 const ROOM: usize = 65_536;
-
-const USAGE_STATUS: u8 = 2;
 
 /// Runs the program with these words: `batch`, or `batch --at N`. Each line of the source is a command;
 /// what it shows goes to the sink. All other words are a usage fault, which is shown on `errors`.
@@ -54,10 +52,12 @@ pub fn run<R, S: Source, W: Sink, E: Sink, C: Clock, H: Host>(
     // Whatever failed, the sink got a prefix of that, up to a line that found no memory. Where the source
     // failed, it got all of the lines that had ended.
     ensures prefix { IfSome (timing_of words.now) (λ timing. IfSome (S.left source.old) (λ input.
-        Outcome timing 1073741824 (C.readings clock.old) (C.readings clock.new) (W.written sink.old) (W.written sink.new) (S.left source.new) input result)) }
+        (status : Status) × (result ≡ status_number status)
+        × Outcome timing 1073741824 (C.readings clock.old) (C.readings clock.new) (W.written sink.old) (W.written sink.new) (S.left source.new) input status)) }
 
     // Other words are a usage fault, and nothing else is done.
-    ensures usage { (result ≡ 2 → IsNone (timing_of words.now)) × (IsNone (timing_of words.now) → ShowsUsage (E.written errors.old) (E.written errors.new) result
+    ensures usage { (result ≡ 2 → IsNone (timing_of words.now)) × (IsNone (timing_of words.now)
+        → ((status : Status) × (result ≡ status_number status) × ShowsUsage (E.written errors.old) (E.written errors.new) status)
         × (sink.new ≡ sink.old) × (source.new ≡ source.old) × (clock.new ≡ clock.old)) }
     ensures no_errors { IsSome (timing_of words.now) → errors.new ≡ errors.old }
     ensures host { _host.new ≡ _host.old }
@@ -66,25 +66,25 @@ pub fn run<R, S: Source, W: Sink, E: Sink, C: Clock, H: Host>(
     ensures source_failed { result ≡ 3 → Rose (S.faults source.old) (S.faults source.new) }
     ensures sink_failed { result ≡ 4 → IsSome (timing_of words.now) → Rose (W.faults sink.old) (W.faults sink.new) }
     ensures errors_failed { result ≡ 4 → IsNone (timing_of words.now) → Rose (E.faults errors.old) (E.faults errors.new) }
-    ensures statuses { IsBatchStatus result ⊎ (result ≡ 2) }
+    ensures statuses { IsStatusNumber result }
     ensures limits { (BATCH_LIMIT ≡ 1073741824) × (LINE_LIMIT ≡ 65536) × (HISTORY_LIMIT ≡ 4194304) × (PATH_LIMIT ≡ 1024) }
     ensures later { (S.faults source.old ≤ S.faults source.new) × (W.faults sink.old ≤ W.faults sink.new) × (E.faults errors.old ≤ E.faults errors.new) }
 {
     match batch_timing(words) {
-        Some(timing) => serve_batch(alloc, BATCH_LIMIT, timing, source, sink, clock),
-        None => show_usage(errors),
+        Some(timing) => serve_batch(alloc, BATCH_LIMIT, timing, source, sink, clock).number(),
+        None => show_usage(errors).number(),
     }
 }
 
 // Shows that the words are a usage fault.
-fn show_usage<E: Sink>(errors: &mut E) -> u8
+fn show_usage<E: Sink>(errors: &mut E) -> ExitStatus
     ensures shows { ShowsUsage (E.written errors.old) (E.written errors.new) result }
-    ensures statuses { (result ≡ 2) ⊎ ((result ≡ 4) × Rose (E.faults errors.old) (E.faults errors.new)) }
+    ensures statuses { (result ≡ ExitStatus.Usage) ⊎ ((result ≡ ExitStatus.SinkFailed) × Rose (E.faults errors.old) (E.faults errors.new)) }
     ensures later { E.faults errors.old ≤ E.faults errors.new }
 {
     match write_all(errors, USAGE) {
-        Ok(()) => USAGE_STATUS,
-        Err(_) => SINK_FAILED,
+        Ok(()) => ExitStatus::Usage,
+        Err(_) => ExitStatus::SinkFailed,
     }
 }
 
@@ -96,19 +96,19 @@ pub fn serve_batch<S: Source, W: Sink, C: Clock>(
     source: &mut S,
     sink: &mut W,
     clock: &mut C,
-) -> u8
+) -> ExitStatus
     requires { limit < 2 ^ 63 }
     ensures outcome { IfSome (S.left source.old) (λ input.
         Outcome timing limit (C.readings clock.old) (C.readings clock.new) (W.written sink.old) (W.written sink.new) (S.left source.new) input result) }
-    ensures source { (S.faults source.old ≤ S.faults source.new) × (result ≡ 3 → Rose (S.faults source.old) (S.faults source.new)) }
-    ensures sink { (W.faults sink.old ≤ W.faults sink.new) × (result ≡ 4 → Rose (W.faults sink.old) (W.faults sink.new)) }
-    ensures statuses { IsBatchStatus result }
+    ensures source { (S.faults source.old ≤ S.faults source.new) × (result ≡ ExitStatus.SourceFailed → Rose (S.faults source.old) (S.faults source.new)) }
+    ensures sink { (W.faults sink.old ≤ W.faults sink.new) × (result ≡ ExitStatus.SinkFailed → Rose (W.faults sink.old) (W.faults sink.new)) }
+    ensures statuses { result ≢ ExitStatus.Usage }
 {
     let Ok(mut batch) = Batch::new(alloc, timing) else {
-        return OUT_OF_MEMORY_STATUS;
+        return ExitStatus::OutOfMemory;
     };
     let Ok(mut room) = room_of(alloc, ROOM) else {
-        return OUT_OF_MEMORY_STATUS;
+        return ExitStatus::OutOfMemory;
     };
     let end = batch.read(limit, source, clock, sink, room.as_mut_slice());
     batch.finish(end, clock, sink)

@@ -284,7 +284,7 @@ fn a_batch_above_its_limit_serves_the_lines_that_ended(rt: HostRuntime) -> Resul
             &mut sink,
             &mut clock,
         );
-        assert_eq!(rt; found, status, "at {limit}");
+        assert_eq!(rt; found.number(), status, "at {limit}");
         if status == 0 {
             assert_eq!(rt; sink.written(), out, "at {limit}");
         } else {

@@ -38,6 +38,3 @@ pub fn next_word(line: &[u8]) -> Option<(&[u8], &[u8])>
     }
     Some(rest.split_at(word_end(rest)))
 }
-
-/// The most bytes of a line, without its end.
-pub const LINE_LIMIT: usize = 65_536;

@@ -7,6 +7,7 @@ use lake_base::{NoMemory, Text};
 use lake_program::adapters::{StdSink, StdSource, SystemClock};
 use lake_program::host::NoHost;
 use lake_program::run::run;
+use lake_program::status::ExitStatus;
 use std::env;
 use std::io::ErrorKind;
 use std::process::ExitCode;
@@ -28,7 +29,7 @@ fn words<R: Env + AllocGlobal>(rt: &R) -> Result<Vec<Text>, NoMemory> {
 
 fn main(rt: HostRuntime) -> ExitCode {
     let Ok(words) = words(&rt) else {
-        return ExitCode::from(7);
+        return ExitCode::from(ExitStatus::OutOfMemory.number());
     };
     let mut source = StdSource::new(rt.stdin());
     let mut sink = StdSink::new(rt.stdout());

@@ -1,9 +1,9 @@
-use Rattle.std.proofs.Common.{subst}
+use Rattle.std.proofs.Common.{◌≡◌, subst}
 use Rattle.lake_program.specs.BatchSeen.{progress_of}
 use Rattle.lake_program.specs.Feeding.{Progress}
 use Rattle.lake_program.specs.Outcome.{start}
 use Rattle.lake_program.specs.Reading.{Ends}
-use Rattle.lake_program.specs.Status.{Ended}
+use Rattle.lake_program.specs.Status.{end_status}
 use Rattle.lake_program.specs.declared.batch.End.{End}
 use Rattle.lake_program.proofs.OutcomeLaws.{outcome_source_failed, outcome_sink_failed, outcome_whole, outcome_too_long}
 use Rattle.lake_program.proofs.batch.Batch.finish.Goals as goal
@@ -12,14 +12,14 @@ pub returns-in-Source-clause-outcome : goal.returns-in-Source-clause-outcome
 returns-in-Source-clause-outcome g c limit input earlier before left ends =
     let now = subst (λ (e : End). Ends c.args.self.now.timing earlier (g.C.Clock.readings c.args.clock.now) before (g.W.Sink.written c.args.sink.now) start (progress_of c.args.self.now) limit input left e) c.in-Source.is ends in
     outcome_whole c.args.self.now.timing limit earlier (g.C.Clock.readings c.args.clock.now) (g.C.Clock.readings c.close-closed.new.clock) before (g.W.Sink.written c.args.sink.now) (g.W.Sink.written c.close-closed.new.sink)
-    left input (progress_of c.args.self.now) (progress_of c.close-closed.new.self) c.ended.result now.0 now.1 c.close-closed.result c.close-closed.ensures.serves c.ended.ensures
+    left input (progress_of c.args.self.now) (progress_of c.close-closed.new.self) c.status.result now.0 now.1 c.close-closed.result c.close-closed.ensures.serves c.status.ensures
 
 pub returns-in-TooLong-clause-outcome : goal.returns-in-TooLong-clause-outcome
 returns-in-TooLong-clause-outcome g c limit input earlier before left ends =
     let now = subst (λ (e : End). Ends c.args.self.now.timing earlier (g.C.Clock.readings c.args.clock.now) before (g.W.Sink.written c.args.sink.now) start (progress_of c.args.self.now) limit input left e) c.in-TooLong.is ends in
-    let ended = subst (λ (p : Progress). Ended p.starved p.done c.cut_off-cut.result c.ended-in-TooLong.result) c.cut_off-cut.ensures.progress c.ended-in-TooLong.ensures in
+    let ended = subst (λ (p : Progress). c.status-in-TooLong.result ≡ end_status p.starved p.done c.cut_off-cut.result) c.cut_off-cut.ensures.progress c.status-in-TooLong.ensures in
     outcome_too_long c.args.self.now.timing limit earlier (g.C.Clock.readings c.args.clock.now) before (g.W.Sink.written c.args.sink.now) (g.W.Sink.written c.cut_off-cut.new.sink)
-    left input (progress_of c.args.self.now) c.ended-in-TooLong.result now.0 now.1 c.cut_off-cut.result ended c.cut_off-cut.ensures.all c.cut_off-cut.ensures.front
+    left input (progress_of c.args.self.now) c.status-in-TooLong.result now.0 now.1 c.cut_off-cut.result ended c.cut_off-cut.ensures.all c.cut_off-cut.ensures.front
 
 pub returns-in-SourceFailed-clause-outcome : goal.returns-in-SourceFailed-clause-outcome
 returns-in-SourceFailed-clause-outcome g c limit input earlier before left ends =
