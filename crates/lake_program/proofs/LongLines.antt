@@ -5,8 +5,8 @@ use Rattle.std.proofs.lemmas.Bool.Decides.{nat_tests}
 use Rattle.std.proofs.lemmas.List.{take_all, get_or-take}
 use Rattle.std.specs.Str.{is_utf8}
 use Rattle.std.specs.Str.Lines.{strip_carriage_return}
-use Rattle.lake_program.specs.Command.{request_of, request_of_words, words_of}
-use Rattle.lake_program.specs.Batch.{Lake, Served, leaving, success, asked, turn}
+use Rattle.lake_program.specs.Command.{LineValue, Skipped, NotBuilt, request_of, request_of_words, words_of, line_of_request, line_value}
+use Rattle.lake_program.specs.Batch.{Lake, line_effect, turn}
 use Rattle.lake_program.specs.Feeding.{line_room}
 
 -- what is told by the length and the first byte
@@ -19,14 +19,14 @@ no_request x long =
     let over : nat_le (length x) 65536 ≡ false = grind (arith, nat_tests) in
     ap (λ b. cond (b && is_utf8 x) (request_of_words (words_of x)) None) over
 
--- what a line that is too long comes to
-abbrev told : ℕ → List ℕ → Lake → Served
-told first moments lake = cond (first == 35) (leaving moments (success lake [])) (asked None moments lake)
+-- what a line asks for that is too long
+value_long : (x : List ℕ) (first : ℕ) → Long x first → line_value x ≡ cond (first == 35) Skipped NotBuilt
+value_long [] first is = absurd (omega (arith, is.long))
+value_long (byte ∷ bytes) first is =
+    ap (λ r. cond (byte == 35) Skipped (line_of_request r)) (no_request (byte ∷ bytes) is.long) ∙ ap (λ b. cond (b == 35) Skipped NotBuilt) is.begins
 
-turn_long : (x : List ℕ) (first : ℕ) (moments : List ℕ) (lake : Lake) → Long x first → turn x moments lake ≡ told first moments lake
-turn_long [] first moments lake is = absurd (omega (arith, is.long))
-turn_long (byte ∷ bytes) first moments lake is =
-    ap (λ r. cond (byte == 35) (leaving moments (success lake [])) (asked r moments lake)) (no_request (byte ∷ bytes) is.long) ∙ ap (λ b. told b moments lake) is.begins
+turn_long : (x y : List ℕ) (first : ℕ) (moments : List ℕ) (lake : Lake) → Long x first → Long y first → turn x moments lake ≡ turn y moments lake
+turn_long x y first moments lake is too = ap (λ v. line_effect v moments lake) (value_long x first is ∙ sym (value_long y first too))
 
 choose : (P : List ℕ → Type 0) (b : Bool) (x y : List ℕ) → P x → P y → P (cond b x y)
 choose P true x y p q = p
@@ -51,8 +51,7 @@ turn_ended line moments lake =
       | inl short ↦ ap (λ l. turn (strip_carriage_return l) moments lake) (take_all line_room line short)
       | inr long ↦
           let first = get_or line 0 0 in
-          turn_long _ first moments lake (stripped (take line_room line) first (omega (arith, length-take line_room line)) (kept_long line long).begins)
-          ∙ sym (turn_long _ first moments lake (stripped line first (omega arith) refl))
+          turn_long _ _ first moments lake (stripped (take line_room line) first (omega (arith, length-take line_room line)) (kept_long line long).begins) (stripped line first (omega arith) refl)
     ]
 
 -- and so do they as the last line
@@ -62,5 +61,5 @@ turn_last line moments lake =
       | inl short ↦ ap (λ l. turn l moments lake) (take_all line_room line short)
       | inr long ↦
           let first = get_or line 0 0 in
-          turn_long _ first moments lake (kept_long line long) ∙ sym (turn_long line first moments lake (record { long = omega arith; begins = refl }))
+          turn_long _ line first moments lake (kept_long line long) (record { long = omega arith; begins = refl })
     ]

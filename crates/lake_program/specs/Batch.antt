@@ -17,7 +17,7 @@ use Rattle.lake_model.specs.declared.reply.StepFault.{StepFault}
 use Rattle.lake_model.specs.State.{State, fresh, fresh_repo, fresh_branch}
 use Rattle.lake_model.specs.After.{own_number, replay}
 use Rattle.lake_model.specs.Reply.{look_reply, versions_reply, ticket_reply, drop_reply, stage_reply}
-use Rattle.lake_program.specs.Command.{Request, Upload, Cat, is_skipped, request_of}
+use Rattle.lake_program.specs.Command.{Request, Upload, Cat, LineValue, Skipped, NotBuilt, Asks, line_value}
 use Rattle.lake_program.specs.Text.{not_built, too_long, uploaded, no_path, lost, refused}
 
 -- a lake with the objects that it holds, as one client sees it
@@ -138,14 +138,15 @@ pub record Served : Type 0 where
 abbrev pub leaving : List ℕ → Shown → Served
 leaving moments shown = record { text = shown.text; done = shown.done; lake = shown.lake; left = moments }
 
--- what a line comes to that isn't passed over; a request takes the next moment
-abbrev pub asked : Option Request → List ℕ → Lake → Served
-asked (Some request) moments lake = leaving (drop 1 moments) (serve request (slice_index moments 0) (with_call lake))
-asked None moments lake = leaving moments (refusal lake not_built)
+-- what it comes to that a line asks this; a request takes the next moment
+abbrev pub line_effect : LineValue → List ℕ → Lake → Served
+line_effect Skipped moments lake = leaving moments (success lake [])
+line_effect NotBuilt moments lake = leaving moments (refusal lake not_built)
+line_effect (Asks request) moments lake = leaving (drop 1 moments) (serve request (slice_index moments 0) (with_call lake))
 
 -- what a line comes to
 abbrev pub turn : List ℕ → List ℕ → Lake → Served
-turn line moments lake = if is_skipped line then leaving moments (success lake []) else asked (request_of line) moments lake
+turn line moments lake = line_effect (line_value line) moments lake
 
 -- what was shown, and then what came after it
 abbrev pub before : List ℕ → Bool → Served → Served

@@ -6,11 +6,18 @@ use Rattle.std.specs.Prelude.{nat_eq}
 use Rattle.lake_base.specs.Names.{path_fault}
 use Rattle.lake_base.specs.declared.names.NameFault.{NameFault}
 
+-- what the lake is asked for
 pub data Request : Type 0 where
   -- the text becomes an object at the path
   Upload : (path text : List ℕ) → Request
   -- the object at the path is shown
   Cat : (path : List ℕ) → Request
+
+-- what a line asks for: nothing, where it is passed over; what isn't built yet; or a request
+pub data LineValue : Type 0 where
+  Skipped : LineValue
+  NotBuilt : LineValue
+  Asks : Request → LineValue
 
 -- a line that is passed over: an empty one, and one that begins with `#`
 abbrev pub is_skipped : List ℕ → Bool
@@ -63,6 +70,15 @@ request_of_words (noun ∷ verb ∷ uri ∷ words) =
     else None)
     else None
 
--- The request of a line, which isn't too long and is UTF-8.
+-- the request of a line, which isn't too long and is UTF-8
 abbrev pub request_of : List ℕ → Option Request
 request_of line = if nat_le (length line) 65536 && is_utf8 line then request_of_words (words_of line) else None
+
+-- a line that isn't passed over
+abbrev pub line_of_request : Option Request → LineValue
+line_of_request (Some request) = Asks request
+line_of_request None = NotBuilt
+
+-- What a line asks for.
+abbrev pub line_value : List ℕ → LineValue
+line_value line = if is_skipped line then Skipped else line_of_request (request_of line)

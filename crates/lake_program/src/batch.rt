@@ -8,7 +8,7 @@ ghost use Rattle.lake_program.specs.Status.{end_status};
 ghost use Rattle.lake_program.specs.Tally.{progress};
 ghost use Rattle.lake_program.specs.Feeding.{Moments, Turns, Serves, Feeds};
 
-use crate::command::{is_skipped, read_command};
+use crate::command::{Line, read_line};
 use crate::line_buffer::LineBuffer;
 use crate::session::{Reply, Session};
 use crate::status::ExitStatus;
@@ -75,21 +75,19 @@ fn turn<C: Clock>(
         × IfOk result (λ reply. Turns line.now moments reply.text.items reply.done (lake_of session.old) (lake_of session.new)) }
     ensures calls { session.new.calls ≤ session.old.calls + 1 }
 {
-    if is_skipped(line) {
-        return Ok(Reply {
+    match read_line(alloc, line) {
+        Ok(Line::Skipped) => Ok(Reply {
             text: Vec::new(alloc),
             done: true,
-        });
-    }
-    match read_command(alloc, line) {
-        Ok(Some(command)) => {
-            let moment = next_moment(timing, clock);
-            session.serve(command, moment)
-        }
-        Ok(None) => Ok(Reply {
+        }),
+        Ok(Line::NotBuilt) => Ok(Reply {
             text: Vec::from_slice(alloc, NOT_BUILT)?,
             done: false,
         }),
+        Ok(Line::Request(command)) => {
+            let moment = next_moment(timing, clock);
+            session.serve(command, moment)
+        }
         Err(NoMemory) => Err(NoMemory),
     }
 }

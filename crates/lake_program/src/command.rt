@@ -1,7 +1,7 @@
-//! The commands of a batch's lines.
+//! What a batch's lines ask for.
 ghost use Rattle.std.specs.Prelude.{◌≡◌, ◌≢◌, ◌<◌, ◌≤◌, ◌∷◌, [], ℕ, length, drop, slice_index, IfOk, MatchOption, option_copied};
-ghost use Rattle.lake_program.specs.Command.{is_skipped, words_of, path_of, request_of, cat_request, upload_request};
-ghost use Rattle.lake_program.specs.Seen.{requests_seen};
+ghost use Rattle.lake_program.specs.Command.{is_skipped, words_of, path_of, request_of, line_value, cat_request, upload_request};
+ghost use Rattle.lake_program.specs.Seen.{requests_seen, line_seen};
 
 use crate::limits::LINE_LIMIT;
 use crate::word::next_word;
@@ -13,6 +13,17 @@ const BRANCH_URI: &[u8] = b"lakefs://quickstart/main/";
 
 /// What a line asks for.
 #[derive(Debug, Drop)]
+pub enum Line<'a> {
+    /// Nothing, and it is passed over: it is empty, or begins with `#`.
+    Skipped,
+    /// What isn't built yet: it is of no form that is, too long, or not UTF-8.
+    NotBuilt,
+    /// This.
+    Request(Command<'a>),
+}
+
+/// What the lake is asked for.
+#[derive(Debug, Drop)]
 pub enum Command<'a> {
     /// The text becomes an object at the path.
     Upload { path: Path, text: &'a [u8] },
@@ -20,8 +31,22 @@ pub enum Command<'a> {
     Cat { path: Path },
 }
 
-/// Whether a line is passed over: an empty one, and one that begins with `#`.
-pub fn is_skipped(line: &[u8]) -> bool
+/// Reads a line.
+pub fn read_line(alloc: Global, line: &[u8]) -> Result<Line<'_>, NoMemory>
+    ensures { IfOk result (λ read. line_seen read ≡ line_value line.now) }
+{
+    if is_skipped(line) {
+        return Ok(Line::Skipped);
+    }
+    match read_command(alloc, line) {
+        Ok(Some(command)) => Ok(Line::Request(command)),
+        Ok(None) => Ok(Line::NotBuilt),
+        Err(NoMemory) => Err(NoMemory),
+    }
+}
+
+// Whether a line is passed over: an empty one, and one that begins with `#`.
+fn is_skipped(line: &[u8]) -> bool
     ensures { result ≡ is_skipped line.now }
 {
     match line {
@@ -30,8 +55,8 @@ pub fn is_skipped(line: &[u8]) -> bool
     }
 }
 
-/// Reads a line. None where it is of no form that is built yet, is too long or isn't UTF-8.
-pub fn read_command(alloc: Global, line: &[u8]) -> Result<Option<Command<'_>>, NoMemory>
+// The command of a line. None where it is of no form that is built yet, is too long or isn't UTF-8.
+fn read_command(alloc: Global, line: &[u8]) -> Result<Option<Command<'_>>, NoMemory>
     ensures { IfOk result (λ command. requests_seen command ≡ request_of line.now) }
 {
     if line.len() > LINE_LIMIT || !lake_base::is_utf8(line) {
