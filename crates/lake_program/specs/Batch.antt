@@ -81,27 +81,27 @@ abbrev pub without_ticket : ℕ → Result ℕ StepFault → Lake → Lake
 without_ticket number (Ok at) lake = with_entry (TicketDrop number) lake
 without_ticket number (Err fault) lake = lake
 
--- an upload whose entry was staged, or refused
-abbrev pub upload_staged : ℕ → List ℕ → List ℕ → ℕ → Result ℕ StepFault → Lake → Shown
-upload_staged number path text moment (Ok at) lake =
-    success (with_entry (Stage fresh_repo fresh_branch path (Put (entry_of number text moment))) lake) (uploaded path text)
-upload_staged number path text moment (Err fault) lake = refusal (without_ticket number (drop_reply (now lake)) lake) (refused fault)
+-- what an upload's entry is answered that is guarded by the branch's version, where that is told
+abbrev pub guarded_reply : State → Result Versions StepFault → Result ℕ StepFault
+guarded_reply state (Ok versions) = stage_reply state fresh_repo fresh_branch versions.version
+guarded_reply state (Err fault) = Err fault
 
--- an upload that read the branch's version, by which its entry is staged, or was refused it
-abbrev pub upload_versioned : ℕ → List ℕ → List ℕ → ℕ → Result Versions StepFault → Lake → Shown
-upload_versioned number path text moment (Ok versions) lake =
-    upload_staged number path text moment (stage_reply (now lake) fresh_repo fresh_branch versions.version) lake
-upload_versioned number path text moment (Err fault) lake = refusal (without_ticket number (drop_reply (now lake)) lake) (refused fault)
+-- what an upload's entry is answered: the version is read, and then the entry is staged by it
+abbrev pub entry_reply : State → Result ℕ StepFault
+entry_reply state = guarded_reply state (versions_reply state fresh_repo fresh_branch)
 
--- an upload whose text is held
-abbrev pub upload_held : ℕ → List ℕ → List ℕ → ℕ → Lake → Shown
-upload_held number path text moment lake = upload_versioned number path text moment (versions_reply (now lake) fresh_repo fresh_branch) lake
+-- an upload whose text is held under its number: its entry is staged, or its ticket is given up
+abbrev pub upload_end : ℕ → List ℕ → List ℕ → ℕ → Result ℕ StepFault → Lake → Shown
+upload_end number path text moment (Ok at) lake =
+    success (with_entry (Stage fresh_repo fresh_branch path (Put (entry_of number text moment))) lake) (uploaded path (length text) (sha256 text))
+upload_end number path text moment (Err fault) lake = refusal (without_ticket number (drop_reply (now lake)) lake) (refused fault)
 
--- an upload that was given a number, which then holds the text, or was refused one
-abbrev pub upload_ticketed : List ℕ → List ℕ → ℕ → Result (ℕ × ℕ) StepFault → Lake → Shown
-upload_ticketed path text moment (Ok taken) lake =
-    upload_held taken.1 path text moment (with_object taken.1 text (with_entry (TicketTake fresh_repo fresh_branch taken.1) lake))
-upload_ticketed path text moment (Err fault) lake = refusal lake (refused fault)
+-- an upload: it is given a number, under which its text is then held, or is refused one
+abbrev pub upload : List ℕ → List ℕ → ℕ → Result (ℕ × ℕ) StepFault → Lake → Shown
+upload path text moment (Ok taken) lake =
+    let held = with_object taken.1 text (with_entry (TicketTake fresh_repo fresh_branch taken.1) lake) in
+    upload_end taken.1 path text moment (entry_reply (now held)) held
+upload path text moment (Err fault) lake = refusal lake (refused fault)
 
 -- the bytes that are held of an entry
 abbrev pub held_of : HeldObjects → EntryValue → Option (List ℕ)
@@ -124,7 +124,7 @@ cat_seen path (Err fault) lake = refusal lake (refused fault)
 
 -- what a request comes to at a moment
 abbrev pub serve : Request → ℕ → Lake → Shown
-serve (Upload path text) moment lake = upload_ticketed path text moment (ticket_reply (now lake) fresh_repo fresh_branch) lake
+serve (Upload path text) moment lake = upload path text moment (ticket_reply (now lake) fresh_repo fresh_branch) lake
 serve (Cat path) moment lake = cat_seen path (look_reply (now lake) fresh_repo fresh_branch path) lake
 
 -- what was shown of some lines, whether each was done, the lake after them, and the moments that are left for the next requests

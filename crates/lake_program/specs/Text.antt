@@ -1,7 +1,7 @@
 -- What a batch prints.
-use Rattle.std.specs.Prelude.{ℕ, List, [], ◌∷◌, ◌++◌, length, codes}
+use Rattle.std.specs.Prelude.{ℕ, List, [], ◌∷◌, ◌++◌, codes}
 use Rattle.std.specs.Fmt.{decimal}
-use Rattle.lake_base.specs.Digest.{encode_lower, sha256}
+use Rattle.lake_base.specs.Digest.{encode_lower}
 use Rattle.lake_model.specs.declared.reply.StepFault.{StepFault}
 use Rattle.lake_model.specs.declared.reply.StepFault.TheVariants.{HistoryFull, NoRepo, NoRef, Changed, NoMemory}
 
@@ -25,9 +25,10 @@ too_long = line (codes "Error: batch too long")
 abbrev pub usage : List ℕ
 usage = line (codes "Error: usage")
 
--- an upload that was made: the path, the length and the SHA-256 of the text
-abbrev pub uploaded : List ℕ → List ℕ → List ℕ
-uploaded path text = line (codes "Path: " ++ path) ++ line (codes "Size: " ++ decimal (length text)) ++ line (codes "Checksum: " ++ encode_lower (sha256 text))
+-- an upload that was made: its path, its size and its digest
+abbrev pub uploaded : List ℕ → ℕ → List ℕ → List ℕ
+uploaded path size digest =
+    line (codes "Path: " ++ path) ++ line (codes "Size: " ++ decimal size) ++ line (codes "Checksum: " ++ encode_lower digest)
 
 -- nothing stands at the path
 abbrev pub no_path : List ℕ → List ℕ

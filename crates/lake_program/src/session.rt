@@ -1,8 +1,9 @@
 //! The requests of one client on a lake in memory.
-ghost use Rattle.std.specs.Prelude.{◌≡◌, ◌≢◌, ◌+◌, ◌<◌, ◌^◌, false, option_map, IfOk, OnOk};
+ghost use Rattle.std.specs.Prelude.{◌≡◌, ◌≢◌, ◌+◌, ◌<◌, ◌^◌, false, length, option_map, Err, IfOk, IfErr, OnOk, OnErr};
+ghost use Rattle.lake_base.specs.Digest.{sha256};
 ghost use Rattle.lake_model.specs.State.{fresh_repo, fresh_branch};
 ghost use Rattle.lake_model.specs.Legal.{HasTicket};
-ghost use Rattle.lake_model.specs.Reply.{look_reply, ticket_reply, drop_reply, stage_reply};
+ghost use Rattle.lake_model.specs.Reply.{look_reply, ticket_reply, drop_reply};
 ghost use Rattle.lake_values.specs.declared.entry.Change.TheVariants.{Put};
 ghost use Rattle.lake_program.specs.Text.{refused, uploaded};
 ghost use Rattle.lake_program.specs.Batch.{entry_of};
@@ -43,7 +44,7 @@ impl Session {
     ghost use Rattle.lake_program.specs.Session.{lake_of};
     ghost use Rattle.lake_program.specs.Seen.{request_seen};
     ghost use Rattle.lake_program.specs.Reply.{shown};
-    ghost use Rattle.lake_program.specs.Batch.{fresh_lake, now, serve, with_call, without_ticket, with_object, upload_ticketed, upload_held, upload_staged, cat_seen, found, held_of};
+    ghost use Rattle.lake_program.specs.Batch.{fresh_lake, now, serve, with_call, without_ticket, with_object, success, entry_reply, upload, upload_end, cat_seen, found, held_of};
 
     /// A session on a fresh lake, which holds no object.
     pub fn new(alloc: Global) -> Result<Session, NoMemory>
@@ -84,31 +85,20 @@ impl Session {
         }
     }
 
-    // Takes a number for the text, and stages its entry.
+    // Takes a number, holds the text under it and stages its entry. Where that is refused, the number is
+    // given up.
     fn upload(&mut self, path: Path, text: &[u8], moment: u64) -> Result<Reply, NoMemory>
-        ensures reply { IfOk result (λ reply. upload_ticketed path text.now moment (ticket_reply (now (lake_of self.old)) fresh_repo fresh_branch) (lake_of self.old)
+        ensures reply { IfOk result (λ reply. upload path text.now moment (ticket_reply (now (lake_of self.old)) fresh_repo fresh_branch) (lake_of self.old)
             ≡ shown reply (lake_of self.new)) }
         ensures calls { self.new.calls ≡ self.old.calls }
     {
         let by = self.by();
-        match self.lake.take_ticket(by, &self.repo, &self.branch) {
-            Ok((_, number)) => self.hold(number, path, text, moment),
-            Err(fault) => refusal(self.alloc, fault),
-        }
-    }
-
-    // The text is held under the number that was taken, and its entry is staged.
-    fn hold(&mut self, number: u64, path: Path, text: &[u8], moment: u64) -> Result<Reply, NoMemory>
-        requires { HasTicket (now (lake_of self.old)) 0 number }
-        ensures reply { IfOk result (λ reply. upload_held number path text.now moment (with_object number text.now (lake_of self.old)) ≡ shown reply (lake_of self.new)) }
-        ensures calls { self.new.calls ≡ self.old.calls }
-    {
-        if self.blocks.put(number, text).is_err() {
-            let _ = self.give_up(number);
-            return Err(NoMemory);
-        }
-        match self.lake.versions(&self.repo, &self.branch) {
-            Ok(versions) => self.stage(number, versions.version, path, text, moment),
+        let number = match self.lake.take_ticket(by, &self.repo, &self.branch) {
+            Ok((_, number)) => number,
+            Err(fault) => return refusal(self.alloc, fault),
+        };
+        match self.stage(number, path, text, moment) {
+            Ok(text) => Ok(Reply { text, done: true }),
             Err(fault) => {
                 self.give_up(number)?;
                 refusal(self.alloc, fault)
@@ -116,36 +106,31 @@ impl Session {
         }
     }
 
-    // The entry of the text under the number is staged, guarded by the branch's version.
+    // Holds the text under the number that was taken, and stages its entry, guarded by the branch's version.
+    // The answer is what is printed of that.
     fn stage(
         &mut self,
         number: u64,
-        version: u64,
         path: Path,
         text: &[u8],
         moment: u64,
-    ) -> Result<Reply, NoMemory>
+    ) -> Result<Vec<u8>, StepFault>
         requires { HasTicket (now (lake_of self.old)) 0 number }
-        ensures reply { IfOk result (λ reply. upload_staged number path text.now moment (stage_reply (now (lake_of self.old)) fresh_repo fresh_branch version) (lake_of self.old)
-            ≡ shown reply (lake_of self.new)) }
+        ensures ok { let held = with_object number text.now (lake_of self.old) in IfOk result (λ printed.
+            upload_end number path text.now moment (entry_reply (now held)) held ≡ success (lake_of self.new) printed.items) }
+        ensures err { let held = with_object number text.now (lake_of self.old) in IfErr result (λ fault. fault ≢ StepFault.NoMemory
+            → (entry_reply (now held) ≡ Err fault) × (lake_of self.new ≡ held)) }
+        ensures ticket { OnErr result (self.new.lake ≡ self.old.lake) }
         ensures calls { self.new.calls ≡ self.old.calls }
     {
-        let made = made(self.alloc, number, &path, text, moment);
-        let Ok((change, text)) = made else {
-            let _ = self.give_up(number);
-            return Err(NoMemory);
-        };
-        let by = self.by();
-        match self
-            .lake
-            .stage(by, &self.repo, &self.branch, version, path, change)
-        {
-            Ok(_) => Ok(Reply { text, done: true }),
-            Err(fault) => {
-                self.give_up(number)?;
-                refusal(self.alloc, fault)
-            }
+        if self.blocks.put(number, text).is_err() {
+            return Err(StepFault::NoMemory);
         }
+        let versions = self.lake.versions(&self.repo, &self.branch)?;
+        let (change, printed) = made(self.alloc, number, &path, text, moment)?;
+        let by = self.by();
+        self.lake.stage(by, &self.repo, &self.branch, versions.version, path, change)?;
+        Ok(printed)
     }
 
     // The upload of the number is given up, where the history has room for that.
@@ -256,19 +241,18 @@ fn made(
     text: &[u8],
     moment: u64,
 ) -> Result<(Change, Vec<u8>), NoMemory>
-    ensures { IfOk result (λ made. (made.0 ≡ Put (entry_of number text.now moment)) × (made.1.items ≡ uploaded path.now text.now)) }
+    ensures { IfOk result (λ made. (made.0 ≡ Put (entry_of number text.now moment)) × (made.1.items ≡ uploaded path.now (length text.now) (sha256 text.now))) }
 {
     let content_type = Text::of(String::from_str(alloc, CONTENT_TYPE)?);
+    let digest = Digest::of(text);
+    let size = text.len() as u64;
     let entry = Entry {
-        place: Place::Own {
-            number,
-            digest: Digest::of(text),
-        },
-        size: text.len() as u64,
+        place: Place::Own { number, digest },
+        size,
         mtime: moment,
         content_type,
         metadata: Pairs::new(alloc),
     };
-    let printed = uploaded(alloc, path, text)?;
+    let printed = uploaded(alloc, path, size, digest)?;
     Ok((Change::Put(entry), printed))
 }

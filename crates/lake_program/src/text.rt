@@ -18,18 +18,18 @@ pub const TOO_LONG: &[u8] = b"Error: batch too long\n";
 /// The program's words are no command.
 pub const USAGE: &[u8] = b"Error: usage\n";
 
-/// What is printed of an upload that was made: the path, the text's length and its SHA-256.
-pub fn uploaded(alloc: Global, path: &Path, text: &[u8]) -> Result<Vec<u8>, NoMemory>
-    ensures { IfOk result (λ printed. printed.items ≡ uploaded path.now text.now) }
+/// What is printed of an upload that was made: its path, its size in bytes and its digest.
+pub fn uploaded(alloc: Global, path: &Path, size: u64, digest: Digest) -> Result<Vec<u8>, NoMemory>
+    ensures { IfOk result (λ printed. printed.items ≡ uploaded path.now size digest.0) }
 {
     let mut printed = Vec::new(alloc);
     printed.extend_from_slice(b"Path: ")?;
     printed.extend_from_slice(path.as_slice())?;
     printed.extend_from_slice(b"\nSize: ")?;
-    let size = text.len().to_string(alloc)?;
+    let size = size.to_string(alloc)?;
     printed.extend_from_slice(size.as_bytes())?;
     printed.extend_from_slice(b"\nChecksum: ")?;
-    let checksum = Digest::of(text).hex(alloc)?;
+    let checksum = digest.hex(alloc)?;
     printed.extend_from_slice(checksum.as_slice())?;
     printed.extend_from_slice(b"\n")?;
     Ok(printed)
