@@ -10,6 +10,7 @@ use Rattle.lake_program.specs.Batch.{Served, batch, before}
 use Rattle.lake_program.specs.Front.{IsPrefix, AsStated}
 use Rattle.lake_program.specs.Text.{out_of_memory}
 use Rattle.lake_program.specs.Feeding.{Progress, Moments, Holds, CutsLines, stated, Went, Stuck, Cut, Comes, Feeds}
+use Rattle.lake_program.specs.Streams.{Trace}
 use Rattle.lake_program.proofs.Fronts.{front_after, front_more, as_stated_after}
 
 and_assoc : (a b c : Bool) → ((a && b) && c) ≡ (a && (b && c))
@@ -99,12 +100,12 @@ module _ (old : Progress) (line first second m n out more_out : List ℕ) where
       let t = stays_stuck s in inr (record { front = t.front; so_far = t.so_far lines more later cuts; text = inl t.text })
 
 -- nothing came and nothing was done
-pub feeds_none : (timing : Timing) (readings written : Option (List ℕ)) (now : Progress) → Feeds timing readings readings written written now now [] (Ok tt)
-feeds_none timing readings written now = record {
+pub feeds_none : (timing : Timing) (trace : Trace) (now : Progress) → Feeds timing trace trace now now [] (Ok tt)
+feeds_none timing trace now = record {
   moments = [];
   out = [];
-  took = moments_none timing readings;
-  wrote = wrote_none written;
+  took = moments_none timing trace.readings;
+  wrote = wrote_none trace.written;
   went = λ line holds fed. rw fed (
     line,
     holds,
@@ -117,7 +118,7 @@ feeds_none timing readings written now = record {
   stays = λ starved. starved;
 }
 
-module _ (timing : Timing) (r0 r1 r2 w0 w1 w2 : Option (List ℕ)) (old mid new : Progress) (first second : List ℕ) where
+module _ (timing : Timing) (t0 t1 t2 : Trace) (old mid new : Progress) (first second : List ℕ) where
   after_went : (line m n out more_out next : List ℕ) (result : Result (Unit {0}) Failed) → Went old line first m out mid next → Comes mid next second n more_out new result → Comes old line (first ++ second) (m ++ n) (out ++ more_out) new result
   after_went line m n out more_out next (Ok done) v comes =
       elim new.starved as (λ b. MatchBool b (Stuck mid next second n more_out) ((last : List ℕ) × Holds last new.line × Went mid next second n more_out new last)
@@ -142,20 +143,20 @@ module _ (timing : Timing) (r0 r1 r2 w0 w1 w2 : Option (List ℕ)) (old mid new 
       ] refl first_comes
 
   -- one chunk and then the next
-  pub feeds_then : (result : Result (Unit {0}) Failed) → Feeds timing r0 r1 w0 w1 old mid first (Ok tt) → Feeds timing r1 r2 w1 w2 mid new second result → Feeds timing r0 r2 w0 w2 old new (first ++ second) result
+  pub feeds_then : (result : Result (Unit {0}) Failed) → Feeds timing t0 t1 old mid first (Ok tt) → Feeds timing t1 t2 mid new second result → Feeds timing t0 t2 old new (first ++ second) result
   feeds_then result a b = record {
     moments = a.moments ++ b.moments;
     out = a.out ++ b.out;
-    took = moments_then timing r0 r1 r2 a.moments b.moments a.took b.took;
-    wrote = wrote_then w0 w1 w2 a.out b.out a.wrote b.wrote;
+    took = moments_then timing t0.readings t1.readings t2.readings a.moments b.moments a.took b.took;
+    wrote = wrote_then t0.written t1.written t2.written a.out b.out a.wrote b.wrote;
     went = λ line holds fed. comes_then line a.moments b.moments a.out b.out result (a.went line holds fed) b.went b.stays;
     stays = λ starved. b.stays (a.stays starved);
   }
 
 -- where writing failed, more may have been to come
-pub feeds_more : (timing : Timing) (r0 r1 w0 w1 : Option (List ℕ)) (old new : Progress) (first second : List ℕ) (failed : Failed)
-    → Feeds timing r0 r1 w0 w1 old new first (Err failed) → Feeds timing r0 r1 w0 w1 old new (first ++ second) (Err failed)
-feeds_more timing r0 r1 w0 w1 old new first second failed a = record {
+pub feeds_more : (timing : Timing) (t0 t1 : Trace) (old new : Progress) (first second : List ℕ) (failed : Failed)
+    → Feeds timing t0 t1 old new first (Err failed) → Feeds timing t0 t1 old new (first ++ second) (Err failed)
+feeds_more timing t0 t1 old new first second failed a = record {
   moments = a.moments;
   out = a.out;
   took = a.took;
@@ -168,14 +169,14 @@ feeds_more timing r0 r1 w0 w1 old new first second failed a = record {
 }
 
 -- one byte of a chunk after those before it
-pub feeds_at : (timing : Timing) (r0 r1 r2 w0 w1 w2 : Option (List ℕ)) (old mid new : Progress) (chunk : List ℕ) (i : ℕ) (result : Result (Unit {0}) Failed) → i < length chunk
-    → Feeds timing r0 r1 w0 w1 old mid (take i chunk) (Ok tt) → Feeds timing r1 r2 w1 w2 mid new (get_or chunk i 0 ∷ []) result → Feeds timing r0 r2 w0 w2 old new (take (i + 1) chunk) result
-feeds_at timing r0 r1 r2 w0 w1 w2 old mid new chunk i result inside a b =
-    subst (λ (l : List ℕ). Feeds timing r0 r2 w0 w2 old new l result) (sym (take_more chunk i 0 inside)) (feeds_then timing r0 r1 r2 w0 w1 w2 old mid new (take i chunk) (get_or chunk i 0 ∷ []) result a b)
+pub feeds_at : (timing : Timing) (t0 t1 t2 : Trace) (old mid new : Progress) (chunk : List ℕ) (i : ℕ) (result : Result (Unit {0}) Failed) → i < length chunk
+    → Feeds timing t0 t1 old mid (take i chunk) (Ok tt) → Feeds timing t1 t2 mid new (get_or chunk i 0 ∷ []) result → Feeds timing t0 t2 old new (take (i + 1) chunk) result
+feeds_at timing t0 t1 t2 old mid new chunk i result inside a b =
+    subst (λ (l : List ℕ). Feeds timing t0 t2 old new l result) (sym (take_more chunk i 0 inside)) (feeds_then timing t0 t1 t2 old mid new (take i chunk) (get_or chunk i 0 ∷ []) result a b)
 
 -- where writing failed at one byte of a chunk, the rest of it may have been to come
-pub feeds_cut_at : (timing : Timing) (r0 r1 r2 w0 w1 w2 : Option (List ℕ)) (old mid new : Progress) (chunk : List ℕ) (i : ℕ) (failed : Failed) → i < length chunk
-    → Feeds timing r0 r1 w0 w1 old mid (take i chunk) (Ok tt) → Feeds timing r1 r2 w1 w2 mid new (get_or chunk i 0 ∷ []) (Err failed) → Feeds timing r0 r2 w0 w2 old new chunk (Err failed)
-feeds_cut_at timing r0 r1 r2 w0 w1 w2 old mid new chunk i failed inside a b =
-    subst (λ (l : List ℕ). Feeds timing r0 r2 w0 w2 old new l (Err failed)) (take-append-drop (i + 1) chunk)
-    (feeds_more timing r0 r2 w0 w2 old new (take (i + 1) chunk) (drop (i + 1) chunk) failed (feeds_at timing r0 r1 r2 w0 w1 w2 old mid new chunk i (Err failed) inside a b))
+pub feeds_cut_at : (timing : Timing) (t0 t1 t2 : Trace) (old mid new : Progress) (chunk : List ℕ) (i : ℕ) (failed : Failed) → i < length chunk
+    → Feeds timing t0 t1 old mid (take i chunk) (Ok tt) → Feeds timing t1 t2 mid new (get_or chunk i 0 ∷ []) (Err failed) → Feeds timing t0 t2 old new chunk (Err failed)
+feeds_cut_at timing t0 t1 t2 old mid new chunk i failed inside a b =
+    subst (λ (l : List ℕ). Feeds timing t0 t2 old new l (Err failed)) (take-append-drop (i + 1) chunk)
+    (feeds_more timing t0 t2 old new (take (i + 1) chunk) (drop (i + 1) chunk) failed (feeds_at timing t0 t1 t2 old mid new chunk i (Err failed) inside a b))

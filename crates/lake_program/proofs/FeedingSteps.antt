@@ -9,6 +9,7 @@ use Rattle.lake_program.specs.Batch.{Served, turn, batch, before}
 use Rattle.lake_program.specs.Front.{IsPrefix}
 use Rattle.lake_program.specs.Text.{out_of_memory}
 use Rattle.lake_program.specs.Feeding.{Progress, InLine, line_room, Holds, CutsLines, stated, Went, Stuck, Comes, Feeds, Answers, Serves, Turns}
+use Rattle.lake_program.specs.Streams.{Trace}
 use Rattle.lake_program.proofs.Fronts.{front_more}
 use Rattle.lake_program.proofs.FeedingLaws.{moments_none, wrote_none}
 use Rattle.lake_program.proofs.LongLines.{turn_ended}
@@ -33,13 +34,13 @@ and_true true = refl
 and_true false = refl
 
 -- a byte that ends no line
-pub feeds_byte : (timing : Timing) (readings written : Option (List ℕ)) (now : Progress) (byte : ℕ) → InLine byte
-    → Feeds timing readings readings written written now (with_line now (take line_room (now.line ++ byte ∷ []))) (byte ∷ []) (Ok tt)
-feeds_byte timing readings written now byte here = record {
+pub feeds_byte : (timing : Timing) (trace : Trace) (now : Progress) (byte : ℕ) → InLine byte
+    → Feeds timing trace trace now (with_line now (take line_room (now.line ++ byte ∷ []))) (byte ∷ []) (Ok tt)
+feeds_byte timing trace now byte here = record {
   moments = [];
   out = [];
-  took = moments_none timing readings;
-  wrote = wrote_none written;
+  took = moments_none timing trace.readings;
+  wrote = wrote_none trace.written;
   went = λ line holds fed. rw fed (
     line ++ byte ∷ [],
     holds_more line now.line byte holds here,
@@ -53,7 +54,7 @@ feeds_byte timing readings written now byte here = record {
 }
 
 -- a line feed, at which the line that is kept was served
-module _ (timing : Timing) (r0 r1 w0 w1 : Option (List ℕ)) (old new : Progress) where
+module _ (timing : Timing) (t0 t1 : Trace) (old new : Progress) where
   turned : (line kept moments out : List ℕ) → Holds line kept → (lines : List ℕ → List (List ℕ)) (more later : List ℕ) → CutsLines lines
       → stated old line (10 ∷ []) moments out lines more later ≡ (let t = turn (strip_carriage_return kept) (moments ++ later) old.lake in before t.text t.done (batch (lines more) t.left t.lake))
   turned line kept moments out holds lines more later cuts =
@@ -81,7 +82,7 @@ module _ (timing : Timing) (r0 r1 w0 w1 : Option (List ℕ)) (old new : Progress
       λ lines more later cuts. inl (subst (λ (t : Served). IsPrefix out t.text) (sym (turned line old.line moments out holds lines more later cuts)) (front_more out _ _ (cut later)))
   line_comes line moments out (Err failed) holds (inr cut) = λ lines more later cuts. inr (record { front = []; so_far = (_, refl); text = inr cut })
 
-  pub feeds_line : (result : Result (Unit {0}) Failed) → Serves timing r0 r1 w0 w1 old new (strip_carriage_return old.line) result → Feeds timing r0 r1 w0 w1 old (with_line new []) (10 ∷ []) result
+  pub feeds_line : (result : Result (Unit {0}) Failed) → Serves timing t0 t1 old new (strip_carriage_return old.line) result → Feeds timing t0 t1 old (with_line new []) (10 ∷ []) result
   feeds_line result served = record {
     moments = served.moments;
     out = served.out;
@@ -91,14 +92,14 @@ module _ (timing : Timing) (r0 r1 w0 w1 : Option (List ℕ)) (old new : Progress
     stays = served.stays;
   }
 
-pub feeds_byte_to : (timing : Timing) (readings written : Option (List ℕ)) (now : Progress) (byte : ℕ) (line : List ℕ) → InLine byte → line ≡ take line_room (now.line ++ byte ∷ [])
-    → Feeds timing readings readings written written now (with_line now line) (byte ∷ []) (Ok tt)
-feeds_byte_to timing readings written now byte line here is =
-    subst (λ (l : List ℕ). Feeds timing readings readings written written now (with_line now l) (byte ∷ []) (Ok tt)) (sym is) (feeds_byte timing readings written now byte here)
+pub feeds_byte_to : (timing : Timing) (trace : Trace) (now : Progress) (byte : ℕ) (line : List ℕ) → InLine byte → line ≡ take line_room (now.line ++ byte ∷ [])
+    → Feeds timing trace trace now (with_line now line) (byte ∷ []) (Ok tt)
+feeds_byte_to timing trace now byte line here is =
+    subst (λ (l : List ℕ). Feeds timing trace trace now (with_line now l) (byte ∷ []) (Ok tt)) (sym is) (feeds_byte timing trace now byte here)
 
-pub feeds_line_to : (timing : Timing) (r0 r1 w0 w1 : Option (List ℕ)) (old new : Progress) (byte : ℕ) (line cleared : List ℕ) (result : Result (Unit {0}) Failed)
-    → byte ≡ 10 → line ≡ strip_carriage_return old.line → cleared ≡ [] → Serves timing r0 r1 w0 w1 old new line result → Feeds timing r0 r1 w0 w1 old (with_line new cleared) (byte ∷ []) result
-feeds_line_to timing r0 r1 w0 w1 old new byte line cleared result is ended none served =
-    subst (λ (l : List ℕ). Feeds timing r0 r1 w0 w1 old (with_line new l) (byte ∷ []) result) (sym none)
-    (subst (λ b. Feeds timing r0 r1 w0 w1 old (with_line new []) (b ∷ []) result) (sym is)
-    (feeds_line timing r0 r1 w0 w1 old new result (subst (λ (l : List ℕ). Serves timing r0 r1 w0 w1 old new l result) ended served)))
+pub feeds_line_to : (timing : Timing) (t0 t1 : Trace) (old new : Progress) (byte : ℕ) (line cleared : List ℕ) (result : Result (Unit {0}) Failed)
+    → byte ≡ 10 → line ≡ strip_carriage_return old.line → cleared ≡ [] → Serves timing t0 t1 old new line result → Feeds timing t0 t1 old (with_line new cleared) (byte ∷ []) result
+feeds_line_to timing t0 t1 old new byte line cleared result is ended none served =
+    subst (λ (l : List ℕ). Feeds timing t0 t1 old (with_line new l) (byte ∷ []) result) (sym none)
+    (subst (λ b. Feeds timing t0 t1 old (with_line new []) (b ∷ []) result) (sym is)
+    (feeds_line timing t0 t1 old new result (subst (λ (l : List ℕ). Serves timing t0 t1 old new l result) ended served)))

@@ -16,6 +16,7 @@ use Rattle.lake_program.specs.Text.{out_of_memory, too_long}
 use Rattle.lake_program.specs.Feeding.{Progress, InLine, line_room, Holds, stated, Went, Stuck, Cut, Comes, Feeds, Turns, Answers, Serves}
 use Rattle.lake_program.specs.Reading.{Reached, Part}
 use Rattle.lake_program.specs.Outcome.{start, IsWhole, Outcome}
+use Rattle.lake_program.specs.Streams.{Trace}
 use Rattle.lake_program.specs.Status.{status_of, end_status, IsThrough}
 use Rattle.lake_program.proofs.Fronts.{front_of_self, front_after, front_more, as_stated_more}
 use Rattle.lake_program.proofs.ReadingLaws.{front_within}
@@ -63,9 +64,9 @@ as_stated_of limit input fed m out front cut later =
     ] refl
 
 -- the sink failed
-pub outcome_sink_failed : (timing : Timing) (limit : ℕ) (r0 r1 w0 w1 left : Option (List ℕ)) (input : List ℕ) (new : Progress) (failed : Failed)
-    → Part timing r0 r1 w0 w1 start new limit input (Err failed) → Outcome timing limit r0 r1 w0 w1 left input SinkFailed
-outcome_sink_failed timing limit r0 r1 w0 w1 left input new failed part = record {
+pub outcome_sink_failed : (timing : Timing) (limit : ℕ) (t0 t1 : Trace) (left : Option (List ℕ)) (input : List ℕ) (new : Progress) (failed : Failed)
+    → Part timing t0 t1 start new limit input (Err failed) → Outcome timing limit t0 t1 left input SinkFailed
+outcome_sink_failed timing limit t0 t1 left input new failed part = record {
   moments = part.feeds.moments;
   out = part.feeds.out;
   took = part.feeds.took;
@@ -95,9 +96,9 @@ all_served given m out new comes =
     ] comes
 
 -- the source failed
-pub outcome_source_failed : (timing : Timing) (limit total : ℕ) (r0 r1 w0 w1 left : Option (List ℕ)) (input : List ℕ) (new : Progress)
-    → total ≤ limit → Reached timing r0 r1 w0 w1 start new input left total → Outcome timing limit r0 r1 w0 w1 left input SourceFailed
-outcome_source_failed timing limit total r0 r1 w0 w1 left input new within reached =
+pub outcome_source_failed : (timing : Timing) (limit total : ℕ) (t0 t1 : Trace) (left : Option (List ℕ)) (input : List ℕ) (new : Progress)
+    → total ≤ limit → Reached timing t0 t1 start new input left total → Outcome timing limit t0 t1 left input SourceFailed
+outcome_source_failed timing limit total t0 t1 left input new within reached =
     let comes = reached.feeds.went [] holds_start refl in
     let front = front_within limit reached.fed reached.left input reached.whole (omega (arith, reached.count, within)) in
     record {
@@ -140,8 +141,8 @@ not_source false false (Ok u) status is failed = cc
 not_source starved done (Err failure) status is failed = cc
 
 -- the source ended within the limit, and the line under way was served as the last
-module _ (timing : Timing) (limit : ℕ) (r0 r1 r2 w0 w1 w2 left : Option (List ℕ)) (input : List ℕ) (new final : Progress) (status : ExitStatus) (within : length input ≤ limit)
-    (a : Feeds timing r0 r1 w0 w1 start new input (Ok tt)) where
+module _ (timing : Timing) (limit : ℕ) (t0 t1 t2 : Trace) (left : Option (List ℕ)) (input : List ℕ) (new final : Progress) (status : ExitStatus) (within : length input ≤ limit)
+    (a : Feeds timing t0 t1 start new input (Ok tt)) where
   whole_is : (moments : List ℕ) → batch_of limit input moments ≡ batch (lines ([] ++ input ++ [])) moments fresh_lake
   whole_is moments = within_limit limit input moments (le_test (length input) limit within) ∙ ap (λ (l : List ℕ). batch (lines l) moments fresh_lake) (sym (append-nil input))
 
@@ -205,13 +206,13 @@ module _ (timing : Timing) (limit : ℕ) (r0 r1 r2 w0 w1 w2 left : Option (List 
     text = inl (front_more _ a.out out s.text);
   })
 
-  pub outcome_whole : (result : Result (Unit {0}) Failed) → Serves timing r1 r2 w1 w2 new final new.line result → status ≡ end_status final.starved final.done result → Outcome timing limit r0 r2 w0 w2 left input status
+  pub outcome_whole : (result : Result (Unit {0}) Failed) → Serves timing t1 t2 new final new.line result → status ≡ end_status final.starved final.done result → Outcome timing limit t0 t2 left input status
   outcome_whole result b is = record {
     given = λ failed. absurd (not_source final.starved final.done result status is failed);
     moments = a.moments ++ b.moments;
     out = a.out ++ b.out;
-    took = moments_then timing r0 r1 r2 a.moments b.moments a.took b.took;
-    wrote = wrote_then w0 w1 w2 a.out b.out a.wrote b.wrote;
+    took = moments_then timing t0.readings t1.readings t2.readings a.moments b.moments a.took b.took;
+    wrote = wrote_then t0.written t1.written t2.written a.out b.out a.wrote b.wrote;
     as_stated = elim new.starved as (λ s. new.starved ≡ s → MatchBool s (Stuck start [] input a.moments a.out) ((next : List ℕ) × Holds next new.line × Went start [] input a.moments a.out new next)
         → (later : List ℕ) → AsStated (a.out ++ b.out) (batch_of limit input ((a.moments ++ b.moments) ++ later)).text) [
           | true ↦ λ starved s. stuck_stated b.moments b.out s
@@ -225,8 +226,8 @@ module _ (timing : Timing) (limit : ℕ) (r0 r1 r2 w0 w1 w2 left : Option (List 
   }
 
 -- the source gave more than the limit, and that is shown
-module _ (timing : Timing) (limit : ℕ) (r0 r1 w0 w1 w2 left : Option (List ℕ)) (input : List ℕ) (new : Progress) (status : ExitStatus) (more : limit < length input)
-    (a : Feeds timing r0 r1 w0 w1 start new (take limit input) (Ok tt)) where
+module _ (timing : Timing) (limit : ℕ) (t0 t1 : Trace) (written left : Option (List ℕ)) (input : List ℕ) (new : Progress) (status : ExitStatus) (more : limit < length input)
+    (a : Feeds timing t0 t1 start new (take limit input) (Ok tt)) where
   cut_is : (later : List ℕ) → batch_of limit input (a.moments ++ later) ≡ cut_off (batch (ended_lines ([] ++ take limit input ++ [])) (a.moments ++ later) fresh_lake)
   cut_is later =
       beyond_limit limit input (a.moments ++ later) (gt_test (length input) limit more)
@@ -253,13 +254,14 @@ module _ (timing : Timing) (limit : ℕ) (r0 r1 w0 w1 w2 left : Option (List ℕ
       ] comes
 
   pub outcome_too_long : (result : Result (Unit {0}) Failed) → status ≡ end_status new.starved false result
-      → OnOk result (IfSome w1 (λ written. w2 ≡ Some (written ++ too_long))) → OnErr result (WroteFront too_long w1 w2) → Outcome timing limit r0 r1 w0 w2 left input status
+      → OnOk result (IfSome t1.written (λ before. written ≡ Some (before ++ too_long))) → OnErr result (WroteFront too_long t1.written written)
+      → Outcome timing limit t0 (record { readings = t1.readings; written = written }) left input status
   outcome_too_long (Ok u) is wrote front = record {
     given = λ failed. absurd (not_source new.starved false (Ok u) status is failed);
     moments = a.moments;
     out = a.out ++ too_long;
     took = a.took;
-    wrote = wrote_then w0 w1 w2 a.out too_long a.wrote wrote;
+    wrote = wrote_then t0.written t1.written written a.out too_long a.wrote wrote;
     as_stated = cut_stated too_long (front_of_self too_long) (a.went [] holds_start refl);
     whole = λ through. elim new.starved as (λ b. new.starved ≡ b → MatchBool b (Stuck start [] (take limit input) a.moments a.out) ((next : List ℕ) × Holds next new.line × Went start [] (take limit input) a.moments a.out new next)
         → IsWhole limit input a.moments (a.out ++ too_long) status) [
@@ -274,24 +276,24 @@ module _ (timing : Timing) (limit : ℕ) (r0 r1 w0 w1 w2 left : Option (List ℕ
         ] refl (a.went [] holds_start refl);
   }
   outcome_too_long (Err failed) is wrote front =
-      let part = front_written too_long w1 w2 front in
+      let part = front_written too_long t1.written written front in
       record {
         moments = a.moments;
         out = a.out ++ part.0;
         took = a.took;
-        wrote = wrote_then w0 w1 w2 a.out part.0 a.wrote part.2;
+        wrote = wrote_then t0.written t1.written written a.out part.0 a.wrote part.2;
         as_stated = cut_stated part.0 part.1 (a.went [] holds_start refl);
         whole = λ through. absurd (subst IsThrough is through);
         given = λ source. absurd (not_source new.starved false (Err failed) status is source);
       }
 
 -- no memory was found before the first byte was read
-pub outcome_none : (timing : Timing) (limit : ℕ) (readings written left : Option (List ℕ)) (input : List ℕ) → Outcome timing limit readings readings written written left input OutOfMemory
-outcome_none timing limit readings written left input = record {
+pub outcome_none : (timing : Timing) (limit : ℕ) (trace : Trace) (left : Option (List ℕ)) (input : List ℕ) → Outcome timing limit trace trace left input OutOfMemory
+outcome_none timing limit trace left input = record {
   moments = [];
   out = [];
-  took = moments_none timing readings;
-  wrote = wrote_none written;
+  took = moments_none timing trace.readings;
+  wrote = wrote_none trace.written;
   as_stated = λ more. inl (_, refl);
   whole = λ through. absurd through;
   given = λ is. absurd cc;

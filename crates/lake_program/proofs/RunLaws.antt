@@ -1,15 +1,16 @@
--- The statuses of a run, and what they tell.
-use Rattle.std.proofs.Common.{◌≡◌, ◌≢◌, ◌<◌, ◌≤◌, ◌++◌, ℕ, Bool, true, false, cond, List, Option, Some, IsNone, is_some, IfSome, refl, sym, ◌∙◌, ap, subst, arith}
+-- What a run promises, from what its parts do.
+use Rattle.std.proofs.Common.{◌≡◌, ◌≢◌, ◌<◌, ◌≤◌, ◌++◌, ◌⊎◌, inl, inr, ⊎_elim, ℕ, true, List, Option, Some, None, IsNone, is_some, IfSome, refl, sym, ◌∙◌, ap, subst, arith}
 use Rattle.lake_base.specs.Outside.{Rose, Quiet}
 use Rattle.lake_program.specs.declared.words.Timing.{Timing}
 use Rattle.lake_program.specs.declared.batch.End.{End}
 use Rattle.lake_program.specs.declared.batch.End.TheVariants.{Source, TooLong, SourceFailed, SinkFailed}
 use Rattle.lake_program.specs.declared.status.ExitStatus.{ExitStatus}
 use Rattle.lake_program.specs.declared.status.ExitStatus.TheVariants as exit
-use Rattle.lake_program.specs.Batch.{batch_of, TakesJust}
-use Rattle.lake_program.specs.Feeding.{Moments}
+use Rattle.lake_program.specs.Words.{timing_of}
 use Rattle.lake_program.specs.Outcome.{Outcome}
-use Rattle.lake_program.specs.Status.{IsThrough, status_number}
+use Rattle.lake_program.specs.Status.{IsThrough, ShowsUsage}
+use Rattle.lake_program.specs.Streams.{Streams, trace_of}
+use Rattle.lake_program.specs.Run.{AreQuiet, IsBatchRun, Run}
 use Rattle.lake_program.proofs.ReadingLaws.{told_then}
 
 pub sink_cause : (end : End) (a b c : ℕ) (status : ExitStatus) → (a ≤ b) × (end ≡ SinkFailed → Rose a b) → (b ≤ c) × (status ≡ exit.SinkFailed → end ≢ SinkFailed → Rose b c)
@@ -35,17 +36,58 @@ quiet_through exit.OutOfMemory s0 s1 w0 w1 words source sink qs qw fed = fed ref
 pub has_timing : (found : Option Timing) (timing : Timing) → found ≡ Some timing → IsNone found → ⊥
 has_timing found timing is none = let some : is_some found ≡ true = ap is_some is in cc
 
-pub for_timing : (found : Option Timing) (timing : Timing) → found ≡ Some timing → (P : Timing → Type 0) → P timing → IfSome found P
+for_timing : (found : Option Timing) (timing : Timing) → found ≡ Some timing → (P : Timing → Type 0) → P timing → IfSome found P
 for_timing found timing is P p = subst (λ (o : Option Timing). IfSome o P) (sym is) p
 
-number_by_done : (done : Bool) → status_number (cond done exit.Done exit.Refused) ≡ cond done 0 1
-number_by_done true = refl
-number_by_done false = refl
+without_timing : (found : Option Timing) → found ≡ None → (P : Timing → Type 0) → IfSome found P
+without_timing found is P = subst (λ (o : Option Timing). IfSome o P) (sym is) tt
 
-pub whole_batch : (timing : Timing) (limit : ℕ) (r0 r1 w0 w1 left : Option (List ℕ)) (input : List ℕ) (status : ExitStatus) (number : ℕ) → number ≡ status_number status → IsThrough status
-    → Outcome timing limit r0 r1 w0 w1 left input status
-    → IfSome w0 (λ before. (moments : List ℕ) × Moments timing r0 r1 moments × TakesJust limit input moments × (w1 ≡ Some (before ++ (batch_of limit input moments).text))
-    × (number ≡ cond (batch_of limit input moments).done 0 1))
-whole_batch timing limit r0 r1 w0 w1 left input status number is through o =
+batch_run : (timing : Timing) (input : List ℕ) (before after : Streams) (status : ExitStatus) → IsThrough status
+    → Outcome timing 1073741824 (trace_of before) (trace_of after) after.left input status → IfSome before.written (λ written. IsBatchRun timing input written before after status)
+batch_run timing input before after status through o =
     let whole = o.whole through in
-    told_then w0 (λ before. w1 ≡ Some (before ++ o.out)) _ (λ before wrote. (o.moments, o.took, whole.just, wrote ∙ ap (λ (t : List ℕ). Some (before ++ t)) whole.text, is ∙ ap status_number whole.done ∙ number_by_done _)) o.wrote
+    told_then before.written (λ written. after.written ≡ Some (written ++ o.out)) _ (λ written wrote. record {
+      moments = o.moments;
+      took = o.took;
+      just = whole.just;
+      text = wrote ∙ ap (λ (t : List ℕ). Some (written ++ t)) whole.text;
+      done = whole.done;
+    }) o.wrote
+
+-- a batch was served
+pub run_of_batch : (words : List (List ℕ)) (before after : Streams) (timing : Timing) (status : ExitStatus) → timing_of words ≡ Some timing → status ≢ exit.Usage
+    → IfSome before.left (λ input. Outcome timing 1073741824 (trace_of before) (trace_of after) after.left input status)
+    → (before.source_faults ≤ after.source_faults) × (status ≡ exit.SourceFailed → Rose before.source_faults after.source_faults)
+    → (before.sink_faults ≤ after.sink_faults) × (status ≡ exit.SinkFailed → Rose before.sink_faults after.sink_faults)
+    → before.errors_faults ≤ after.errors_faults → Run words before after status
+run_of_batch words before after timing status is no_usage outcome source sink errors = record {
+  batch = λ quiet fed.
+      let through = quiet_through status before.source_faults after.source_faults before.sink_faults after.sink_faults no_usage source.1 sink.1 quiet.source quiet.sink fed in
+      for_timing (timing_of words) timing is _ (told_then before.left _ _ (λ input o. batch_run timing input before after status through o) outcome);
+  prefix = for_timing (timing_of words) timing is _ outcome;
+  usage = λ none. absurd (has_timing (timing_of words) timing is none);
+  usage_only = λ usage. absurd (no_usage usage);
+  source_failed = source.1;
+  sink_failed = λ failed some. sink.1 failed;
+  errors_failed = λ failed none. absurd (has_timing (timing_of words) timing is none);
+  source_later = source.0;
+  sink_later = sink.0;
+  errors_later = errors;
+}
+
+-- a usage fault was shown
+pub run_of_usage : (words : List (List ℕ)) (before after : Streams) (status : ExitStatus) → timing_of words ≡ None → ShowsUsage before.errors after.errors status
+    → (status ≡ exit.Usage) ⊎ ((status ≡ exit.SinkFailed) × Rose before.errors_faults after.errors_faults)
+    → before.source_faults ≤ after.source_faults → before.sink_faults ≤ after.sink_faults → before.errors_faults ≤ after.errors_faults → Run words before after status
+run_of_usage words before after status is shows ended source sink errors = record {
+  batch = λ quiet fed. without_timing (timing_of words) is _;
+  prefix = without_timing (timing_of words) is _;
+  usage = λ none. shows;
+  usage_only = λ usage. ap is_some is;
+  source_failed = λ failed. ⊎_elim (λ usage. absurd cc) (λ sink. let other = sink.0 in absurd cc) ended;
+  sink_failed = λ failed some. let none = ap is_some is in absurd cc;
+  errors_failed = λ failed none. ⊎_elim (λ usage. absurd cc) (λ sink. sink.1) ended;
+  source_later = source;
+  sink_later = sink;
+  errors_later = errors;
+}

@@ -6,6 +6,7 @@ use Rattle.lake_program.specs.Batch.{Served}
 use Rattle.lake_program.specs.Front.{IsPrefix}
 use Rattle.lake_program.specs.Text.{out_of_memory}
 use Rattle.lake_program.specs.Feeding.{Progress, Moments, Turns, Serves}
+use Rattle.lake_program.specs.Streams.{Trace}
 
 -- what a failed write leaves
 abbrev pub WroteFront : List ℕ → Option (List ℕ) → Option (List ℕ) → Type 0
@@ -16,10 +17,10 @@ pub front_written : (text : List ℕ) (before after : Option (List ℕ)) → Wro
 front_written text None after wrote = ([], (text, refl), tt)
 front_written text (Some written) after wrote = wrote
 
-module _ (timing : Timing) (r0 r1 w0 w1 : Option (List ℕ)) (old new : Progress) (line moments text : List ℕ) (took : Moments timing r0 r1 moments) where
+module _ (timing : Timing) (t0 t1 : Trace) (old new : Progress) (line moments text : List ℕ) (took : Moments timing t0.readings t1.readings moments) where
   -- a line was answered
   pub serves_reply : (done : Bool) (result : Result (Unit {0}) Failed) → Turns line moments text done old.lake new.lake → new.done ≡ (old.done && done) → new.starved ≡ old.starved
-      → OnOk result (IfSome w0 (λ written. w1 ≡ Some (written ++ text))) → OnErr result (WroteFront text w0 w1) → Serves timing r0 r1 w0 w1 old new line result
+      → OnOk result (IfSome t0.written (λ written. t1.written ≡ Some (written ++ text))) → OnErr result (WroteFront text t0.written t1.written) → Serves timing t0 t1 old new line result
   serves_reply done (Ok u) turns all starved wrote front = record {
     moments = moments;
     out = text;
@@ -29,7 +30,7 @@ module _ (timing : Timing) (r0 r1 w0 w1 : Option (List ℕ)) (old new : Progress
     stays = λ was. starved ∙ was;
   }
   serves_reply done (Err failed) turns all starved wrote front =
-      let part = front_written text w0 w1 front in
+      let part = front_written text t0.written t1.written front in
       record {
         moments = moments;
         out = part.0;
@@ -41,7 +42,7 @@ module _ (timing : Timing) (r0 r1 w0 w1 : Option (List ℕ)) (old new : Progress
 
   -- memory ran out at a line
   pub serves_want : (result : Result (Unit {0}) Failed) → text ≡ out_of_memory → new.starved ≡ true
-      → OnOk result (IfSome w0 (λ written. w1 ≡ Some (written ++ text))) → OnErr result (WroteFront text w0 w1) → Serves timing r0 r1 w0 w1 old new line result
+      → OnOk result (IfSome t0.written (λ written. t1.written ≡ Some (written ++ text))) → OnErr result (WroteFront text t0.written t1.written) → Serves timing t0 t1 old new line result
   serves_want (Ok u) is starved wrote front = record {
     moments = moments;
     out = text;
@@ -51,7 +52,7 @@ module _ (timing : Timing) (r0 r1 w0 w1 : Option (List ℕ)) (old new : Progress
     stays = λ was. starved;
   }
   serves_want (Err failed) is starved wrote front =
-      let part = front_written text w0 w1 front in
+      let part = front_written text t0.written t1.written front in
       record {
         moments = moments;
         out = part.0;

@@ -7,6 +7,7 @@ use Rattle.lake_program.specs.declared.words.Timing.{Timing}
 use Rattle.lake_program.specs.declared.words.Timing.TheVariants.{Clock, At}
 use Rattle.lake_program.specs.Batch.{Lake, Served, turn, batch, before}
 use Rattle.lake_program.specs.Front.{IsPrefix, AsStated}
+use Rattle.lake_program.specs.Streams.{Trace}
 use Rattle.lake_program.specs.Text.{out_of_memory}
 
 -- what a batch has come to: its lake, whether each line was done, whether memory ran out, and the line under way
@@ -63,11 +64,12 @@ module _ (old : Progress) (line chunk moments out : List ℕ) where
   Comes new (Err _) = Cut
 
 -- From the old progress the chunk led to the new one: these moments were taken and this was written.
-pub record Feeds (timing : Timing) (earlier later written_before written_after : Option (List ℕ)) (old new : Progress) (chunk : List ℕ) (result : Result (Unit {0}) Failed) : Type 0 where
+pub record Feeds (timing : Timing) (before after : Trace) (old new : Progress) (chunk : List ℕ)
+    (result : Result (Unit {0}) Failed) : Type 0 where
   pub moments : List ℕ
   pub out : List ℕ
-  pub took : Moments timing earlier later moments
-  pub wrote : IfSome written_before (λ written. written_after ≡ Some (written ++ out))
+  pub took : Moments timing before.readings after.readings moments
+  pub wrote : IfSome before.written (λ written. after.written ≡ Some (written ++ out))
   pub went : (line : List ℕ) → Holds line old.line → old.starved ≡ false → Comes old line chunk moments out new result
   pub stays : old.starved ≡ true → OnOk result (new.starved ≡ true)
 
@@ -85,10 +87,11 @@ Answers line moments out old new (Ok _) =
 Answers line moments out old new (Err _) = IsCutTurn line moments out old.lake
 
 -- One line was served: these moments were taken and this was written.
-pub record Serves (timing : Timing) (earlier later written_before written_after : Option (List ℕ)) (old new : Progress) (line : List ℕ) (result : Result (Unit {0}) Failed) : Type 0 where
+pub record Serves (timing : Timing) (before after : Trace) (old new : Progress) (line : List ℕ)
+    (result : Result (Unit {0}) Failed) : Type 0 where
   pub moments : List ℕ
   pub out : List ℕ
-  pub took : Moments timing earlier later moments
-  pub wrote : IfSome written_before (λ written. written_after ≡ Some (written ++ out))
+  pub took : Moments timing before.readings after.readings moments
+  pub wrote : IfSome before.written (λ written. after.written ≡ Some (written ++ out))
   pub went : old.starved ≡ false → Answers line moments out old new result
   pub stays : old.starved ≡ true → OnOk result (new.starved ≡ true)

@@ -6,9 +6,11 @@ pub mod Front
 pub mod Outcome
 pub mod Reading
 pub mod Reply
+pub mod Run
 pub mod Seen
 pub mod Session
 pub mod Status
+pub mod Streams
 pub mod Tally
 pub mod Text
 pub mod Words

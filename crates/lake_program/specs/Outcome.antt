@@ -7,6 +7,7 @@ use Rattle.lake_program.specs.Batch.{fresh_lake, batch, batch_of, ended_lines, T
 use Rattle.lake_program.specs.Front.{AsStated, IsServed}
 use Rattle.lake_program.specs.Feeding.{Progress, Moments}
 use Rattle.lake_program.specs.Status.{IsThrough}
+use Rattle.lake_program.specs.Streams.{Trace}
 
 -- a batch of which no line was read
 abbrev pub start : Progress
@@ -27,11 +28,12 @@ pub record ServesGiven (input : List ℕ) (source : Option (List ℕ)) (moments 
   pub served : IsServed out (batch (ended_lines given) moments fresh_lake).text
 
 -- These moments were taken and this was written of the batch of an input, and this is left of its source.
-pub record Outcome (timing : Timing) (limit : ℕ) (earlier later before after source : Option (List ℕ)) (input : List ℕ) (status : ExitStatus) : Type 0 where
+pub record Outcome (timing : Timing) (limit : ℕ) (before after : Trace) (source : Option (List ℕ)) (input : List ℕ)
+    (status : ExitStatus) : Type 0 where
   pub moments : List ℕ
   pub out : List ℕ
-  pub took : Moments timing earlier later moments
-  pub wrote : IfSome before (λ written. after ≡ Some (written ++ out))
+  pub took : Moments timing before.readings after.readings moments
+  pub wrote : IfSome before.written (λ written. after.written ≡ Some (written ++ out))
   -- whatever moments would have come next
   pub as_stated : (more : List ℕ) → AsStated out (batch_of limit input (moments ++ more)).text
   pub whole : IsThrough status → IsWhole limit input moments out status

@@ -6,8 +6,9 @@ use Rattle.lake_program.specs.declared.batch.End.{End}
 use Rattle.lake_program.specs.declared.batch.End.TheVariants.{Source, TooLong, SourceFailed, SinkFailed}
 use Rattle.lake_program.specs.Front.{IsPrefix}
 use Rattle.lake_program.specs.Feeding.{Progress, Feeds}
+use Rattle.lake_program.specs.Streams.{Trace}
 
-module _ (timing : Timing) (earlier later written_before written_after : Option (List ℕ)) (old new : Progress) where
+module _ (timing : Timing) (before after : Trace) (old new : Progress) where
   -- so much of the input was fed, and this is left of it
   pub record Reached (input : List ℕ) (source : Option (List ℕ)) (total : ℕ) : Type 0 where
     pub fed : List ℕ
@@ -15,17 +16,17 @@ module _ (timing : Timing) (earlier later written_before written_after : Option 
     pub rest : source ≡ Some left
     pub whole : fed ++ left ≡ input
     pub count : total ≡ length fed
-    pub feeds : Feeds timing earlier later written_before written_after old new fed (Ok tt)
+    pub feeds : Feeds timing before after old new fed (Ok tt)
 
   -- a part of the input was fed, within the limit
   pub record Part (limit : ℕ) (input : List ℕ) (result : Result (Unit {0}) Failed) : Type 0 where
     pub fed : List ℕ
     pub front : IsPrefix fed (take limit input)
-    pub feeds : Feeds timing earlier later written_before written_after old new fed result
+    pub feeds : Feeds timing before after old new fed result
 
   -- The source ended within the limit, it gave more, it failed with this left of it, or the sink failed.
   abbrev pub Ends : ℕ → List ℕ → Option (List ℕ) → End → Type 0
-  Ends limit input left Source = (length input ≤ limit) × Feeds timing earlier later written_before written_after old new input (Ok tt)
-  Ends limit input left TooLong = (limit < length input) × Feeds timing earlier later written_before written_after old new (take limit input) (Ok tt)
+  Ends limit input left Source = (length input ≤ limit) × Feeds timing before after old new input (Ok tt)
+  Ends limit input left TooLong = (limit < length input) × Feeds timing before after old new (take limit input) (Ok tt)
   Ends limit input left SourceFailed = (total : ℕ) × (total ≤ limit) × Reached input left total
   Ends limit input left SinkFailed = (failed : Failed) × Part limit input (Err failed)

@@ -5,6 +5,7 @@ ghost use Rattle.lake_program.specs.Session.{lake_of};
 ghost use Rattle.lake_program.specs.Front.{IsPrefix};
 ghost use Rattle.lake_program.specs.Text.{too_long};
 ghost use Rattle.lake_program.specs.Status.{end_status};
+ghost use Rattle.lake_program.specs.Streams.{Trace};
 ghost use Rattle.lake_program.specs.Tally.{progress};
 ghost use Rattle.lake_program.specs.Feeding.{Moments, Turns, Serves, Feeds};
 
@@ -103,7 +104,9 @@ fn serve_line<C: Clock, W: Sink>(
     line: &[u8],
 ) -> Result<(), Failed>
     requires { session.old.calls + 1 < 2 ^ 64 }
-    ensures serves { (kept : List ℕ) → Serves timing (C.readings clock.old) (C.readings clock.new) (W.written sink.old) (W.written sink.new)
+    ensures serves { (kept : List ℕ) → Serves timing
+        (record { readings = C.readings clock.old; written = W.written sink.old })
+        (record { readings = C.readings clock.new; written = W.written sink.new })
         (progress session.old tally.old kept) (progress session.new tally.new kept) line.now result }
     ensures calls { session.new.calls ≤ session.old.calls + 1 }
     ensures cause { HasCause (W.faults sink.old) (W.faults sink.new) result }
@@ -174,7 +177,9 @@ impl Batch {
         byte: u8,
     ) -> Result<(), Failed>
         requires { self.old.session.calls + 1 < 2 ^ 64 }
-        ensures feeds { Feeds self.old.timing (C.readings clock.old) (C.readings clock.new) (W.written sink.old) (W.written sink.new)
+        ensures feeds { Feeds self.old.timing
+            (record { readings = C.readings clock.old; written = W.written sink.old })
+            (record { readings = C.readings clock.new; written = W.written sink.new })
             (progress_of self.old) (progress_of self.new) (byte ∷ []) result }
         ensures timing { self.new.timing ≡ self.old.timing }
         ensures calls { self.new.session.calls ≤ self.old.session.calls + 1 }
@@ -205,7 +210,9 @@ impl Batch {
         chunk: &[u8],
     ) -> Result<(), Failed>
         requires { self.old.session.calls + length chunk.now < 2 ^ 64 }
-        ensures feeds { Feeds self.old.timing (C.readings clock.old) (C.readings clock.new) (W.written sink.old) (W.written sink.new)
+        ensures feeds { Feeds self.old.timing
+            (record { readings = C.readings clock.old; written = W.written sink.old })
+            (record { readings = C.readings clock.new; written = W.written sink.new })
             (progress_of self.old) (progress_of self.new) chunk.now result }
         ensures timing { self.new.timing ≡ self.old.timing }
         ensures calls { self.new.session.calls ≤ self.old.session.calls + length chunk.now }
@@ -232,7 +239,9 @@ impl Batch {
         requires room { 0 < length room.old }
         requires limit { limit < 2 ^ 63 }
         requires calls { self.old.session.calls ≡ 0 }
-        ensures ends { IfSome (S.left source.old) (λ input. Ends self.old.timing (C.readings clock.old) (C.readings clock.new) (W.written sink.old) (W.written sink.new)
+        ensures ends { IfSome (S.left source.old) (λ input. Ends self.old.timing
+            (record { readings = C.readings clock.old; written = W.written sink.old })
+            (record { readings = C.readings clock.new; written = W.written sink.new })
             (progress_of self.old) (progress_of self.new) limit input (S.left source.new) result) }
         ensures timing { self.new.timing ≡ self.old.timing }
         ensures calls { self.new.session.calls ≤ limit }
@@ -268,7 +277,9 @@ impl Batch {
     // Serves the line that nothing ends.
     fn close<C: Clock, W: Sink>(&mut self, clock: &mut C, sink: &mut W) -> Result<(), Failed>
         requires { self.old.session.calls + 1 < 2 ^ 64 }
-        ensures serves { Serves self.old.timing (C.readings clock.old) (C.readings clock.new) (W.written sink.old) (W.written sink.new)
+        ensures serves { Serves self.old.timing
+            (record { readings = C.readings clock.old; written = W.written sink.old })
+            (record { readings = C.readings clock.new; written = W.written sink.new })
             (progress_of self.old) (progress_of self.new) self.old.line result }
         ensures timing { self.new.timing ≡ self.old.timing }
         ensures cause { HasCause (W.faults sink.old) (W.faults sink.new) result }
@@ -300,9 +311,11 @@ impl Batch {
     /// too much, is written, and the status is answered.
     pub fn finish<C: Clock, W: Sink>(&mut self, end: End, clock: &mut C, sink: &mut W) -> ExitStatus
         requires { self.old.session.calls + 1 < 2 ^ 64 }
-        ensures outcome { (limit : ℕ) (input : List ℕ) (earlier before left : Option (List ℕ))
-            → Ends self.old.timing earlier (C.readings clock.old) before (W.written sink.old) start (progress_of self.old) limit input left end
-            → Outcome self.old.timing limit earlier (C.readings clock.new) before (W.written sink.new) left input result }
+        ensures outcome { (limit : ℕ) (input : List ℕ) (before : Trace) (left : Option (List ℕ))
+            → Ends self.old.timing before (record { readings = C.readings clock.old; written = W.written sink.old })
+            start (progress_of self.old) limit input left end
+            → Outcome self.old.timing limit before (record { readings = C.readings clock.new; written = W.written sink.new })
+            left input result }
         ensures source { (result ≡ ExitStatus.SourceFailed) ↔ (end ≡ End.SourceFailed) }
         ensures sink { (W.faults sink.old ≤ W.faults sink.new) × (result ≡ ExitStatus.SinkFailed → (end ≢ End.SinkFailed) → Rose (W.faults sink.old) (W.faults sink.new)) }
         ensures statuses { result ≢ ExitStatus.Usage }

@@ -1,15 +1,13 @@
 //! The program as one call.
-ghost use Rattle.std.specs.Prelude.{◌≡◌, ◌≢◌, ◌≤◌, ◌<◌, ◌^◌, ◌⊎◌, ◌++◌, ℕ, List, IfSome, IsSome, IsNone, IfOk, length, if◌then◌else◌};
-ghost use Rattle.lake_base.specs.Outside.{Rose, Quiet};
+ghost use Rattle.std.specs.Prelude.{◌≡◌, ◌≢◌, ◌≤◌, ◌<◌, ◌^◌, ◌⊎◌, IfSome, IsSome, IsNone, IfOk, length};
+ghost use Rattle.lake_base.specs.Outside.{Rose};
 ghost use Rattle.lake_base.specs.declared.limits.TheConstants.{PATH_LIMIT};
 ghost use Rattle.lake_model.specs.declared.history.TheConstants.{HISTORY_LIMIT};
 ghost use Rattle.lake_program.specs.declared.limits.TheConstants.{LINE_LIMIT};
-ghost use Rattle.lake_program.specs.declared.status.ExitStatus.{ExitStatus as Status};
 ghost use Rattle.lake_program.specs.Words.{timing_of};
-ghost use Rattle.lake_program.specs.Batch.{batch_of, TakesJust};
-ghost use Rattle.lake_program.specs.Feeding.{Moments};
 ghost use Rattle.lake_program.specs.Outcome.{Outcome};
-ghost use Rattle.lake_program.specs.Status.{IsStatusNumber, ShowsUsage, status_number};
+ghost use Rattle.lake_program.specs.Status.{ShowsUsage};
+ghost use Rattle.lake_program.specs.Run.{Answers};
 
 use crate::batch::Batch;
 use crate::host::Host;
@@ -41,34 +39,33 @@ pub fn run<R, S: Source, W: Sink, E: Sink, C: Clock, H: Host>(
     clock: &mut C,
     _host: &mut H,
 ) -> u8
-    // Where nothing failed and memory sufficed, the sink got just what the lines come to on the
-    // one-thread lake, from the fresh lake on; each request took one moment, the next.
-    ensures batch { Quiet (S.faults source.old) (S.faults source.new) → Quiet (W.faults sink.old) (W.faults sink.new) → Quiet (E.faults errors.old) (E.faults errors.new) → result ≢ 7
-        → IfSome (timing_of words.now) (λ timing. IfSome (S.left source.old) (λ input. IfSome (W.written sink.old) (λ before.
-        (moments : List ℕ) × Moments timing (C.readings clock.old) (C.readings clock.new) moments × TakesJust 1073741824 input moments
-        × (W.written sink.new ≡ Some (before ++ (batch_of 1073741824 input moments).text))
-        × (result ≡ (if (batch_of 1073741824 input moments).done then 0 else 1))))) }
+    ensures answers { Answers words.now
+        (record {
+          left = S.left source.old;
+          written = W.written sink.old;
+          errors = E.written errors.old;
+          readings = C.readings clock.old;
+          source_faults = S.faults source.old;
+          sink_faults = W.faults sink.old;
+          errors_faults = E.faults errors.old;
+        })
+        (record {
+          left = S.left source.new;
+          written = W.written sink.new;
+          errors = E.written errors.new;
+          readings = C.readings clock.new;
+          source_faults = S.faults source.new;
+          sink_faults = W.faults sink.new;
+          errors_faults = E.faults errors.new;
+        })
+        result }
 
-    // Whatever failed, the sink got a prefix of that, up to a line that found no memory. Where the source
-    // failed, it got all of the lines that had ended.
-    ensures prefix { IfSome (timing_of words.now) (λ timing. IfSome (S.left source.old) (λ input.
-        (status : Status) × (result ≡ status_number status)
-        × Outcome timing 1073741824 (C.readings clock.old) (C.readings clock.new) (W.written sink.old) (W.written sink.new) (S.left source.new) input status)) }
-
-    // Other words are a usage fault, and nothing else is done.
-    ensures usage { (result ≡ 2 → IsNone (timing_of words.now)) × (IsNone (timing_of words.now)
-        → ((status : Status) × (result ≡ status_number status) × ShowsUsage (E.written errors.old) (E.written errors.new) status)
-        × (sink.new ≡ sink.old) × (source.new ≡ source.old) × (clock.new ≡ clock.old)) }
+    // A usage fault touches nothing but `errors`, and a batch touches all but that.
+    ensures usage { IsNone (timing_of words.now) → (sink.new ≡ sink.old) × (source.new ≡ source.old) × (clock.new ≡ clock.old) }
     ensures no_errors { IsSome (timing_of words.now) → errors.new ≡ errors.old }
     ensures host { _host.new ≡ _host.old }
 
-    // Each failure has its cause.
-    ensures source_failed { result ≡ 3 → Rose (S.faults source.old) (S.faults source.new) }
-    ensures sink_failed { result ≡ 4 → IsSome (timing_of words.now) → Rose (W.faults sink.old) (W.faults sink.new) }
-    ensures errors_failed { result ≡ 4 → IsNone (timing_of words.now) → Rose (E.faults errors.old) (E.faults errors.new) }
-    ensures statuses { IsStatusNumber result }
     ensures limits { (BATCH_LIMIT ≡ 1073741824) × (LINE_LIMIT ≡ 65536) × (HISTORY_LIMIT ≡ 4194304) × (PATH_LIMIT ≡ 1024) }
-    ensures later { (S.faults source.old ≤ S.faults source.new) × (W.faults sink.old ≤ W.faults sink.new) × (E.faults errors.old ≤ E.faults errors.new) }
 {
     match batch_timing(words) {
         Some(timing) => serve_batch(alloc, BATCH_LIMIT, timing, source, sink, clock).number(),
@@ -99,7 +96,10 @@ pub fn serve_batch<S: Source, W: Sink, C: Clock>(
 ) -> ExitStatus
     requires { limit < 2 ^ 63 }
     ensures outcome { IfSome (S.left source.old) (λ input.
-        Outcome timing limit (C.readings clock.old) (C.readings clock.new) (W.written sink.old) (W.written sink.new) (S.left source.new) input result) }
+        Outcome timing limit
+        (record { readings = C.readings clock.old; written = W.written sink.old })
+        (record { readings = C.readings clock.new; written = W.written sink.new })
+        (S.left source.new) input result) }
     ensures source { (S.faults source.old ≤ S.faults source.new) × (result ≡ ExitStatus.SourceFailed → Rose (S.faults source.old) (S.faults source.new)) }
     ensures sink { (W.faults sink.old ≤ W.faults sink.new) × (result ≡ ExitStatus.SinkFailed → Rose (W.faults sink.old) (W.faults sink.new)) }
     ensures statuses { result ≢ ExitStatus.Usage }

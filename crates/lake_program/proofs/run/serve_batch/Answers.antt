@@ -4,6 +4,7 @@ use Rattle.lake_program.specs.BatchSeen.{progress_of}
 use Rattle.lake_program.specs.Feeding.{Progress}
 use Rattle.lake_program.specs.Outcome.{start, Outcome}
 use Rattle.lake_program.specs.Reading.{Ends}
+use Rattle.lake_program.specs.Streams.{Trace}
 use Rattle.lake_program.proofs.OutcomeLaws.{outcome_none}
 use Rattle.lake_program.proofs.ReadingLaws.{told_then, told_all}
 use Rattle.lake_program.proofs.RunLaws.{sink_cause}
@@ -11,23 +12,20 @@ use Rattle.lake_program.proofs.run.serve_batch.Goals as goal
 
 pub returns-in_default-clause-outcome : goal.returns-in_default-clause-outcome
 returns-in_default-clause-outcome g c =
-    told_all (g.S.Source.left c.args.source.now) _ (λ input. outcome_none c.args.timing c.args.limit (g.C.Clock.readings c.args.clock.now) (g.W.Sink.written c.args.sink.now) (g.S.Source.left c.args.source.now) input)
+    told_all (g.S.Source.left c.args.source.now) _ (λ input. outcome_none c.args.timing c.args.limit (record { readings = g.C.Clock.readings c.args.clock.now; written = g.W.Sink.written c.args.sink.now }) (g.S.Source.left c.args.source.now) input)
 
 pub returns-clause-outcome : goal.returns-clause-outcome
 returns-clause-outcome g c =
-    let r0 = g.C.Clock.readings c.args.clock.now in
-    let r1 = g.C.Clock.readings c.read-end.new.clock in
-    let r2 = g.C.Clock.readings c.finish.new.clock in
-    let w0 = g.W.Sink.written c.args.sink.now in
-    let w1 = g.W.Sink.written c.read-end.new.sink in
-    let w2 = g.W.Sink.written c.finish.new.sink in
+    let t0 : Trace = record { readings = g.C.Clock.readings c.args.clock.now; written = g.W.Sink.written c.args.sink.now } in
+    let t1 : Trace = record { readings = g.C.Clock.readings c.read-end.new.clock; written = g.W.Sink.written c.read-end.new.sink } in
+    let t2 : Trace = record { readings = g.C.Clock.readings c.finish.new.clock; written = g.W.Sink.written c.finish.new.sink } in
     let left = g.S.Source.left c.read-end.new.source in
     let reached = progress_of c.read-end.new.self in
     told_then (g.S.Source.left c.args.source.now) _ _ (λ input ends.
-    let begun = subst (λ (p : Progress). Ends c.in-Ok.batch.timing r0 r1 w0 w1 p reached c.args.limit input left c.read-end.result) c.in-Ok.ensures.start ends in
-    let timed = subst (λ (t : Timing). Ends t r0 r1 w0 w1 start reached c.args.limit input left c.read-end.result) (sym c.read-end.ensures.timing) begun in
-    subst (λ (t : Timing). Outcome t c.args.limit r0 r2 w0 w2 left input c.finish.result) (c.read-end.ensures.timing ∙ c.in-Ok.ensures.timing)
-    (c.finish.ensures.outcome c.args.limit input r0 w0 left timed)) c.read-end.ensures.ends
+    let begun = subst (λ (p : Progress). Ends c.in-Ok.batch.timing t0 t1 p reached c.args.limit input left c.read-end.result) c.in-Ok.ensures.start ends in
+    let timed = subst (λ (t : Timing). Ends t t0 t1 start reached c.args.limit input left c.read-end.result) (sym c.read-end.ensures.timing) begun in
+    subst (λ (t : Timing). Outcome t c.args.limit t0 t2 left input c.finish.result) (c.read-end.ensures.timing ∙ c.in-Ok.ensures.timing)
+    (c.finish.ensures.outcome c.args.limit input t0 left timed)) c.read-end.ensures.ends
 
 pub returns-clause-sink : goal.returns-clause-sink
 returns-clause-sink g c =

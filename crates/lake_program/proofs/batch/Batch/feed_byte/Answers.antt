@@ -9,13 +9,14 @@ use Rattle.lake_program.proofs.batch.Batch.feed_byte.Goals as goal
 pub returns-then-byte-ne10-clause-feeds : goal.returns-then-byte-ne10-clause-feeds
 returns-then-byte-ne10-clause-feeds g c =
     let here : InLine c.args.byte = grind (arith, nat_tests) in
-    feeds_byte_to c.args.self.now.timing (g.C.Clock.readings c.args.clock.now) (g.W.Sink.written c.args.sink.now) (progress_of c.args.self.now) c.args.byte c.push.new.self here c.push.ensures
+    feeds_byte_to c.args.self.now.timing (record { readings = g.C.Clock.readings c.args.clock.now; written = g.W.Sink.written c.args.sink.now }) (progress_of c.args.self.now) c.args.byte c.push.new.self here c.push.ensures
 
 pub returns-clause-feeds : goal.returns-clause-feeds
 returns-clause-feeds g c =
     let kept = c.args.self.now.line in
     let is : c.args.byte ≡ 10 = omega arith in
-    feeds_line_to c.args.self.now.timing (g.C.Clock.readings c.args.clock.now) (g.C.Clock.readings c.serve_line-served.new.clock)
-    (g.W.Sink.written c.args.sink.now) (g.W.Sink.written c.serve_line-served.new.sink)
+    feeds_line_to c.args.self.now.timing
+    (record { readings = g.C.Clock.readings c.args.clock.now; written = g.W.Sink.written c.args.sink.now })
+    (record { readings = g.C.Clock.readings c.serve_line-served.new.clock; written = g.W.Sink.written c.serve_line-served.new.sink })
     (progress_of c.args.self.now) (progress c.serve_line-served.new.session c.serve_line-served.new.tally kept) c.args.byte c.ended.result.now c.clear.new.self c.serve_line-served.result
     is c.ended.ensures c.clear.ensures (c.serve_line-served.ensures.serves kept)

@@ -6,7 +6,8 @@ use Rattle.lake_program.proofs.batch.Batch.read.Given as goal
 -- so many bytes were read and fed, within the limit
 abbrev pub invariant-reading : goal.invariant-reading
 invariant-reading g l = record {
-  reached : IfSome (g.S.Source.left l.fn.source) (λ input. Reached l.fn.self.timing (g.C.Clock.readings l.fn.clock) (g.C.Clock.readings l.clock) (g.W.Sink.written l.fn.sink) (g.W.Sink.written l.sink)
+  reached : IfSome (g.S.Source.left l.fn.source) (λ input. Reached l.fn.self.timing
+      (record { readings = g.C.Clock.readings l.fn.clock; written = g.W.Sink.written l.fn.sink }) (record { readings = g.C.Clock.readings l.clock; written = g.W.Sink.written l.sink })
       (progress_of l.fn.self) (progress_of l.self) input (g.S.Source.left l.source) l.total);
   within : l.total ≤ l.limit;
   room : 0 < length l.room;
