@@ -1,8 +1,8 @@
 -- What a line of a batch asks for.
-use Rattle.std.specs.Prelude.{ℕ, ◌==◌, ◌&&◌, not, nat_lt, nat_le, Bool, true, if◌then◌else◌, List, [], ◌∷◌, length, drop, filter, Option, Some, None, option_map, codes}
+use Rattle.std.specs.Prelude.{ℕ, ◌==◌, ◌&&◌, not, nat_eq, nat_lt, nat_le, Bool, true, if◌then◌else◌, codes}
+use Rattle.std.specs.Prelude.{List, [], ◌∷◌, length, drop, filter, Option, Some, None, option_map}
 use Rattle.std.specs.List.{slice_split, list_any, starts_with}
 use Rattle.std.specs.Str.{bytes_eq, is_utf8}
-use Rattle.std.specs.Prelude.{nat_eq}
 use Rattle.lake_base.specs.Names.{path_fault}
 use Rattle.lake_base.specs.declared.names.NameFault.{NameFault}
 
@@ -39,7 +39,10 @@ valid_path path (Some fault) = None
 
 -- the path of an object's URI
 abbrev pub path_of : List ℕ → Option (List ℕ)
-path_of uri = if starts_with nat_eq uri branch_uri then valid_path (drop (length branch_uri) uri) (path_fault (drop (length branch_uri) uri)) else None
+path_of uri =
+    if starts_with nat_eq uri branch_uri
+    then valid_path (drop (length branch_uri) uri) (path_fault (drop (length branch_uri) uri))
+    else None
 
 -- a word without a quotation mark
 abbrev pub is_plain : List ℕ → Bool
@@ -55,7 +58,9 @@ abbrev pub upload_request : List ℕ → List (List ℕ) → Option Request
 upload_request uri [] = None
 upload_request uri (option ∷ []) = None
 upload_request uri (option ∷ text ∷ []) =
-    if bytes_eq option (codes "--text") && is_plain text then option_map (λ path. Upload path text) (path_of uri) else None
+    if bytes_eq option (codes "--text") && is_plain text
+    then option_map (λ path. Upload path text) (path_of uri)
+    else None
 upload_request uri (option ∷ text ∷ word ∷ words) = None
 
 -- what is asked by the words `fs cat URI` or `fs upload URI --text TEXT`

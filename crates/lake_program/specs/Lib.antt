@@ -1,13 +1,15 @@
 pub mod Batch
-pub mod BatchSeen
+pub mod BatchView
 pub mod Command
+pub mod CommandView
 pub mod Feeding
 pub mod Front
 pub mod Outcome
+pub mod Progress
 pub mod Reading
 pub mod Reply
 pub mod Run
-pub mod Seen
+pub mod Serving
 pub mod Session
 pub mod Status
 pub mod Streams

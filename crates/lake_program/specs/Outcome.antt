@@ -4,8 +4,8 @@ use Rattle.lake_program.specs.declared.words.Timing.{Timing}
 use Rattle.lake_program.specs.declared.status.ExitStatus.{ExitStatus}
 use Rattle.lake_program.specs.declared.status.ExitStatus.TheVariants.{Done, Refused, SourceFailed}
 use Rattle.lake_program.specs.Batch.{fresh_lake, batch, batch_of, ended_lines, TakesJust}
-use Rattle.lake_program.specs.Front.{AsStated, IsServed}
-use Rattle.lake_program.specs.Feeding.{Progress, Moments}
+use Rattle.lake_program.specs.Front.{IsAsStated, IsServed}
+use Rattle.lake_program.specs.Progress.{Progress, AreMoments}
 use Rattle.lake_program.specs.Status.{IsThrough}
 use Rattle.lake_program.specs.Streams.{Trace}
 
@@ -32,10 +32,10 @@ pub record Outcome (timing : Timing) (limit : ℕ) (before after : Trace) (sourc
     (status : ExitStatus) : Type 0 where
   pub moments : List ℕ
   pub out : List ℕ
-  pub took : Moments timing before.readings after.readings moments
+  pub took : AreMoments timing before.readings after.readings moments
   pub wrote : IfSome before.written (λ written. after.written ≡ Some (written ++ out))
   -- whatever moments would have come next
-  pub as_stated : (more : List ℕ) → AsStated out (batch_of limit input (moments ++ more)).text
+  pub as_stated : (more : List ℕ) → IsAsStated out (batch_of limit input (moments ++ more)).text
   pub whole : IsThrough status → IsWhole limit input moments out status
   -- where the source failed
   pub given : status ≡ SourceFailed → ServesGiven input source moments out

@@ -3,10 +3,11 @@ use Rattle.std.specs.Prelude.{◌≡◌, ◌≢◌, ◌≤◌, ℕ, if◌then◌
 use Rattle.lake_base.specs.Outside.{Rose, Quiet}
 use Rattle.lake_program.specs.declared.words.Timing.{Timing}
 use Rattle.lake_program.specs.declared.status.ExitStatus.{ExitStatus}
-use Rattle.lake_program.specs.declared.status.ExitStatus.TheVariants.{Done, Refused, Usage, SourceFailed, SinkFailed, OutOfMemory}
+use Rattle.lake_program.specs.declared.status.ExitStatus.TheVariants.{Done, Refused, Usage}
+use Rattle.lake_program.specs.declared.status.ExitStatus.TheVariants.{SourceFailed, SinkFailed, OutOfMemory}
 use Rattle.lake_program.specs.Words.{timing_of}
 use Rattle.lake_program.specs.Batch.{batch_of, TakesJust}
-use Rattle.lake_program.specs.Feeding.{Moments}
+use Rattle.lake_program.specs.Progress.{AreMoments}
 use Rattle.lake_program.specs.Outcome.{Outcome}
 use Rattle.lake_program.specs.Status.{status_number, ShowsUsage}
 use Rattle.lake_program.specs.Streams.{Streams, trace_of}
@@ -18,10 +19,11 @@ pub record AreQuiet (before after : Streams) : Type 0 where
   pub errors : Quiet before.errors_faults after.errors_faults
 
 -- a run of a batch of this input, after this was written
-pub record IsBatchRun (timing : Timing) (input written : List ℕ) (before after : Streams) (status : ExitStatus) : Type 0 where
+pub record IsBatchRun (timing : Timing) (input written : List ℕ) (before after : Streams)
+    (status : ExitStatus) : Type 0 where
   pub moments : List ℕ
   -- each request took one moment, the next, and there were no other
-  pub took : Moments timing before.readings after.readings moments
+  pub took : AreMoments timing before.readings after.readings moments
   pub just : TakesJust 1073741824 input moments
   -- the sink got just what the lines come to on the one-thread lake, from the fresh lake on
   pub text : after.written ≡ Some (written ++ (batch_of 1073741824 input moments).text)
@@ -52,5 +54,6 @@ pub record Run (words : List (List ℕ)) (before after : Streams) (status : Exit
   pub errors_later : before.errors_faults ≤ after.errors_faults
 
 -- What is promised of a run with these words that answers this number: it is that of a status.
-abbrev pub Answers : List (List ℕ) → Streams → Streams → ℕ → Type 0
-Answers words before after number = (status : ExitStatus) × (number ≡ status_number status) × Run words before after status
+abbrev pub Runs : List (List ℕ) → Streams → Streams → ℕ → Type 0
+Runs words before after number =
+    (status : ExitStatus) × (number ≡ status_number status) × Run words before after status

@@ -2,9 +2,10 @@
 use Rattle.std.specs.Prelude.{◌≡◌, ◌⊎◌, ◌++◌, ℕ, Bool, List, Option, Some, IfSome, Result, Ok, Err, if◌then◌else◌}
 use Rattle.lake_base.specs.declared.outside.Failed.{Failed}
 use Rattle.lake_program.specs.declared.status.ExitStatus.{ExitStatus}
-use Rattle.lake_program.specs.declared.status.ExitStatus.TheVariants.{Done, Refused, Usage, SourceFailed, SinkFailed, OutOfMemory}
+use Rattle.lake_program.specs.declared.status.ExitStatus.TheVariants.{Done, Refused, Usage}
+use Rattle.lake_program.specs.declared.status.ExitStatus.TheVariants.{SourceFailed, SinkFailed, OutOfMemory}
 use Rattle.lake_program.specs.Front.{IsPrefix}
-use Rattle.lake_program.specs.Text.{usage}
+use Rattle.lake_program.specs.Text.{usage_text}
 
 -- the number by which the system knows a status
 abbrev pub status_number : ExitStatus → ℕ
@@ -14,10 +15,6 @@ status_number Usage = 2
 status_number SourceFailed = 3
 status_number SinkFailed = 4
 status_number OutOfMemory = 7
-
--- the number is that of a status
-abbrev pub IsStatusNumber : ℕ → Type 0
-IsStatusNumber number = (status : ExitStatus) × (number ≡ status_number status)
 
 -- the status of a batch that was read to its end, by whether memory ran out and whether each line was done
 abbrev pub status_of : Bool → Bool → ExitStatus
@@ -40,5 +37,6 @@ IsThrough OutOfMemory = ⊥
 -- All of the text of a usage fault was written, or a front of it where that failed.
 abbrev pub ShowsUsage : Option (List ℕ) → Option (List ℕ) → ExitStatus → Type 0
 ShowsUsage before after status =
-    ((status ≡ Usage) × IfSome before (λ written. after ≡ Some (written ++ usage)))
-    ⊎ ((status ≡ SinkFailed) × IfSome before (λ written. (out : List ℕ) × IsPrefix out usage × (after ≡ Some (written ++ out))))
+    ((status ≡ Usage) × IfSome before (λ written. after ≡ Some (written ++ usage_text)))
+    ⊎ ((status ≡ SinkFailed)
+    × IfSome before (λ written. (out : List ℕ) × IsPrefix out usage_text × (after ≡ Some (written ++ out))))

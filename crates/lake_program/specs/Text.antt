@@ -10,38 +10,39 @@ abbrev pub line : List ℕ → List ℕ
 line text = text ++ 10 ∷ []
 
 -- a line of no form that is built yet
-abbrev pub not_built : List ℕ
-not_built = line (codes "Error: not built yet")
+abbrev pub not_built_text : List ℕ
+not_built_text = line (codes "Error: not built yet")
 
 -- out of memory
-abbrev pub out_of_memory : List ℕ
-out_of_memory = line (codes "Error: out of memory [507]")
+abbrev pub out_of_memory_text : List ℕ
+out_of_memory_text = line (codes "Error: out of memory [507]")
 
 -- more bytes than a batch may have
-abbrev pub too_long : List ℕ
-too_long = line (codes "Error: batch too long")
+abbrev pub too_long_text : List ℕ
+too_long_text = line (codes "Error: batch too long")
 
 -- the program's words are no command
-abbrev pub usage : List ℕ
-usage = line (codes "Error: usage")
+abbrev pub usage_text : List ℕ
+usage_text = line (codes "Error: usage")
 
 -- an upload that was made: its path, its size and its digest
-abbrev pub uploaded : List ℕ → ℕ → List ℕ → List ℕ
-uploaded path size digest =
-    line (codes "Path: " ++ path) ++ line (codes "Size: " ++ decimal size) ++ line (codes "Checksum: " ++ encode_lower digest)
+abbrev pub upload_text : List ℕ → ℕ → List ℕ → List ℕ
+upload_text path size digest =
+    line (codes "Path: " ++ path) ++ line (codes "Size: " ++ decimal size)
+    ++ line (codes "Checksum: " ++ encode_lower digest)
 
 -- nothing stands at the path
-abbrev pub no_path : List ℕ → List ℕ
-no_path path = line (codes "Error: path not found: " ++ path ++ codes " [404]")
+abbrev pub no_path_text : List ℕ → List ℕ
+no_path_text path = line (codes "Error: path not found: " ++ path ++ codes " [404]")
 
 -- the bytes of the object at the path aren't held
-abbrev pub lost : List ℕ → List ℕ
-lost path = line (codes "Error: object lost: " ++ path ++ codes " [500]")
+abbrev pub lost_text : List ℕ → List ℕ
+lost_text path = line (codes "Error: object lost: " ++ path ++ codes " [500]")
 
 -- a step was refused
-abbrev pub refused : StepFault → List ℕ
-refused HistoryFull = line (codes "Error: history full [503]")
-refused NoRepo = line (codes "Error: repository not found: quickstart [404]")
-refused NoRef = line (codes "Error: reference not found: main [404]")
-refused (Changed version settings) = line (codes "Error: too many tries [423]")
-refused NoMemory = out_of_memory
+abbrev pub refusal_text : StepFault → List ℕ
+refusal_text HistoryFull = line (codes "Error: history full [503]")
+refusal_text NoRepo = line (codes "Error: repository not found: quickstart [404]")
+refusal_text NoRef = line (codes "Error: reference not found: main [404]")
+refusal_text (Changed version settings) = line (codes "Error: too many tries [423]")
+refusal_text NoMemory = out_of_memory_text

@@ -1,5 +1,6 @@
 -- The words that the program was started with.
-use Rattle.std.specs.Prelude.{ℕ, ◌+◌, ◌-◌, ◌*◌, ◌&&◌, nat_lt, nat_le, Bool, if◌then◌else◌, List, [], ◌∷◌, length, Option, Some, None, codes}
+use Rattle.std.specs.Prelude.{ℕ, ◌+◌, ◌-◌, ◌*◌, ◌&&◌, nat_lt, nat_le, Bool, if◌then◌else◌, codes}
+use Rattle.std.specs.Prelude.{List, [], ◌∷◌, length, Option, Some, None}
 use Rattle.std.specs.Char.{is_ascii_digit}
 use Rattle.std.specs.List.{list_all}
 use Rattle.std.specs.Str.{bytes_eq}
@@ -19,5 +20,7 @@ is_number text = nat_lt 0 (length text) && nat_le (length text) 19 && list_all i
 abbrev pub timing_of : List (List ℕ) → Option Timing
 timing_of (batch ∷ []) = if bytes_eq batch (codes "batch") then Some Clock else None
 timing_of (batch ∷ at ∷ number ∷ []) =
-    if bytes_eq batch (codes "batch") && bytes_eq at (codes "--at") && is_number number then Some (At (number_after 0 number)) else None
+    if bytes_eq batch (codes "batch") && bytes_eq at (codes "--at") && is_number number
+    then Some (At (number_after 0 number))
+    else None
 timing_of words = None

@@ -1,13 +1,16 @@
 //! Batches: each line of a source is served, and what it shows goes to a sink.
-ghost use Rattle.std.specs.Prelude.{◌≡◌, ◌+◌, ◌≤◌, ◌<◌, ◌^◌, ◌≢◌, ◌↔◌, ◌&&◌, ◌++◌, ◌∷◌, [], ℕ, List, Option, IfOk, OnOk, OnErr, IfSome, length, true, false};
+ghost use Rattle.std.specs.Prelude.{◌≡◌, ◌+◌, ◌≤◌, ◌<◌, ◌^◌, ◌≢◌, ◌↔◌, ◌&&◌, ◌++◌, ◌∷◌, [], ℕ, List, Option};
+ghost use Rattle.std.specs.Prelude.{IfOk, OnOk, OnErr, IfSome, length, true, false};
 ghost use Rattle.lake_base.specs.Outside.{HasCause, Rose};
 ghost use Rattle.lake_program.specs.Session.{lake_of};
 ghost use Rattle.lake_program.specs.Front.{IsPrefix};
-ghost use Rattle.lake_program.specs.Text.{too_long};
+ghost use Rattle.lake_program.specs.Text.{too_long_text};
 ghost use Rattle.lake_program.specs.Status.{end_status};
 ghost use Rattle.lake_program.specs.Streams.{Trace};
 ghost use Rattle.lake_program.specs.Tally.{progress};
-ghost use Rattle.lake_program.specs.Feeding.{Moments, Turns, Serves, Feeds};
+ghost use Rattle.lake_program.specs.Feeding.{Feeds};
+ghost use Rattle.lake_program.specs.Progress.{AreMoments};
+ghost use Rattle.lake_program.specs.Serving.{Turns, Serves};
 
 use crate::command::{Line, read_line};
 use crate::line_buffer::LineBuffer;
@@ -55,7 +58,7 @@ impl Tally {
 
 // The moment of the next request.
 fn next_moment<C: Clock>(timing: Timing, clock: &mut C) -> u64
-    ensures { Moments timing (C.readings clock.old) (C.readings clock.new) (result ∷ []) }
+    ensures { AreMoments timing (C.readings clock.old) (C.readings clock.new) (result ∷ []) }
 {
     match timing {
         Timing::Clock => clock.now(),
@@ -72,8 +75,9 @@ fn turn<C: Clock>(
     line: &[u8],
 ) -> Result<Reply, NoMemory>
     requires { session.old.calls + 1 < 2 ^ 64 }
-    ensures turned { (moments : List ℕ) × Moments timing (C.readings clock.old) (C.readings clock.new) moments
-        × IfOk result (λ reply. Turns line.now moments reply.text.items reply.done (lake_of session.old) (lake_of session.new)) }
+    ensures turned { (moments : List ℕ) × AreMoments timing (C.readings clock.old) (C.readings clock.new) moments
+        × IfOk result (λ reply.
+        Turns line.now moments reply.text.items reply.done (lake_of session.old) (lake_of session.new)) }
     ensures calls { session.new.calls ≤ session.old.calls + 1 }
 {
     match read_line(alloc, line) {
@@ -147,14 +151,13 @@ pub struct Batch {
 }
 
 impl Batch {
-    ghost use Rattle.lake_program.specs.BatchSeen.{progress_of};
-    ghost use Rattle.lake_program.specs.Batch.{fresh_lake};
+    ghost use Rattle.lake_program.specs.BatchView.{progress_of};
     ghost use Rattle.lake_program.specs.Reading.{Ends};
     ghost use Rattle.lake_program.specs.Outcome.{start, Outcome};
 
     /// A batch on a fresh lake, of which no line was read.
     pub fn new(alloc: Global, timing: Timing) -> Result<Batch, NoMemory>
-        ensures start { IfOk result (λ batch. progress_of batch ≡ record { lake = fresh_lake; done = true; starved = false; line = [] }) }
+        ensures start { IfOk result (λ batch. progress_of batch ≡ start) }
         ensures timing { IfOk result (λ batch. batch.timing ≡ timing) }
     {
         Ok(Batch {
@@ -245,8 +248,10 @@ impl Batch {
             (progress_of self.old) (progress_of self.new) limit input (S.left source.new) result) }
         ensures timing { self.new.timing ≡ self.old.timing }
         ensures calls { self.new.session.calls ≤ limit }
-        ensures source { (S.faults source.old ≤ S.faults source.new) × (result ≡ End.SourceFailed → Rose (S.faults source.old) (S.faults source.new)) }
-        ensures sink { (W.faults sink.old ≤ W.faults sink.new) × (result ≡ End.SinkFailed → Rose (W.faults sink.old) (W.faults sink.new)) }
+        ensures source { (S.faults source.old ≤ S.faults source.new)
+            × (result ≡ End.SourceFailed → Rose (S.faults source.old) (S.faults source.new)) }
+        ensures sink { (W.faults sink.old ≤ W.faults sink.new)
+            × (result ≡ End.SinkFailed → Rose (W.faults sink.old) (W.faults sink.new)) }
     {
         let mut total = 0;
         'reading: loop {
@@ -297,9 +302,16 @@ impl Batch {
 
     // Shows that the batch is too long.
     fn cut_off<W: Sink>(&mut self, sink: &mut W) -> Result<(), Failed>
-        ensures all { OnOk result (IfSome (W.written sink.old) (λ before. W.written sink.new ≡ Some (before ++ too_long))) }
-        ensures front { OnErr result (IfSome (W.written sink.old) (λ before. (out : List ℕ) × IsPrefix out too_long × (W.written sink.new ≡ Some (before ++ out)))) }
-        ensures progress { progress_of self.new ≡ record { lake = lake_of self.old.session; done = false; starved = self.old.tally.starved; line = self.old.line } }
+        ensures all { OnOk result (IfSome (W.written sink.old) (λ before.
+            W.written sink.new ≡ Some (before ++ too_long_text))) }
+        ensures front { OnErr result (IfSome (W.written sink.old) (λ before.
+            (out : List ℕ) × IsPrefix out too_long_text × (W.written sink.new ≡ Some (before ++ out)))) }
+        ensures progress { progress_of self.new ≡ record {
+          lake = lake_of self.old.session;
+          done = false;
+          starved = self.old.tally.starved;
+          line = self.old.line;
+        } }
         ensures timing { self.new.timing ≡ self.old.timing }
         ensures cause { HasCause (W.faults sink.old) (W.faults sink.new) result }
     {
@@ -314,10 +326,11 @@ impl Batch {
         ensures outcome { (limit : ℕ) (input : List ℕ) (before : Trace) (left : Option (List ℕ))
             → Ends self.old.timing before (record { readings = C.readings clock.old; written = W.written sink.old })
             start (progress_of self.old) limit input left end
-            → Outcome self.old.timing limit before (record { readings = C.readings clock.new; written = W.written sink.new })
-            left input result }
+            → Outcome self.old.timing limit before
+            (record { readings = C.readings clock.new; written = W.written sink.new }) left input result }
         ensures source { (result ≡ ExitStatus.SourceFailed) ↔ (end ≡ End.SourceFailed) }
-        ensures sink { (W.faults sink.old ≤ W.faults sink.new) × (result ≡ ExitStatus.SinkFailed → (end ≢ End.SinkFailed) → Rose (W.faults sink.old) (W.faults sink.new)) }
+        ensures sink { (W.faults sink.old ≤ W.faults sink.new) × (result ≡ ExitStatus.SinkFailed
+            → (end ≢ End.SinkFailed) → Rose (W.faults sink.old) (W.faults sink.new)) }
         ensures statuses { result ≢ ExitStatus.Usage }
     {
         match end {

@@ -7,7 +7,7 @@ ghost use Rattle.lake_program.specs.declared.limits.TheConstants.{LINE_LIMIT};
 ghost use Rattle.lake_program.specs.Words.{timing_of};
 ghost use Rattle.lake_program.specs.Outcome.{Outcome};
 ghost use Rattle.lake_program.specs.Status.{ShowsUsage};
-ghost use Rattle.lake_program.specs.Run.{Answers};
+ghost use Rattle.lake_program.specs.Run.{Runs};
 
 use crate::batch::Batch;
 use crate::host::Host;
@@ -25,10 +25,7 @@ const ROOM: usize = 65_536;
 /// Runs the program with these words: `batch`, or `batch --at N`. Each line of the source is a command;
 /// what it shows goes to the sink. All other words are a usage fault, which is shown on `errors`.
 ///
-/// The answer is the program's status: 0 where each line was done, 1 where one was refused or the
-/// batch was too long, 2 for a usage fault, 3 where the source failed, 4 where the sink or `errors`
-/// did, 7 where memory ran out. The first that is met ends the run, but a line that is refused or that
-/// finds no memory doesn't.
+/// The answer is the number of the run's `ExitStatus`.
 pub fn run<R, S: Source, W: Sink, E: Sink, C: Clock, H: Host>(
     _rt: &R,
     alloc: Global,
@@ -39,7 +36,7 @@ pub fn run<R, S: Source, W: Sink, E: Sink, C: Clock, H: Host>(
     clock: &mut C,
     _host: &mut H,
 ) -> u8
-    ensures answers { Answers words.now
+    ensures run { Runs words.now
         (record {
           left = S.left source.old;
           written = W.written sink.old;
@@ -60,12 +57,14 @@ pub fn run<R, S: Source, W: Sink, E: Sink, C: Clock, H: Host>(
         })
         result }
 
-    // A usage fault touches nothing but `errors`, and a batch touches all but that.
-    ensures usage { IsNone (timing_of words.now) → (sink.new ≡ sink.old) × (source.new ≡ source.old) × (clock.new ≡ clock.old) }
+    // A usage fault touches `errors` alone, and a batch everything but that.
+    ensures usage { IsNone (timing_of words.now)
+        → (sink.new ≡ sink.old) × (source.new ≡ source.old) × (clock.new ≡ clock.old) }
     ensures no_errors { IsSome (timing_of words.now) → errors.new ≡ errors.old }
     ensures host { _host.new ≡ _host.old }
 
-    ensures limits { (BATCH_LIMIT ≡ 1073741824) × (LINE_LIMIT ≡ 65536) × (HISTORY_LIMIT ≡ 4194304) × (PATH_LIMIT ≡ 1024) }
+    ensures limits { (BATCH_LIMIT ≡ 1073741824) × (LINE_LIMIT ≡ 65536)
+        × (HISTORY_LIMIT ≡ 4194304) × (PATH_LIMIT ≡ 1024) }
 {
     match batch_timing(words) {
         Some(timing) => serve_batch(alloc, BATCH_LIMIT, timing, source, sink, clock).number(),
@@ -76,7 +75,8 @@ pub fn run<R, S: Source, W: Sink, E: Sink, C: Clock, H: Host>(
 // Shows that the words are a usage fault.
 fn show_usage<E: Sink>(errors: &mut E) -> ExitStatus
     ensures shows { ShowsUsage (E.written errors.old) (E.written errors.new) result }
-    ensures statuses { (result ≡ ExitStatus.Usage) ⊎ ((result ≡ ExitStatus.SinkFailed) × Rose (E.faults errors.old) (E.faults errors.new)) }
+    ensures statuses { (result ≡ ExitStatus.Usage)
+        ⊎ ((result ≡ ExitStatus.SinkFailed) × Rose (E.faults errors.old) (E.faults errors.new)) }
     ensures later { E.faults errors.old ≤ E.faults errors.new }
 {
     match write_all(errors, USAGE) {
@@ -100,8 +100,10 @@ pub fn serve_batch<S: Source, W: Sink, C: Clock>(
         (record { readings = C.readings clock.old; written = W.written sink.old })
         (record { readings = C.readings clock.new; written = W.written sink.new })
         (S.left source.new) input result) }
-    ensures source { (S.faults source.old ≤ S.faults source.new) × (result ≡ ExitStatus.SourceFailed → Rose (S.faults source.old) (S.faults source.new)) }
-    ensures sink { (W.faults sink.old ≤ W.faults sink.new) × (result ≡ ExitStatus.SinkFailed → Rose (W.faults sink.old) (W.faults sink.new)) }
+    ensures source { (S.faults source.old ≤ S.faults source.new)
+        × (result ≡ ExitStatus.SourceFailed → Rose (S.faults source.old) (S.faults source.new)) }
+    ensures sink { (W.faults sink.old ≤ W.faults sink.new)
+        × (result ≡ ExitStatus.SinkFailed → Rose (W.faults sink.old) (W.faults sink.new)) }
     ensures statuses { result ≢ ExitStatus.Usage }
 {
     let Ok(mut batch) = Batch::new(alloc, timing) else {

@@ -5,11 +5,11 @@ ghost use Rattle.lake_model.specs.State.{fresh_repo, fresh_branch};
 ghost use Rattle.lake_model.specs.Legal.{HasTicket};
 ghost use Rattle.lake_model.specs.Reply.{look_reply, ticket_reply, drop_reply};
 ghost use Rattle.lake_values.specs.declared.entry.Change.TheVariants.{Put};
-ghost use Rattle.lake_program.specs.Text.{refused, uploaded};
+ghost use Rattle.lake_program.specs.Text.{refusal_text, upload_text};
 ghost use Rattle.lake_program.specs.Batch.{entry_of};
 
 use crate::command::Command;
-use crate::text::{lost, no_path, refused, uploaded};
+use crate::text::{lost_text, no_path_text, refusal_text, upload_text};
 use block_store::{Blocks, SureBlocks};
 use lake_base::{Digest, NameFault, NoMemory, Path, RefName, RepoName, Text};
 use lake_core::PlainLake;
@@ -42,9 +42,11 @@ pub struct Session {
 
 impl Session {
     ghost use Rattle.lake_program.specs.Session.{lake_of};
-    ghost use Rattle.lake_program.specs.Seen.{request_seen};
-    ghost use Rattle.lake_program.specs.Reply.{shown};
-    ghost use Rattle.lake_program.specs.Batch.{fresh_lake, now, serve, with_call, without_ticket, with_object, success, entry_reply, upload, upload_end, cat_seen, found, held_of};
+    ghost use Rattle.lake_program.specs.CommandView.{command_view};
+    ghost use Rattle.lake_program.specs.Reply.{effect_of};
+    ghost use Rattle.lake_program.specs.Batch.{fresh_lake, state_of, request_effect, with_call, without_ticket};
+    ghost use Rattle.lake_program.specs.Batch.{with_object, success, entry_reply, upload, upload_end};
+    ghost use Rattle.lake_program.specs.Batch.{cat_effect, entry_effect, body_of};
 
     /// A session on a fresh lake, which holds no object.
     pub fn new(alloc: Global) -> Result<Session, NoMemory>
@@ -64,8 +66,9 @@ impl Session {
     /// may stand, and its number may have been given out.
     pub fn serve(&mut self, command: Command<'_>, moment: u64) -> Result<Reply, NoMemory>
         requires { self.old.calls + 1 < 2 ^ 64 }
-        ensures reply { IfOk result (λ reply. serve (request_seen command.entry) moment (with_call (lake_of self.old))
-            ≡ shown reply (lake_of self.new)) }
+        ensures reply { IfOk result (λ reply.
+            request_effect (command_view command.entry) moment (with_call (lake_of self.old))
+            ≡ effect_of reply (lake_of self.new)) }
         ensures calls { self.new.calls ≡ self.old.calls + 1 }
     {
         self.calls += 1;
@@ -88,8 +91,9 @@ impl Session {
     // Takes a number, holds the text under it and stages its entry. Where that is refused, the number is
     // given up.
     fn upload(&mut self, path: Path, text: &[u8], moment: u64) -> Result<Reply, NoMemory>
-        ensures reply { IfOk result (λ reply. upload path text.now moment (ticket_reply (now (lake_of self.old)) fresh_repo fresh_branch) (lake_of self.old)
-            ≡ shown reply (lake_of self.new)) }
+        ensures reply { IfOk result (λ reply. let lake = lake_of self.old in
+            upload path text.now moment (ticket_reply (state_of lake) fresh_repo fresh_branch) lake
+            ≡ effect_of reply (lake_of self.new)) }
         ensures calls { self.new.calls ≡ self.old.calls }
     {
         let by = self.by();
@@ -115,11 +119,12 @@ impl Session {
         text: &[u8],
         moment: u64,
     ) -> Result<Vec<u8>, StepFault>
-        requires { HasTicket (now (lake_of self.old)) 0 number }
+        requires { HasTicket (state_of (lake_of self.old)) 0 number }
         ensures ok { let held = with_object number text.now (lake_of self.old) in IfOk result (λ printed.
-            upload_end number path text.now moment (entry_reply (now held)) held ≡ success (lake_of self.new) printed.items) }
-        ensures err { let held = with_object number text.now (lake_of self.old) in IfErr result (λ fault. fault ≢ StepFault.NoMemory
-            → (entry_reply (now held) ≡ Err fault) × (lake_of self.new ≡ held)) }
+            upload_end number path text.now moment (entry_reply (state_of held)) held
+            ≡ success (lake_of self.new) printed.items) }
+        ensures err { let held = with_object number text.now (lake_of self.old) in IfErr result (λ fault.
+            fault ≢ StepFault.NoMemory → (entry_reply (state_of held) ≡ Err fault) × (lake_of self.new ≡ held)) }
         ensures ticket { OnErr result (self.new.lake ≡ self.old.lake) }
         ensures calls { self.new.calls ≡ self.old.calls }
     {
@@ -135,8 +140,9 @@ impl Session {
 
     // The upload of the number is given up, where the history has room for that.
     fn give_up(&mut self, number: u64) -> Result<(), NoMemory>
-        requires { HasTicket (now (lake_of self.old)) 0 number }
-        ensures ok { OnOk result (lake_of self.new ≡ without_ticket number (drop_reply (now (lake_of self.old))) (lake_of self.old)) }
+        requires { HasTicket (state_of (lake_of self.old)) 0 number }
+        ensures ok { OnOk result (let lake = lake_of self.old in
+            lake_of self.new ≡ without_ticket number (drop_reply (state_of lake)) lake) }
         ensures calls { self.new.calls ≡ self.old.calls }
     {
         let by = self.by();
@@ -148,8 +154,9 @@ impl Session {
 
     // Shows the object at the path.
     fn cat(&mut self, path: Path) -> Result<Reply, NoMemory>
-        ensures reply { IfOk result (λ reply. cat_seen path (look_reply (now (lake_of self.old)) fresh_repo fresh_branch path) (lake_of self.old)
-            ≡ shown reply (lake_of self.new)) }
+        ensures reply { IfOk result (λ reply. let lake = lake_of self.old in
+            cat_effect path (look_reply (state_of lake) fresh_repo fresh_branch path) lake
+            ≡ effect_of reply (lake_of self.new)) }
         ensures calls { self.new.calls ≡ self.old.calls }
     {
         match self.lake.look(&self.repo, &self.branch, &path) {
@@ -160,17 +167,18 @@ impl Session {
 
     // Shows the object of the entry that was found at the path.
     fn show(&mut self, path: Path, entry: Option<Entry>) -> Result<Reply, NoMemory>
-        ensures reply { IfOk result (λ reply. found path entry (lake_of self.old) ≡ shown reply (lake_of self.new)) }
+        ensures reply { IfOk result (λ reply.
+            entry_effect path entry (lake_of self.old) ≡ effect_of reply (lake_of self.new)) }
         ensures calls { self.new.calls ≡ self.old.calls }
     {
         let Some(entry) = entry else {
-            let text = no_path(self.alloc, &path)?;
+            let text = no_path_text(self.alloc, &path)?;
             return Ok(Reply { text, done: false });
         };
         match self.held(&entry)? {
             Some(text) => Ok(Reply { text, done: true }),
             None => {
-                let text = lost(self.alloc, &path)?;
+                let text = lost_text(self.alloc, &path)?;
                 Ok(Reply { text, done: false })
             }
         }
@@ -178,7 +186,8 @@ impl Session {
 
     // The bytes that are held of an entry.
     fn held(&mut self, entry: &Entry) -> Result<Option<Vec<u8>>, NoMemory>
-        ensures held { IfOk result (λ held. option_map (λ bytes. bytes.items) held ≡ held_of (lake_of self.old).objects entry.now) }
+        ensures held { IfOk result (λ held.
+            option_map (λ bytes. bytes.items) held ≡ body_of (lake_of self.old).objects entry.now) }
         ensures same { OnOk result (lake_of self.new ≡ lake_of self.old) }
         ensures calls { self.new.calls ≡ self.old.calls }
     {
@@ -224,12 +233,13 @@ fn want_of_memory(fault: NameFault) -> NoMemory
 
 // What is printed of a refused step.
 fn refusal(alloc: Global, fault: StepFault) -> Result<Reply, NoMemory>
-    ensures { IfOk result (λ reply. (reply.text.items ≡ refused fault) × (reply.done ≡ false) × (fault ≢ StepFault.NoMemory)) }
+    ensures { IfOk result (λ reply. (reply.text.items ≡ refusal_text fault) × (reply.done ≡ false)
+        × (fault ≢ StepFault.NoMemory)) }
 {
     if fault == StepFault::NoMemory {
         return Err(NoMemory);
     }
-    let text = Vec::from_slice(alloc, refused(fault))?;
+    let text = Vec::from_slice(alloc, refusal_text(fault))?;
     Ok(Reply { text, done: false })
 }
 
@@ -241,7 +251,8 @@ fn made(
     text: &[u8],
     moment: u64,
 ) -> Result<(Change, Vec<u8>), NoMemory>
-    ensures { IfOk result (λ made. (made.0 ≡ Put (entry_of number text.now moment)) × (made.1.items ≡ uploaded path.now (length text.now) (sha256 text.now))) }
+    ensures { IfOk result (λ made. (made.0 ≡ Put (entry_of number text.now moment))
+        × (made.1.items ≡ upload_text path.now (length text.now) (sha256 text.now))) }
 {
     let content_type = Text::of(String::from_str(alloc, CONTENT_TYPE)?);
     let digest = Digest::of(text);
@@ -253,6 +264,6 @@ fn made(
         content_type,
         metadata: Pairs::new(alloc),
     };
-    let printed = uploaded(alloc, path, size, digest)?;
+    let printed = upload_text(alloc, path, size, digest)?;
     Ok((Change::Put(entry), printed))
 }

@@ -1,6 +1,6 @@
 //! What a batch prints.
 ghost use Rattle.std.specs.Prelude.{◌≡◌, ◌++◌, IfOk};
-ghost use Rattle.lake_program.specs.Text.{uploaded, no_path, lost, refused};
+ghost use Rattle.lake_program.specs.Text.{upload_text, no_path_text, lost_text, refusal_text};
 
 use lake_base::{Digest, NoMemory, Path};
 use lake_model::StepFault;
@@ -19,8 +19,13 @@ pub const TOO_LONG: &[u8] = b"Error: batch too long\n";
 pub const USAGE: &[u8] = b"Error: usage\n";
 
 /// What is printed of an upload that was made: its path, its size in bytes and its digest.
-pub fn uploaded(alloc: Global, path: &Path, size: u64, digest: Digest) -> Result<Vec<u8>, NoMemory>
-    ensures { IfOk result (λ printed. printed.items ≡ uploaded path.now size digest.0) }
+pub fn upload_text(
+    alloc: Global,
+    path: &Path,
+    size: u64,
+    digest: Digest,
+) -> Result<Vec<u8>, NoMemory>
+    ensures { IfOk result (λ printed. printed.items ≡ upload_text path.now size digest.0) }
 {
     let mut printed = Vec::new(alloc);
     printed.extend_from_slice(b"Path: ")?;
@@ -47,22 +52,22 @@ fn about_path(alloc: Global, front: &[u8], path: &Path, end: &[u8]) -> Result<Ve
 }
 
 /// What is printed where nothing stands at the path.
-pub fn no_path(alloc: Global, path: &Path) -> Result<Vec<u8>, NoMemory>
-    ensures { IfOk result (λ printed. printed.items ≡ no_path path.now) }
+pub fn no_path_text(alloc: Global, path: &Path) -> Result<Vec<u8>, NoMemory>
+    ensures { IfOk result (λ printed. printed.items ≡ no_path_text path.now) }
 {
     about_path(alloc, b"Error: path not found: ", path, b" [404]\n")
 }
 
 /// What is printed where the bytes of the object at the path aren't held.
-pub fn lost(alloc: Global, path: &Path) -> Result<Vec<u8>, NoMemory>
-    ensures { IfOk result (λ printed. printed.items ≡ lost path.now) }
+pub fn lost_text(alloc: Global, path: &Path) -> Result<Vec<u8>, NoMemory>
+    ensures { IfOk result (λ printed. printed.items ≡ lost_text path.now) }
 {
     about_path(alloc, b"Error: object lost: ", path, b" [500]\n")
 }
 
 /// What is printed where a step was refused.
-pub fn refused(fault: StepFault) -> &'static [u8]
-    ensures { result.now ≡ refused fault }
+pub fn refusal_text(fault: StepFault) -> &'static [u8]
+    ensures { result.now ≡ refusal_text fault }
 {
     match fault {
         StepFault::HistoryFull => b"Error: history full [503]\n",

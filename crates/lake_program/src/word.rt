@@ -30,7 +30,8 @@ fn word_end(bytes: &[u8]) -> usize
 
 /// The first word of a line, and the line behind it. It takes no memory.
 pub fn next_word(line: &[u8]) -> Option<(&[u8], &[u8])>
-    ensures { MatchOption result (words_of line.now ≡ []) (λ found. words_of line.now ≡ found.0.now ∷ words_of found.1.now) }
+    ensures { MatchOption result (words_of line.now ≡ [])
+        (λ parts. words_of line.now ≡ parts.0.now ∷ words_of parts.1.now) }
 {
     let rest = skip_spaces(line);
     if rest.is_empty() {

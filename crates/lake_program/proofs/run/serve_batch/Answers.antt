@@ -1,13 +1,13 @@
 use Rattle.std.proofs.Common.{sym, ◌∙◌, subst}
 use Rattle.lake_program.specs.declared.words.Timing.{Timing}
-use Rattle.lake_program.specs.BatchSeen.{progress_of}
-use Rattle.lake_program.specs.Feeding.{Progress}
+use Rattle.lake_program.specs.BatchView.{progress_of}
+use Rattle.lake_program.specs.Progress.{Progress}
 use Rattle.lake_program.specs.Outcome.{start, Outcome}
 use Rattle.lake_program.specs.Reading.{Ends}
 use Rattle.lake_program.specs.Streams.{Trace}
-use Rattle.lake_program.proofs.OutcomeLaws.{outcome_none}
-use Rattle.lake_program.proofs.ReadingLaws.{told_then, told_all}
-use Rattle.lake_program.proofs.RunLaws.{sink_cause}
+use Rattle.lake_program.proofs.OutcomeLemmas.{outcome_none}
+use Rattle.lake_program.proofs.ReadingLemmas.{told_then, told_all}
+use Rattle.lake_program.proofs.RunLemmas.{sink_cause}
 use Rattle.lake_program.proofs.run.serve_batch.Goals as goal
 
 pub returns-in_default-clause-outcome : goal.returns-in_default-clause-outcome

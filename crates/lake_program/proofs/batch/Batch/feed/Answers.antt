@@ -1,8 +1,8 @@
 use Rattle.std.proofs.Common.{◌∷◌, [], get_or, Ok, Err, refl, ◌∙◌, arith, subst}
-use Rattle.lake_program.specs.BatchSeen.{progress_of}
+use Rattle.lake_program.specs.BatchView.{progress_of}
 use Rattle.lake_program.specs.Feeding.{Feeds}
 use Rattle.lake_program.specs.Streams.{Trace}
-use Rattle.lake_program.proofs.FeedingLaws.{feeds_none, feeds_at, feeds_cut_at}
+use Rattle.lake_program.proofs.FeedingLemmas.{feeds_none, feeds_at, feeds_cut_at}
 use Rattle.lake_program.proofs.batch.Batch.feed.Goals as goal
 
 pub loop-byte-init : goal.loop-byte-init

@@ -1,5 +1,5 @@
 use Rattle.std.proofs.Common.{◌≡◌, ◌≤◌, ◌+◌, take, Ok}
-use Rattle.lake_program.specs.BatchSeen.{progress_of}
+use Rattle.lake_program.specs.BatchView.{progress_of}
 use Rattle.lake_program.specs.Feeding.{Feeds}
 use Rattle.lake_program.proofs.batch.Batch.feed.Given as goal
 

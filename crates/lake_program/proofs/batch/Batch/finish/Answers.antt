@@ -1,12 +1,12 @@
 use Rattle.std.proofs.Common.{◌≡◌, subst}
-use Rattle.lake_program.specs.BatchSeen.{progress_of}
-use Rattle.lake_program.specs.Feeding.{Progress}
+use Rattle.lake_program.specs.BatchView.{progress_of}
+use Rattle.lake_program.specs.Progress.{Progress}
 use Rattle.lake_program.specs.Outcome.{start}
 use Rattle.lake_program.specs.Reading.{Ends}
 use Rattle.lake_program.specs.Status.{end_status}
 use Rattle.lake_program.specs.Streams.{Trace}
 use Rattle.lake_program.specs.declared.batch.End.{End}
-use Rattle.lake_program.proofs.OutcomeLaws.{outcome_source_failed, outcome_sink_failed, outcome_whole, outcome_too_long}
+use Rattle.lake_program.proofs.OutcomeLemmas.{outcome_source_failed, outcome_sink_failed, outcome_whole, outcome_too_long}
 use Rattle.lake_program.proofs.batch.Batch.finish.Goals as goal
 
 pub returns-in-Source-clause-outcome : goal.returns-in-Source-clause-outcome

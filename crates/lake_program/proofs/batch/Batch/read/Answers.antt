@@ -1,8 +1,8 @@
 use Rattle.std.proofs.Common.{◌≤◌, ◌+◌, ◌-◌, Ok, Err, refl, ◌∙◌, arith, subst}
-use Rattle.lake_program.specs.BatchSeen.{progress_of}
+use Rattle.lake_program.specs.BatchView.{progress_of}
 use Rattle.lake_program.specs.Feeding.{Feeds}
 use Rattle.lake_program.specs.Streams.{Trace}
-use Rattle.lake_program.proofs.ReadingLaws.{told_then, reached_start, source_failed, reached_more, too_long, sink_failed}
+use Rattle.lake_program.proofs.ReadingLemmas.{told_then, reached_start, source_failed, reached_more, ends_too_long, sink_failed}
 use Rattle.lake_program.proofs.batch.Batch.read.Goals as goal
 
 pub reading-init : goal.reading-init
@@ -46,7 +46,7 @@ returns-in-Ok-feed-clause-ends g c =
     let t2 : Trace = record { readings = g.C.Clock.readings c.feed.new.clock; written = g.W.Sink.written c.feed.new.sink } in
     let feeds = subst (λ t. Feeds t t1 t2 (progress_of c.reading.self) (progress_of c.feed.new.self) c.split_at.result.0.now (Ok tt)) c.reading.invariant.timing c.in-Ok-feed.ensures.feeds in
     let is = c.split_at.ensures.front in
-    told_then (g.S.Source.left c.args.source.now) _ _ (λ input reached. too_long c.args.self.now.timing t0 t1 t2
+    told_then (g.S.Source.left c.args.source.now) _ _ (λ input reached. ends_too_long c.args.self.now.timing t0 t1 t2
     (progress_of c.args.self.now) (progress_of c.reading.self) (progress_of c.feed.new.self) c.reading.total c.in-Ok.count (g.S.Source.left c.reading.source) (g.S.Source.left c.read.new.self) c.reading.room c.read.new.room input reached c.in-Ok.ensures.reads c.args.limit c.split_at.result.0.now c.reading.invariant.within c.if-count-allowed.true is feeds) c.reading.invariant.reached
 
 pub returns-in-Err-feed-clause-ends : goal.returns-in-Err-feed-clause-ends

@@ -1,12 +1,12 @@
 use Rattle.std.proofs.Common.{◌≡◌, ◌≤◌, ◌<◌, ◌-◌, ◌+◌, IfSome, length}
-use Rattle.lake_program.specs.BatchSeen.{progress_of}
-use Rattle.lake_program.specs.Reading.{Reached}
+use Rattle.lake_program.specs.BatchView.{progress_of}
+use Rattle.lake_program.specs.Reading.{Reaches}
 use Rattle.lake_program.proofs.batch.Batch.read.Given as goal
 
 -- so many bytes were read and fed, within the limit
 abbrev pub invariant-reading : goal.invariant-reading
 invariant-reading g l = record {
-  reached : IfSome (g.S.Source.left l.fn.source) (λ input. Reached l.fn.self.timing
+  reached : IfSome (g.S.Source.left l.fn.source) (λ input. Reaches l.fn.self.timing
       (record { readings = g.C.Clock.readings l.fn.clock; written = g.W.Sink.written l.fn.sink }) (record { readings = g.C.Clock.readings l.clock; written = g.W.Sink.written l.sink })
       (progress_of l.fn.self) (progress_of l.self) input (g.S.Source.left l.source) l.total);
   within : l.total ≤ l.limit;

@@ -2,10 +2,11 @@
 use Rattle.std.proofs.Common.{◌≡◌, inl, inr, ◌&&◌, ℕ, Bool, true, MatchBool, List, [], ◌++◌, Option, Some, None, IfSome, Result, Ok, Err, OnOk, OnErr, refl, sym, ◌∙◌, subst}
 use Rattle.lake_base.specs.declared.outside.Failed.{Failed}
 use Rattle.lake_program.specs.declared.words.Timing.{Timing}
-use Rattle.lake_program.specs.Batch.{Served}
+use Rattle.lake_program.specs.Batch.{BatchEffect}
 use Rattle.lake_program.specs.Front.{IsPrefix}
-use Rattle.lake_program.specs.Text.{out_of_memory}
-use Rattle.lake_program.specs.Feeding.{Progress, Moments, Turns, Serves}
+use Rattle.lake_program.specs.Text.{out_of_memory_text}
+use Rattle.lake_program.specs.Progress.{Progress, AreMoments}
+use Rattle.lake_program.specs.Serving.{Turns, Serves}
 use Rattle.lake_program.specs.Streams.{Trace}
 
 -- what a failed write leaves
@@ -17,7 +18,7 @@ pub front_written : (text : List ℕ) (before after : Option (List ℕ)) → Wro
 front_written text None after wrote = ([], (text, refl), tt)
 front_written text (Some written) after wrote = wrote
 
-module _ (timing : Timing) (t0 t1 : Trace) (old new : Progress) (line moments text : List ℕ) (took : Moments timing t0.readings t1.readings moments) where
+module _ (timing : Timing) (t0 t1 : Trace) (old new : Progress) (line moments text : List ℕ) (took : AreMoments timing t0.readings t1.readings moments) where
   -- a line was answered
   pub serves_reply : (done : Bool) (result : Result (Unit {0}) Failed) → Turns line moments text done old.lake new.lake → new.done ≡ (old.done && done) → new.starved ≡ old.starved
       → OnOk result (IfSome t0.written (λ written. t1.written ≡ Some (written ++ text))) → OnErr result (WroteFront text t0.written t1.written) → Serves timing t0 t1 old new line result
@@ -26,7 +27,7 @@ module _ (timing : Timing) (t0 t1 : Trace) (old new : Progress) (line moments te
     out = text;
     took = took;
     wrote = wrote;
-    went = λ fed. subst (λ b. MatchBool b (text ≡ out_of_memory) ((d : Bool) × (new.done ≡ (old.done && d)) × Turns line moments text d old.lake new.lake)) (sym (starved ∙ fed)) (done, all, turns);
+    went = λ fed. subst (λ b. MatchBool b (text ≡ out_of_memory_text) ((d : Bool) × (new.done ≡ (old.done && d)) × Turns line moments text d old.lake new.lake)) (sym (starved ∙ fed)) (done, all, turns);
     stays = λ was. starved ∙ was;
   }
   serves_reply done (Err failed) turns all starved wrote front =
@@ -36,19 +37,19 @@ module _ (timing : Timing) (t0 t1 : Trace) (old new : Progress) (line moments te
         out = part.0;
         took = took;
         wrote = part.2;
-        went = λ fed. inl (λ later. subst (λ (t : Served). IsPrefix part.0 t.text) (sym (turns later)) part.1);
+        went = λ fed. inl (λ later. subst (λ (t : BatchEffect). IsPrefix part.0 t.text) (sym (turns later)) part.1);
         stays = λ was. tt;
       }
 
   -- memory ran out at a line
-  pub serves_want : (result : Result (Unit {0}) Failed) → text ≡ out_of_memory → new.starved ≡ true
+  pub serves_want : (result : Result (Unit {0}) Failed) → text ≡ out_of_memory_text → new.starved ≡ true
       → OnOk result (IfSome t0.written (λ written. t1.written ≡ Some (written ++ text))) → OnErr result (WroteFront text t0.written t1.written) → Serves timing t0 t1 old new line result
   serves_want (Ok u) is starved wrote front = record {
     moments = moments;
     out = text;
     took = took;
     wrote = wrote;
-    went = λ fed. subst (λ b. MatchBool b (text ≡ out_of_memory) ((d : Bool) × (new.done ≡ (old.done && d)) × Turns line moments text d old.lake new.lake)) (sym starved) is;
+    went = λ fed. subst (λ b. MatchBool b (text ≡ out_of_memory_text) ((d : Bool) × (new.done ≡ (old.done && d)) × Turns line moments text d old.lake new.lake)) (sym starved) is;
     stays = λ was. starved;
   }
   serves_want (Err failed) is starved wrote front =

@@ -5,7 +5,7 @@ use Rattle.std.proofs.lemmas.Bool.Decides.{nat_tests}
 use Rattle.std.proofs.lemmas.List.{take_all, get_or-take}
 use Rattle.std.specs.Str.{is_utf8}
 use Rattle.std.specs.Str.Lines.{strip_carriage_return}
-use Rattle.lake_program.specs.Command.{LineValue, Skipped, NotBuilt, request_of, request_of_words, words_of, line_of_request, line_value}
+use Rattle.lake_program.specs.Command.{Skipped, NotBuilt, request_of, request_of_words, words_of, line_of_request, line_value}
 use Rattle.lake_program.specs.Batch.{Lake, line_effect, turn}
 use Rattle.lake_program.specs.Feeding.{line_room}
 

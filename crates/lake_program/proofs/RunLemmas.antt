@@ -1,5 +1,5 @@
 -- What a run promises, from what its parts do.
-use Rattle.std.proofs.Common.{◌≡◌, ◌≢◌, ◌<◌, ◌≤◌, ◌++◌, ◌⊎◌, inl, inr, ⊎_elim, ℕ, true, List, Option, Some, None, IsNone, is_some, IfSome, refl, sym, ◌∙◌, ap, subst, arith}
+use Rattle.std.proofs.Common.{◌≡◌, ◌≢◌, ◌<◌, ◌≤◌, ◌++◌, ◌⊎◌, ⊎_elim, ℕ, true, List, Option, Some, None, IsNone, is_some, IfSome, refl, sym, ◌∙◌, ap, subst, arith}
 use Rattle.lake_base.specs.Outside.{Rose, Quiet}
 use Rattle.lake_program.specs.declared.words.Timing.{Timing}
 use Rattle.lake_program.specs.declared.batch.End.{End}
@@ -10,8 +10,8 @@ use Rattle.lake_program.specs.Words.{timing_of}
 use Rattle.lake_program.specs.Outcome.{Outcome}
 use Rattle.lake_program.specs.Status.{IsThrough, ShowsUsage}
 use Rattle.lake_program.specs.Streams.{Streams, trace_of}
-use Rattle.lake_program.specs.Run.{AreQuiet, IsBatchRun, Run}
-use Rattle.lake_program.proofs.ReadingLaws.{told_then}
+use Rattle.lake_program.specs.Run.{IsBatchRun, Run}
+use Rattle.lake_program.proofs.ReadingLemmas.{told_then}
 
 pub sink_cause : (end : End) (a b c : ℕ) (status : ExitStatus) → (a ≤ b) × (end ≡ SinkFailed → Rose a b) → (b ≤ c) × (status ≡ exit.SinkFailed → end ≢ SinkFailed → Rose b c)
     → (a ≤ c) × (status ≡ exit.SinkFailed → Rose a c)

@@ -6,14 +6,14 @@ use Rattle.lake_program.specs.declared.command.Line.{Line}
 use Rattle.lake_program.specs.declared.command.Line.TheVariants as line
 use Rattle.lake_program.specs.Command.{Request, Upload, Cat, LineValue, Skipped, NotBuilt, Asks}
 
-abbrev pub request_seen : Command → Request
-request_seen (read.Upload path text) = Upload path text.now
-request_seen (read.Cat path) = Cat path
+abbrev pub command_view : Command → Request
+command_view (read.Upload path text) = Upload path text.now
+command_view (read.Cat path) = Cat path
 
-abbrev pub requests_seen : Option Command → Option Request
-requests_seen command = option_map request_seen command
+abbrev pub command_views : Option Command → Option Request
+command_views command = option_map command_view command
 
-abbrev pub line_seen : Line → LineValue
-line_seen line.Skipped = Skipped
-line_seen line.NotBuilt = NotBuilt
-line_seen (line.Request command) = Asks (request_seen command)
+abbrev pub line_view : Line → LineValue
+line_view line.Skipped = Skipped
+line_view line.NotBuilt = NotBuilt
+line_view (line.Request command) = Asks (command_view command)

@@ -7,16 +7,17 @@ use Rattle.lake_base.specs.declared.outside.Failed.{Failed}
 use Rattle.lake_program.specs.declared.words.Timing.{Timing}
 use Rattle.lake_program.specs.declared.batch.End.TheVariants.{SourceFailed}
 use Rattle.lake_program.specs.Front.{IsPrefix}
-use Rattle.lake_program.specs.Feeding.{Progress, Feeds}
-use Rattle.lake_program.specs.Reading.{Reached, Part, Ends}
+use Rattle.lake_program.specs.Progress.{Progress}
+use Rattle.lake_program.specs.Feeding.{Feeds}
+use Rattle.lake_program.specs.Reading.{Reaches, FeedsPart, Ends}
 use Rattle.lake_program.specs.Streams.{Trace}
-use Rattle.lake_program.proofs.FeedingLaws.{feeds_none, feeds_then}
+use Rattle.lake_program.proofs.FeedingLemmas.{feeds_none, feeds_then}
 
 pub told_then : (told : Option (List ℕ)) (P Q : List ℕ → Type 0) → ((bytes : List ℕ) → P bytes → Q bytes) → IfSome told P → IfSome told Q
 told_then None P Q f p = tt
 told_then (Some bytes) P Q f p = f bytes p
 
-pub reached_start : (timing : Timing) (trace : Trace) (source : Option (List ℕ)) (now : Progress) → IfSome source (λ input. Reached timing trace trace now now input source 0)
+pub reached_start : (timing : Timing) (trace : Trace) (source : Option (List ℕ)) (now : Progress) → IfSome source (λ input. Reaches timing trace trace now now input source 0)
 reached_start timing trace None now = tt
 reached_start timing trace (Some input) now = record { fed = []; left = input; rest = refl; whole = refl; count = refl; feeds = feeds_none timing trace now }
 
@@ -27,12 +28,12 @@ front_within limit fed left input whole within =
     (take (limit - length fed) left, sym (take-append-add fed left (limit - length fed)) ∙ ap (λ n. take n (fed ++ left)) count ∙ ap (take limit) whole)
 
 pub source_failed : (timing : Timing) (t0 t1 : Trace) (old new : Progress) (limit total : ℕ) (before after : Option (List ℕ)) (input : List ℕ)
-    → total ≤ limit → after ≡ before → Reached timing t0 t1 old new input before total → Ends timing t0 t1 old new limit input after SourceFailed
+    → total ≤ limit → after ≡ before → Reaches timing t0 t1 old new input before total → Ends timing t0 t1 old new limit input after SourceFailed
 source_failed timing t0 t1 old new limit total before after input within same reached =
-    (total, within, subst (λ (o : Option (List ℕ)). Reached timing t0 t1 old new input o total) (sym same) reached)
+    (total, within, subst (λ (o : Option (List ℕ)). Reaches timing t0 t1 old new input o total) (sym same) reached)
 
 module _ (timing : Timing) (t0 t1 t2 : Trace) (old mid new : Progress) (total n : ℕ) (before after : Option (List ℕ)) (room_before room : List ℕ) (input : List ℕ)
-    (reached : Reached timing t0 t1 old mid input before total) (reads : IfSome before (λ bytes. Reads bytes after room_before room n)) where
+    (reached : Reaches timing t0 t1 old mid input before total) (reads : IfSome before (λ bytes. Reads bytes after room_before room n)) where
   read_left : Reads reached.left after room_before room n
   read_left = subst (λ (o : Option (List ℕ)). IfSome o (λ bytes. Reads bytes after room_before room n)) reached.rest reads
 
@@ -47,7 +48,7 @@ module _ (timing : Timing) (t0 t1 t2 : Trace) (old mid new : Progress) (total n 
       feeds_then timing t0 t1 t2 old mid new reached.fed (take k reached.left) result reached.feeds
       (subst (λ (l : List ℕ). Feeds timing t1 t2 mid new l result) (is ∙ fed_more k within) feeds)
 
-  pub reached_more : (chunk : List ℕ) → chunk ≡ take n room → Feeds timing t1 t2 mid new chunk (Ok tt) → Reached timing t0 t2 old new input after (total + n)
+  pub reached_more : (chunk : List ℕ) → chunk ≡ take n room → Feeds timing t1 t2 mid new chunk (Ok tt) → Reaches timing t0 t2 old new input after (total + n)
   reached_more chunk is feeds =
       let enough = read_left.enough in
       record {
@@ -65,9 +66,9 @@ module _ (timing : Timing) (t0 t1 t2 : Trace) (old mid new : Progress) (total n 
       sym (take-append-add reached.fed reached.left (limit - total)) ∙ ap (λ k. take k (reached.fed ++ reached.left)) count ∙ ap (take limit) reached.whole
 
   -- the source gave more than the limit
-  pub too_long : (limit : ℕ) (chunk : List ℕ) → total ≤ limit → limit - total < n → chunk ≡ take (limit - total) room → Feeds timing t1 t2 mid new chunk (Ok tt)
+  pub ends_too_long : (limit : ℕ) (chunk : List ℕ) → total ≤ limit → limit - total < n → chunk ≡ take (limit - total) room → Feeds timing t1 t2 mid new chunk (Ok tt)
       → (limit < length input) × Feeds timing t0 t2 old new (take limit input) (Ok tt)
-  too_long limit chunk within more is feeds =
+  ends_too_long limit chunk within more is feeds =
       let enough = read_left.enough in
       let long : length reached.fed + length reached.left ≡ length input = sym (length-append reached.fed reached.left) ∙ ap length reached.whole in (
         omega (arith, reached.count, long, enough),
@@ -75,7 +76,7 @@ module _ (timing : Timing) (t0 t1 t2 : Trace) (old mid new : Progress) (total n 
       )
 
   -- the sink failed at a piece
-  pub sink_failed : (limit k : ℕ) (chunk : List ℕ) (failed : Failed) → k ≤ n → total + k ≤ limit → chunk ≡ take k room → Feeds timing t1 t2 mid new chunk (Err failed) → (f : Failed) × Part timing t0 t2 old new limit input (Err f)
+  pub sink_failed : (limit k : ℕ) (chunk : List ℕ) (failed : Failed) → k ≤ n → total + k ≤ limit → chunk ≡ take k room → Feeds timing t1 t2 mid new chunk (Err failed) → (f : Failed) × FeedsPart timing t0 t2 old new limit input (Err f)
   sink_failed limit k chunk failed part within is feeds = (
     failed,
     record {

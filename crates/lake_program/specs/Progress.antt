@@ -1,0 +1,19 @@
+-- What a batch has come to.
+use Rattle.std.specs.Prelude.{◌≡◌, ℕ, Bool, List, ◌++◌, Option, IsSome, IfSome}
+use Rattle.std.specs.List.{AllByRecursion}
+use Rattle.lake_program.specs.declared.words.Timing.{Timing}
+use Rattle.lake_program.specs.declared.words.Timing.TheVariants.{Clock, At}
+use Rattle.lake_program.specs.Batch.{Lake}
+
+-- its lake, whether each line was done, whether memory ran out, and the line under way
+pub record Progress : Type 0 where
+  pub lake : Lake
+  pub done : Bool
+  pub starved : Bool
+  pub line : List ℕ
+
+-- these are the moments at which requests were made: the clock's readings, or the one that was given
+abbrev pub AreMoments : Timing → Option (List ℕ) → Option (List ℕ) → List ℕ → Type 0
+AreMoments Clock earlier later moments =
+    (IsSome later → IsSome earlier) × IfSome later (λ all. IfSome earlier (λ some. all ≡ some ++ moments))
+AreMoments (At moment) earlier later moments = (later ≡ earlier) × AllByRecursion (λ m. m ≡ moment) moments
