@@ -10,13 +10,11 @@ use std::fs;
 use std::process::Abort;
 use std::test::Fail;
 
-const DEMO: &[u8] =
+static DEMO: &[u8] =
     b"fs upload lakefs://quickstart/main/a --text hello\nfs cat lakefs://quickstart/main/a\n";
 
-const DEMO_PRINTS: &[u8] =
+static DEMO_PRINTS: &[u8] =
     b"Path: a\nSize: 5\nChecksum: 2cf24dba5fb0a30e26e83b2ac5b9e29e1b161e5c1fa7425e73043362938b9824\nhello";
-
-const NOT_BUILT: &[u8] = b"Error: not built yet\n";
 
 // What a run came to.
 #[derive(Debug, Drop)]
@@ -26,32 +24,58 @@ struct Came {
     errors: Vec<u8>,
 }
 
-// Runs the program on these words over an input that comes in pieces, of which these reads fail, and these writes of each sink.
+// The words as texts.
+fn texts_of(alloc: Global, words: &[&str]) -> Result<Vec<Text>, Fail> {
+    let mut texts = Vec::new(alloc);
+    for word in words {
+        texts.push(Text::of(String::from_str(alloc, word)?))?;
+    }
+    Ok(texts)
+}
+
+// A source of these bytes in pieces, of which this read fails, counted from 1.
+fn source_of(alloc: Global, input: &[u8], piece: usize, read: u64) -> Result<MemorySource, Fail> {
+    let bytes = Vec::from_slice(alloc, input)?;
+    let fails = Vec::from_slice(alloc, &[read])?;
+    Ok(MemorySource::new(bytes, piece.max(1), fails))
+}
+
+// A sink that takes pieces, of which this write fails, counted from 1.
+fn sink_of(alloc: Global, piece: usize, write: u64) -> Result<MemorySink, Fail> {
+    let fails = Vec::from_slice(alloc, &[write])?;
+    Ok(MemorySink::new(alloc, piece.max(1), fails))
+}
+
+// What the sinks got.
+fn came_of(
+    alloc: Global,
+    status: u8,
+    sink: &MemorySink,
+    errors: &MemorySink,
+) -> Result<Came, Fail> {
+    let out = Vec::from_slice(alloc, sink.written())?;
+    let errors = Vec::from_slice(alloc, errors.written())?;
+    Ok(Came {
+        status,
+        out,
+        errors,
+    })
+}
+
+// Runs the program on these words over an input that comes in pieces, of which this read fails, and this
+// write of each sink. They are counted from 1, so that 0 is none.
 fn run_failing(
     alloc: Global,
     words: &[&str],
     input: &[u8],
     piece: usize,
-    reads: &[u64],
-    writes: &[u64],
-) -> Result<Came, Fail>
-    requires { 0 < piece }
-{
-    let mut texts = Vec::new(alloc);
-    for word in words {
-        let Ok(text) = Text::read(alloc, word.as_bytes(), 100) else {
-            return Err(Fail::from("a word"));
-        };
-        texts.push(text)?;
-    }
-    let mut source = MemorySource::new(
-        Vec::from_slice(alloc, input)?,
-        piece,
-        Vec::from_slice(alloc, reads)?,
-    );
-    let mut sink = MemorySink::new(alloc, piece, Vec::from_slice(alloc, writes)?);
-    let mut errors = MemorySink::new(alloc, piece, Vec::from_slice(alloc, writes)?);
-    let mut clock = ScriptClock::new(Vec::new(alloc));
+    read: u64,
+    write: u64,
+) -> Result<Came, Fail> {
+    let texts = texts_of(alloc, words)?;
+    let mut source = source_of(alloc, input, piece, read)?;
+    let mut sink = sink_of(alloc, piece, write)?;
+    let mut errors = sink_of(alloc, piece, write)?;
     let status = run(
         &(),
         alloc,
@@ -59,242 +83,286 @@ fn run_failing(
         &mut source,
         &mut sink,
         &mut errors,
-        &mut clock,
+        &mut ScriptClock::new(Vec::new(alloc)),
         &mut NoHost,
     );
-    Ok(Came {
-        status,
-        out: Vec::from_slice(alloc, sink.written())?,
-        errors: Vec::from_slice(alloc, errors.written())?,
-    })
+    came_of(alloc, status, &sink, &errors)
 }
+
+static AT_ZERO: [&str; 3] = ["batch", "--at", "0"];
 
 // Runs a batch at moment 0.
 fn run_batch(alloc: Global, input: &[u8]) -> Result<Came, Fail> {
-    run_failing(alloc, &["batch", "--at", "0"], input, 4_096, &[], &[])
+    run_failing(alloc, &AT_ZERO, input, 4_096, 0, 0)
 }
+
+// What some input prints, and the status.
+static LINES: [(&[u8], &[u8], u8); 14] = [
+    (
+        b"fs upload lakefs://quickstart/main/a --text hello\nfs cat lakefs://quickstart/main/a\n",
+        b"Path: a\nSize: 5\nChecksum: 2cf24dba5fb0a30e26e83b2ac5b9e29e1b161e5c1fa7425e73043362938b9824\nhello",
+        0,
+    ),
+    (
+        b"fs cat lakefs://quickstart/main/b\n",
+        b"Error: path not found: b [404]\n",
+        1,
+    ),
+    (
+        b"fs ls lakefs://quickstart/main/\n",
+        b"Error: not built yet\n",
+        1,
+    ),
+    (b"", b"", 0),
+    (b"\n# fs ls\n\r\n", b"", 0),
+    (b"# \xff\n", b"", 0),
+    (b"\xff\n", b"Error: not built yet\n", 1),
+    (b"  \n", b"Error: not built yet\n", 1),
+    (
+        b"  fs   cat  lakefs://quickstart/main/b \r\n",
+        b"Error: path not found: b [404]\n",
+        1,
+    ),
+    (
+        b"fs cat lakefs://quickstart/main/b\r",
+        b"Error: path not found: b\r [404]\n",
+        1,
+    ),
+    (
+        b"fs cat lakefs://quickstart/main/b",
+        b"Error: path not found: b [404]\n",
+        1,
+    ),
+    (
+        b"fs cat lakefs://quickstart/main/\n",
+        b"Error: not built yet\n",
+        1,
+    ),
+    (
+        b"fs upload lakefs://quickstart/main/a --text a\"b\n",
+        b"Error: not built yet\n",
+        1,
+    ),
+    (
+        b"fs upload lakefs://quickstart/main/a --text\n",
+        b"Error: not built yet\n",
+        1,
+    ),
+];
 
 #[test]
 fn lines_show_what_they_ask_for(rt: HostRuntime) -> Result<(), Fail> {
-    let table: [(&[u8], &[u8], u8); 14] = [
-        (DEMO, DEMO_PRINTS, 0),
-        (
-            b"fs cat lakefs://quickstart/main/b\n",
-            b"Error: path not found: b [404]\n",
-            1,
-        ),
-        (b"fs ls lakefs://quickstart/main/\n", NOT_BUILT, 1),
-        (b"", b"", 0),
-        (b"\n# fs ls\n\r\n", b"", 0),
-        (b"# \xff\n", b"", 0),
-        (b"\xff\n", NOT_BUILT, 1),
-        (b"  \n", NOT_BUILT, 1),
-        (
-            b"  fs   cat  lakefs://quickstart/main/b \r\n",
-            b"Error: path not found: b [404]\n",
-            1,
-        ),
-        (
-            b"fs cat lakefs://quickstart/main/b\r",
-            b"Error: path not found: b\r [404]\n",
-            1,
-        ),
-        (
-            b"fs cat lakefs://quickstart/main/b",
-            b"Error: path not found: b [404]\n",
-            1,
-        ),
-        (b"fs cat lakefs://quickstart/main/\n", NOT_BUILT, 1),
-        (
-            b"fs upload lakefs://quickstart/main/a --text a\"b\n",
-            NOT_BUILT,
-            1,
-        ),
-        (
-            b"fs upload lakefs://quickstart/main/a --text\n",
-            NOT_BUILT,
-            1,
-        ),
-    ];
-    for (input, out, status) in table {
-        let found = run_batch(rt.alloc(), input)?;
-        assert_eq!(rt; found.out.as_slice(), out, "of {input:?}");
-        assert_eq!(rt; found.status, status, "of {input:?}");
-        assert_eq!(rt; found.errors.len(), 0, "of {input:?}");
+    for (input, out, status) in &LINES {
+        let came = run_batch(rt.alloc(), input)?;
+        assert_eq!(rt; came.out.as_slice(), *out);
+        assert_eq!(rt; came.status, *status);
+        assert_eq!(rt; came.errors.len(), 0);
     }
     Ok(())
 }
+
+static UPLOADS: &[u8] = b"fs upload lakefs://quickstart/main/a --text hello\n\
+fs upload lakefs://quickstart/main/b --text -x\n\
+fs upload lakefs://quickstart/main/a --text hello-world\n\
+fs cat lakefs://quickstart/main/a\n\
+fs cat lakefs://quickstart/main/b";
+
+static LAST_BODIES: &[u8] = b"\nhello-world-x";
 
 #[test]
 fn a_path_shows_what_was_uploaded_last(rt: HostRuntime) -> Result<(), Fail> {
-    let input =
-        b"fs upload lakefs://quickstart/main/a --text hello\nfs upload lakefs://quickstart/main/b --text -x\nfs upload lakefs://quickstart/main/a --text hello-world\nfs cat lakefs://quickstart/main/a\nfs cat lakefs://quickstart/main/b";
-    let found = run_batch(rt.alloc(), input)?;
-    assert_eq!(rt; found.status, 0);
-    assert!(rt; found.out.as_slice().ends_with(b"\nhello-world-x"));
+    let came = run_batch(rt.alloc(), UPLOADS)?;
+    assert_eq!(rt; came.status, 0);
+    assert!(rt; came.out.as_slice().ends_with(LAST_BODIES));
     Ok(())
 }
 
+static PIECES: [usize; 3] = [1, 7, 4_096];
+
+static BATCH: [&str; 1] = ["batch"];
+
 #[test]
 fn pieces_of_any_size_print_the_same(rt: HostRuntime) -> Result<(), Fail> {
-    for piece in [1, 7, 4_096] {
-        if piece > 0 {
-            let found = run_failing(rt.alloc(), &["batch"], DEMO, piece, &[], &[])?;
-            assert_eq!(rt; found.out.as_slice(), DEMO_PRINTS, "in pieces of {piece}");
-            assert_eq!(rt; found.status, 0, "in pieces of {piece}");
-        }
+    for piece in &PIECES {
+        let came = run_failing(rt.alloc(), &BATCH, DEMO, *piece, 0, 0)?;
+        assert_eq!(rt; came.out.as_slice(), DEMO_PRINTS);
+        assert_eq!(rt; came.status, 0);
     }
+    Ok(())
+}
+
+// Where a read or a write failed, a front was printed, and the status is its own; where none was reached, all was.
+fn check_prefix(
+    rt: &impl Abort,
+    alloc: Global,
+    piece: usize,
+    read: u64,
+    write: u64,
+    failed: u8,
+) -> Result<(), Fail> {
+    let came = run_failing(alloc, &BATCH, DEMO, piece, read, write)?;
+    assert!(rt; DEMO_PRINTS.starts_with(came.out.as_slice()));
+    assert!(rt; came.status == failed || came.out.len() == DEMO_PRINTS.len());
+    assert!(rt; came.status == failed || came.status == 0);
     Ok(())
 }
 
 #[test]
 fn failing_streams_leave_a_prefix(rt: HostRuntime) -> Result<(), Fail> {
-    for piece in [1, 7, 4_096] {
+    for piece in &PIECES {
         for k in 1..110u64 {
-            if piece > 0 {
-                let read = run_failing(rt.alloc(), &["batch"], DEMO, piece, &[k], &[])?;
-                let written = run_failing(rt.alloc(), &["batch"], DEMO, piece, &[], &[k])?;
-                assert!(rt;
-                    DEMO_PRINTS.starts_with(read.out.as_slice()),
-                    "read {k} of {piece}"
-                );
-                assert!(rt;
-                    DEMO_PRINTS.starts_with(written.out.as_slice()),
-                    "write {k} of {piece}"
-                );
-                assert!(rt;
-                    read.status == 3 || read.out.as_slice() == DEMO_PRINTS,
-                    "read {k} of {piece}"
-                );
-                assert!(rt;
-                    written.status == 4 || written.out.as_slice() == DEMO_PRINTS,
-                    "write {k} of {piece}"
-                );
-                assert!(rt; read.status == 3 || read.status == 0, "read {k} of {piece}");
-                assert!(rt;
-                    written.status == 4 || written.status == 0,
-                    "write {k} of {piece}"
-                );
-            }
+            check_prefix(&rt, rt.alloc(), *piece, k, 0, 3)?;
+            check_prefix(&rt, rt.alloc(), *piece, 0, k, 4)?;
         }
     }
-    let first = run_failing(rt.alloc(), &["batch"], DEMO, 7, &[1], &[])?;
-    assert_eq!(rt; first.status, 3);
-    let first = run_failing(rt.alloc(), &["batch"], DEMO, 7, &[], &[1])?;
-    assert_eq!(rt; first.status, 4);
     Ok(())
 }
 
 #[test]
-fn other_words_are_a_usage_fault(rt: HostRuntime) -> Result<(), Fail> {
-    let table: [&[&str]; 9] = [
-        &[],
-        &["lakefs"],
-        &["batch", "--at"],
-        &["batch", "--at", ""],
-        &["batch", "--at", "+1"],
-        &["batch", "--at", "-1"],
-        &["batch", "--at", "12345678901234567890"],
-        &["batch", "--at", "1", "x"],
-        &["--help"],
-    ];
-    for words in table {
-        let found = run_failing(rt.alloc(), words, DEMO, 4_096, &[], &[])?;
-        assert_eq!(rt; found.status, 2, "of {words:?}");
-        assert_eq!(rt;
-            found.errors.as_slice(),
-            b"Error: usage\n".as_slice(),
-            "of {words:?}"
-        );
-        assert_eq!(rt; found.out.len(), 0, "of {words:?}");
-    }
-    let most = run_failing(
-        rt.alloc(),
-        &["batch", "--at", "9999999999999999999"],
-        DEMO,
-        4_096,
-        &[],
-        &[],
-    )?;
-    assert_eq!(rt; most.status, 0);
-    let cut = run_failing(rt.alloc(), &["--help"], DEMO, 7, &[], &[2])?;
-    assert_eq!(rt; cut.status, 4);
-    assert_eq!(rt; cut.errors.as_slice(), b"Error: ".as_slice());
+fn the_first_failure_has_its_status(rt: HostRuntime) -> Result<(), Fail> {
+    let read = run_failing(rt.alloc(), &BATCH, DEMO, 7, 1, 0)?;
+    assert_eq!(rt; read.status, 3);
+    let written = run_failing(rt.alloc(), &BATCH, DEMO, 7, 0, 1)?;
+    assert_eq!(rt; written.status, 4);
     Ok(())
 }
 
-// A line of this length that asks for nothing that is built.
-fn long_line(alloc: Global, length: usize, end: &[u8]) -> Result<Vec<u8>, Fail> {
-    let mut line = vec![in alloc; b'x'; length]?;
+static OTHER_WORDS: [&[&str]; 9] = [
+    &[],
+    &["lakefs"],
+    &["batch", "--at"],
+    &["batch", "--at", ""],
+    &["batch", "--at", "+1"],
+    &["batch", "--at", "-1"],
+    &["batch", "--at", "12345678901234567890"],
+    &["batch", "--at", "1", "x"],
+    &["--help"],
+];
+
+static USAGE: &[u8] = b"Error: usage\n";
+
+#[test]
+fn other_words_are_a_usage_fault(rt: HostRuntime) -> Result<(), Fail> {
+    for words in &OTHER_WORDS {
+        let came = run_failing(rt.alloc(), words, DEMO, 4_096, 0, 0)?;
+        assert_eq!(rt; came.status, 2, "of {words:?}");
+        assert_eq!(rt; came.errors.as_slice(), USAGE);
+        assert_eq!(rt; came.out.len(), 0);
+    }
+    Ok(())
+}
+
+static LATEST: [&str; 3] = ["batch", "--at", "9999999999999999999"];
+
+static HELP: [&str; 1] = ["--help"];
+
+static USAGE_FRONT: &[u8] = b"Error: ";
+
+#[test]
+fn words_at_their_edges(rt: HostRuntime) -> Result<(), Fail> {
+    let most = run_failing(rt.alloc(), &LATEST, DEMO, 4_096, 0, 0)?;
+    assert_eq!(rt; most.status, 0);
+    let cut = run_failing(rt.alloc(), &HELP, DEMO, 7, 0, 2)?;
+    assert_eq!(rt; cut.status, 4);
+    assert_eq!(rt; cut.errors.as_slice(), USAGE_FRONT);
+    Ok(())
+}
+
+// A text, so many bytes after it, and another text.
+fn padded(
+    alloc: Global,
+    front: &[u8],
+    fill: u8,
+    count: usize,
+    end: &[u8],
+) -> Result<Vec<u8>, Fail> {
+    let mut line = Vec::from_slice(alloc, front)?;
+    let filling = vec![in alloc; fill; count]?;
+    line.extend_from_slice(filling.as_slice())?;
     line.extend_from_slice(end)?;
     Ok(line)
 }
 
+static CAT: &[u8] = b"fs cat lakefs://quickstart/main/b";
+
+static NEXT_CAT: &[u8] = b"\r\nfs cat lakefs://quickstart/main/c\n";
+
+static NO_PATH: &[u8] = b"Error: path not found: b [404]\n";
+
+static NEXT_NO_PATH: &[u8] = b"Error: path not found: c [404]\n";
+
+static NOT_BUILT: &[u8] = b"Error: not built yet\n";
+
+// A line of 33 bytes and so many spaces prints this, and the next line is served.
+fn check_long_line(
+    rt: &impl Abort,
+    alloc: Global,
+    spaces: usize,
+    prints: &[u8],
+) -> Result<(), Fail> {
+    let line = padded(alloc, CAT, b' ', spaces, NEXT_CAT)?;
+    let came = run_batch(alloc, line.as_slice())?;
+    assert!(rt;
+        came.out.as_slice().starts_with(prints),
+        "after {spaces} spaces"
+    );
+    assert!(rt;
+        came.out.as_slice().ends_with(NEXT_NO_PATH),
+        "after {spaces} spaces"
+    );
+    Ok(())
+}
+
 #[test]
-fn a_long_line_is_refused_and_passed_over(rt: HostRuntime) -> Result<(), Fail> {
-    let front = b"fs cat lakefs://quickstart/main/b";
-    for (more, refused) in [(0usize, false), (1, true), (70_000, true)] {
-        let mut line = Vec::from_slice(rt.alloc(), front)?;
-        line.extend_from_slice(vec![in rt.alloc(); b' '; 65_536]?.as_slice())?;
-        line.truncate(65_536);
-        line.extend_from_slice(vec![in rt.alloc(); b' '; more]?.as_slice())?;
-        line.extend_from_slice(b"\r\nfs cat lakefs://quickstart/main/c\n")?;
-        let found = run_batch(rt.alloc(), line.as_slice())?;
-        let first: &[u8] = if refused {
-            NOT_BUILT
-        } else {
-            b"Error: path not found: b [404]\n"
-        };
-        assert!(rt;
-            found.out.as_slice().starts_with(first),
-            "{more} above the limit"
-        );
-        assert!(rt;
-            found
-                .out
-                .as_slice()
-                .ends_with(b"Error: path not found: c [404]\n"),
-            "{more} above the limit"
-        );
-    }
-    let comment = long_line(rt.alloc(), 70_000, b"")?;
-    let mut line = Vec::from_slice(rt.alloc(), b"#")?;
-    line.extend_from_slice(comment.as_slice())?;
-    let found = run_batch(rt.alloc(), line.as_slice())?;
-    assert_eq!(rt; found.out.len(), 0);
-    assert_eq!(rt; found.status, 0);
+fn a_long_line_is_refused(rt: HostRuntime) -> Result<(), Fail> {
+    check_long_line(&rt, rt.alloc(), 65_503, NO_PATH)?;
+    check_long_line(&rt, rt.alloc(), 65_504, NOT_BUILT)?;
+    check_long_line(&rt, rt.alloc(), 135_503, NOT_BUILT)
+}
+
+#[test]
+fn a_long_comment_is_passed_over(rt: HostRuntime) -> Result<(), Fail> {
+    let line = padded(rt.alloc(), b"#", b'x', 70_000, b"")?;
+    let came = run_batch(rt.alloc(), line.as_slice())?;
+    assert_eq!(rt; came.out.len(), 0);
+    assert_eq!(rt; came.status, 0);
+    Ok(())
+}
+
+static CUT: &[u8] =
+    b"Path: a\nSize: 5\nChecksum: 2cf24dba5fb0a30e26e83b2ac5b9e29e1b161e5c1fa7425e73043362938b9824\n\
+Error: batch too long\n";
+
+// Under this limit the demonstration prints this and has this status.
+fn check_limit(
+    rt: &impl Abort,
+    alloc: Global,
+    limit: u64,
+    status: u8,
+    prints: &[u8],
+) -> Result<(), Fail>
+    requires { limit < 100 }
+{
+    let mut source = source_of(alloc, DEMO, 7, 0)?;
+    let mut sink = sink_of(alloc, 7, 0)?;
+    let mut clock = FixedClock::new(0);
+    let found = serve_batch(
+        alloc,
+        limit,
+        Timing::Clock,
+        &mut source,
+        &mut sink,
+        &mut clock,
+    );
+    assert_eq!(rt; found.number(), status, "at {limit}");
+    assert_eq!(rt; sink.written(), prints, "at {limit}");
     Ok(())
 }
 
 #[test]
 fn a_batch_above_its_limit_serves_the_lines_that_ended(rt: HostRuntime) -> Result<(), Fail> {
-    for (limit, out, status) in [(84u64, DEMO_PRINTS, 0u8), (83, b"cut".as_slice(), 1)] {
-        let mut source = MemorySource::new(
-            Vec::from_slice(rt.alloc(), DEMO)?,
-            7,
-            Vec::new(rt.alloc()),
-        );
-        let mut sink = MemorySink::new(rt.alloc(), 7, Vec::new(rt.alloc()));
-        let mut clock = FixedClock::new(0);
-        let found = serve_batch(
-            rt.alloc(),
-            limit,
-            Timing::Clock,
-            &mut source,
-            &mut sink,
-            &mut clock,
-        );
-        assert_eq!(rt; found.number(), status, "at {limit}");
-        if status == 0 {
-            assert_eq!(rt; sink.written(), out, "at {limit}");
-        } else {
-            assert!(rt;
-                sink.written().ends_with(b"\nError: batch too long\n"),
-                "at {limit}"
-            );
-        }
-    }
-    Ok(())
+    check_limit(&rt, rt.alloc(), 84, 0, DEMO_PRINTS)?;
+    check_limit(&rt, rt.alloc(), 83, 1, CUT)
 }
 
 #[test]
