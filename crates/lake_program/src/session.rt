@@ -11,7 +11,7 @@ ghost use Rattle.lake_program.specs.Batch.{entry_of};
 use crate::command::Command;
 use crate::text::{lost_text, no_path_text, refusal_text, upload_text};
 use block_store::{Blocks, SureBlocks};
-use lake_base::{Digest, NameFault, NoMemory, Path, RefName, RepoName, Text};
+use lake_base::{Digest, NameFault, NoMemory, Path, RefName, RepoName, Text, Trouble};
 use lake_core::PlainLake;
 use lake_model::{By, FIRST_BRANCH, FIRST_REPO, StepFault};
 use lake_values::{Change, Entry, Pairs, Place};
@@ -128,8 +128,9 @@ impl Session {
         ensures ticket { OnErr result (self.new.lake ≡ self.old.lake) }
         ensures calls { self.new.calls ≡ self.old.calls }
     {
-        if self.blocks.put(number, text).is_err() {
-            return Err(StepFault::NoMemory);
+        match self.blocks.put(number, text) {
+            Ok(()) => {}
+            Err(trouble) => return Err(StepFault::from(want_of_room(trouble))),
         }
         let versions = self.lake.versions(&self.repo, &self.branch)?;
         let (change, printed) = made(self.alloc, number, &path, text, moment)?;
@@ -194,7 +195,7 @@ impl Session {
         match entry.place {
             Place::Own { number, .. } => match self.blocks.get(number) {
                 Ok(bytes) => Ok(bytes),
-                Err(_) => Err(NoMemory),
+                Err(trouble) => Err(want_of_room(trouble)),
             },
             Place::External { .. } => Ok(None),
         }
@@ -228,6 +229,16 @@ fn want_of_memory(fault: NameFault) -> NoMemory
     match fault {
         NameFault::NoMemory => NoMemory,
         _ => unreachable!(),
+    }
+}
+
+// A store in memory never fails, so that it refuses for memory alone.
+fn want_of_room(trouble: Trouble) -> NoMemory
+    requires { trouble ≡ Trouble.NoMemory }
+{
+    match trouble {
+        Trouble::NoMemory => NoMemory,
+        Trouble::Failed => unreachable!(),
     }
 }
 
