@@ -90,7 +90,7 @@ all_served given m out new comes =
       | true ↦ λ s. inr (record {
         front = s.front;
         so_far = subst (λ (t : BatchEffect). IsPrefix s.front t.text) (sym (given_is given m)) (s.so_far ended_lines [] [] ended_cut);
-        text = inl s.text;
+        text = s.text;
       })
       | false ↦ λ v. inl (sym (ap (λ (t : BatchEffect). t.text) (given_is given m ∙ v.2.each ended_lines [] [] ended_cut
           ∙ ap (λ (l : List ℕ). joint_effect out v.2.done (batch (ended_lines l) [] new.lake)) (append-nil v.0)

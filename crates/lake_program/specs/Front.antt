@@ -12,9 +12,15 @@ pub record WantsMemory (out stated : List ℕ) : Type 0 where
   pub so_far : IsPrefix front stated
   pub text : IsPrefix (front ++ out_of_memory_text) out ⊎ IsPrefix out (front ++ out_of_memory_text)
 
--- All that is stated was written, or it was so far so when memory ran out.
+-- It is as stated up to a line that found no memory, whose text follows whole.
+pub record RanOut (out stated : List ℕ) : Type 0 where
+  pub front : List ℕ
+  pub so_far : IsPrefix front stated
+  pub text : IsPrefix (front ++ out_of_memory_text) out
+
+-- All that is stated was written, or it was so far so when memory ran out, and that was told.
 abbrev pub IsServed : List ℕ → List ℕ → Type 0
-IsServed out stated = (out ≡ stated) ⊎ WantsMemory out stated
+IsServed out stated = (out ≡ stated) ⊎ RanOut out stated
 
 -- It is a prefix of what is stated, or was so when memory ran out.
 abbrev pub IsAsStated : List ℕ → List ℕ → Type 0
