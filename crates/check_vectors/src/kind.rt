@@ -1,10 +1,9 @@
 //! The kinds of cases, each by the name that a line of its own gives it.
 
-use crate::case::Case;
-use crate::fault::CaseFault;
-use crate::report::Verdict;
-use crate::{commits, expressions, metaranges, ranges, rules, tree_reads, trees};
+use crate::{merges, rules, tokens};
 use std::alloc::Global;
+use vector_files::{commits, expressions, graphs, metaranges, ranges, tree_reads, trees};
+use vector_forms::{Case, CaseFault, Verdict};
 
 /// What cases are about.
 #[derive(Clone, Copy)]
@@ -16,6 +15,9 @@ pub enum Kind {
     TreeReads,
     Commits,
     Expressions,
+    Graphs,
+    Merges,
+    Tokens,
 }
 
 impl Kind {
@@ -29,6 +31,9 @@ impl Kind {
             "tree_reads" => Some(Kind::TreeReads),
             "commits" => Some(Kind::Commits),
             "expressions" => Some(Kind::Expressions),
+            "graphs" => Some(Kind::Graphs),
+            "merges" => Some(Kind::Merges),
+            "tokens" => Some(Kind::Tokens),
             _ => None,
         }
     }
@@ -43,6 +48,9 @@ impl Kind {
             Kind::TreeReads => tree_reads::check(alloc, case),
             Kind::Commits => commits::check(alloc, case),
             Kind::Expressions => expressions::check(alloc, case),
+            Kind::Graphs => graphs::check(alloc, case),
+            Kind::Merges => merges::check(alloc, case),
+            Kind::Tokens => tokens::check(alloc, case),
         }
     }
 }

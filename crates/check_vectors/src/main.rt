@@ -1,35 +1,23 @@
 //! The program `check_vectors`: it reads cases from standard input, a line of JSON each, asks the crates, and reports
 //! where their answer isn't the one that the line says is due.
 //!
-//! - `case`: a line, the name of a kind or a case, its members by name; `fault`: why a line is no case.
-//! - `forms`, `tree_forms`: the forms that members have in common; `answers`: what the crates answer, as JSON values.
-//! - `kind`: the kinds of cases, a module each: `rules`, of settings; `ranges`, `metaranges`, `trees` and `tree_reads`, of
-//!   the files of trees; `commits` and `expressions`, of commits.
+//! - `kind`: the kinds of cases. Those of files and commits are `vector_files`; here are `rules`, of settings, `merges`,
+//!   and `tokens`, of branches.
 //! - `report`: what is reported.
 #![tactic(auto)]
 
-mod answers;
-mod case;
-mod commits;
-mod expressions;
-mod fault;
-mod forms;
 mod kind;
-mod metaranges;
-mod ranges;
+mod merges;
 mod report;
 mod rules;
-mod tree_forms;
-mod tree_reads;
-mod trees;
+mod tokens;
 
-use crate::case::Line;
-use crate::fault::CaseFault;
 use crate::kind::Kind;
-use crate::report::{Tally, Verdict};
+use crate::report::Tally;
 use std::alloc::Global;
 use std::io::{self, BufRead, BufReader, BufWriter, Write};
 use std::process::ExitCode;
+use vector_forms::{CaseFault, Line, Verdict};
 
 // What comes of one line, whose kind is this one, or one that isn't known. A line that names a kind sets it.
 fn check(alloc: Global, kind: &mut Option<Kind>, line: &[u8]) -> Result<Verdict, CaseFault> {

@@ -4,10 +4,8 @@
 mod decisions;
 mod settings;
 
-use crate::case::Case;
-use crate::fault::CaseFault;
-use crate::report::Verdict;
 use std::alloc::Global;
+use vector_forms::{Case, CaseFault, Verdict};
 
 /// What a case of settings asks.
 #[derive(Clone, Copy)]

@@ -1,9 +1,5 @@
 //! What hooks decide of an event, and which pattern protects a branch.
 
-use crate::case::{Case, Form};
-use crate::fault::CaseFault;
-use crate::forms::{branch_of, changes_of, metadata_of, object_of};
-use crate::report::Verdict;
 use crate::rules::Ask;
 use hook_rules::{Decision, Event, decide, protects, read_hooks, read_protection};
 use lake_base::RefName;
@@ -11,6 +7,7 @@ use lake_values::{Changes, HookRules, Pairs, Protection};
 use serde_json::Value;
 use setting_forms::RuleFault;
 use std::alloc::Global;
+use vector_forms::{Case, CaseFault, Form, Verdict, branch_of, changes_of, metadata_of, object_of};
 
 // What hooks are asked: their rules, and the parts of the event.
 #[derive(Drop)]

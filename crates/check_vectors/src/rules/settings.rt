@@ -1,9 +1,5 @@
 //! What is read of a text as a setting, and what is kept of it.
 
-use crate::case::{Case, Form};
-use crate::fault::CaseFault;
-use crate::forms::{json_of, object_of};
-use crate::report::Verdict;
 use crate::rules::Ask;
 use hook_rules::{read_hooks, read_protection, write_hooks, write_protection};
 use lake_base::{NoMemory, Text};
@@ -11,6 +7,7 @@ use lake_values::{Deny, HookRule, HookRules, Protection};
 use serde_json::{Map, Value};
 use setting_forms::RuleFault;
 use std::alloc::Global;
+use vector_forms::{Case, CaseFault, Form, Verdict, json_of, object_of};
 
 /// What is read and kept of a text.
 pub fn check_setting(alloc: Global, ask: Ask, mut case: Case) -> Result<Verdict, CaseFault> {

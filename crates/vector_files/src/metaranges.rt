@@ -1,15 +1,14 @@
 //! The cases of metarange files: what bytes say of ranges, or the first fault.
 
-use crate::answers::{digest_value, fault_value, refused, text_value};
-use crate::case::{Case, Form};
-use crate::fault::CaseFault;
-use crate::forms::{object_of, take_bytes};
-use crate::report::Verdict;
 use lake_base::NoMemory;
 use lake_format::RangeLine;
 use meta_range::{MetaFault, read_metarange};
 use serde_json::Value;
 use std::alloc::Global;
+use vector_forms::{
+    Case, CaseFault, Form, Verdict, digest_value, fault_value, object_of, refused, take_bytes,
+    text_value,
+};
 
 /// Asks how bytes are read as a metarange file.
 pub fn check(alloc: Global, mut case: Case) -> Result<Verdict, CaseFault> {

@@ -1,19 +1,15 @@
 //! The cases of trees that are read: the map of files, or the first fault.
 ghost use Rattle.std.specs.Prelude.{◌<◌};
 
-use crate::answers::{digest_value, refused};
-use crate::case::{Case, Form};
-use crate::fault::CaseFault;
-use crate::forms::{digest_of, object_of};
 use crate::metaranges::meta_fault;
 use crate::ranges::range_fault;
-use crate::report::Verdict;
 use crate::tree_forms::{files_of, map_value, take_cut};
 use lake_base::{Digest, NoMemory};
 use meta_range::{File, Tree, TreeFault};
 use range_file::{Cut, RangeFault};
 use serde_json::{Map, Value};
 use std::alloc::Global;
+use vector_forms::{Case, CaseFault, Form, Verdict, digest_of, digest_value, object_of, refused};
 
 /// Asks for the map of a tree's files.
 pub fn check(alloc: Global, mut case: Case) -> Result<Verdict, CaseFault> {

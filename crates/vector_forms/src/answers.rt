@@ -4,7 +4,7 @@ use crate::fault::CaseFault;
 use crate::forms::object_of;
 use lake_base::{Digest, NoMemory, Path};
 use lake_format::entry_bytes;
-use lake_values::Entry;
+use lake_values::{Change, Changes, Entry};
 use serde_json::{Map, Value};
 use std::alloc::Global;
 
@@ -31,8 +31,8 @@ pub fn pair_value(alloc: Global, first: Value, second: Value) -> Result<Value, N
     Ok(Value::Array(pair))
 }
 
-// An entry, as the hex of its bytes.
-fn entry_value(alloc: Global, entry: &Entry) -> Result<Value, NoMemory> {
+/// An entry, as the hex of its bytes.
+pub fn entry_value(alloc: Global, entry: &Entry) -> Result<Value, NoMemory> {
     let bytes = entry_bytes(alloc, entry)?;
     bytes_value(alloc, bytes.as_slice())
 }
@@ -42,6 +42,26 @@ pub fn row_value(alloc: Global, path: &Path, entry: &Entry) -> Result<Value, NoM
     let entry = entry_value(alloc, entry)?;
     let path = text_value(alloc, path.as_str())?;
     pair_value(alloc, path, entry)
+}
+
+/// A change: the entry that is put, or null for a deletion.
+pub fn change_value(alloc: Global, change: &Change) -> Result<Value, NoMemory> {
+    match change {
+        Change::Put(entry) => entry_value(alloc, entry),
+        Change::Delete => Ok(Value::Null),
+    }
+}
+
+/// Changes, in order of path.
+pub fn changes_value(alloc: Global, changes: &Changes) -> Result<Value, NoMemory> {
+    let changes = changes.as_slice();
+    let mut list = Vec::with_capacity(alloc, changes.len())?;
+    for (path, change) in changes {
+        let change = change_value(alloc, change)?;
+        let path = text_value(alloc, path.as_str())?;
+        list.push(pair_value(alloc, path, change)?)?;
+    }
+    Ok(Value::Array(list))
 }
 
 /// A fault's name with its number, or with null where it has none.

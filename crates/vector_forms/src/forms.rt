@@ -231,3 +231,30 @@ pub fn object_of(alloc: Global, name: &str, value: Value) -> Result<Value, NoMem
     serde_json::put(&mut members, alloc, name, value)?;
     Ok(Value::Object(members))
 }
+
+/// A member of an object.
+pub fn member_of<'a>(value: &'a Value, name: &'static str) -> Result<&'a Value, CaseFault> {
+    match value.as_object() {
+        Some(members) => match members.get(name) {
+            Some(value) => Ok(value),
+            None => Err(CaseFault::Missing(name)),
+        },
+        None => Err(CaseFault::Malformed(name)),
+    }
+}
+
+/// A member of an object that is a list.
+pub fn list_of<'a>(value: &'a Value, name: &'static str) -> Result<&'a [Value], CaseFault> {
+    match member_of(value, name)?.as_array() {
+        Some(list) => Ok(list.as_slice()),
+        None => Err(CaseFault::Malformed(name)),
+    }
+}
+
+/// A number.
+pub fn number_of(value: &Value, member: &'static str) -> Result<u64, CaseFault> {
+    match value.as_u64() {
+        Some(number) => Ok(number),
+        None => Err(CaseFault::Malformed(member)),
+    }
+}

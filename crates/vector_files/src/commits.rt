@@ -1,15 +1,14 @@
 //! The cases of commits: the commit that bytes are read as, and its id, or the first fault.
 
-use crate::answers::{digest_value, fault_value, pair_value, put_unlike, refused, text_value};
-use crate::case::{Case, Form};
-use crate::fault::CaseFault;
-use crate::forms::take_bytes;
-use crate::report::Verdict;
 use commit_graph::{CommitFault, commit_bytes, commit_read};
 use lake_base::{Digest, NoMemory};
 use lake_values::{CommitRecord, Pairs};
 use serde_json::{Map, Value};
 use std::alloc::Global;
+use vector_forms::{
+    Case, CaseFault, Form, Verdict, digest_value, fault_value, pair_value, put_unlike, refused,
+    take_bytes, text_value,
+};
 
 /// Asks how bytes are read as a commit.
 pub fn check(alloc: Global, mut case: Case) -> Result<Verdict, CaseFault> {

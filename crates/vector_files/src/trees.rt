@@ -1,11 +1,6 @@
 //! The cases of trees: the name and the files of a map's tree, and the map that the same files are read as.
 ghost use Rattle.std.specs.Prelude.{◌<◌};
 
-use crate::answers::digest_value;
-use crate::case::{Case, Form};
-use crate::fault::CaseFault;
-use crate::forms::{map_of, object_of};
-use crate::report::Verdict;
 use crate::tree_forms::{files_value, take_cut};
 use crate::tree_reads::read_answer;
 use lake_base::NoMemory;
@@ -14,6 +9,7 @@ use meta_range::{File, Tree};
 use range_file::Cut;
 use serde_json::{Map, Value};
 use std::alloc::Global;
+use vector_forms::{Case, CaseFault, Form, Verdict, digest_value, map_of, object_of};
 
 /// Asks for the tree of a map.
 pub fn check(alloc: Global, mut case: Case) -> Result<Verdict, CaseFault> {

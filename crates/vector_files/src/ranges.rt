@@ -1,14 +1,12 @@
 //! The cases of range files: the rows that bytes are read as, or the first fault.
 
-use crate::answers::{fault_value, put_unlike, refused, row_value};
-use crate::case::{Case, Form};
-use crate::fault::CaseFault;
-use crate::forms::take_bytes;
-use crate::report::Verdict;
 use lake_base::NoMemory;
 use range_file::{Range, RangeFault, Row, decode, encode};
 use serde_json::{Map, Value};
 use std::alloc::Global;
+use vector_forms::{
+    Case, CaseFault, Form, Verdict, fault_value, put_unlike, refused, row_value, take_bytes,
+};
 
 /// Asks how bytes are read as a range file.
 pub fn check(alloc: Global, mut case: Case) -> Result<Verdict, CaseFault> {

@@ -1,16 +1,15 @@
 //! The forms of trees: a cut and files, read and answered, and the map of a tree.
 ghost use Rattle.std.specs.Prelude.{◌<◌, IfOk};
 
-use crate::answers::{bytes_value, digest_value, pair_value, row_value};
-use crate::case::Case;
-use crate::fault::CaseFault;
-use crate::forms::{bytes_of, digest_of, pair_of};
 use lake_base::{NoMemory, Sequence};
 use lake_values::EntryCursor;
 use meta_range::{File, Tree};
 use range_file::Cut;
 use serde_json::Value;
 use std::alloc::Global;
+use vector_forms::{
+    Case, CaseFault, bytes_of, bytes_value, digest_of, digest_value, pair_of, pair_value, row_value,
+};
 
 /// Takes a cut out of a case: its modulus isn't 0.
 pub fn take_cut(case: &mut Case) -> Result<Cut, CaseFault>

@@ -1,14 +1,13 @@
 //! The cases of expressions of commits: the parts of a text, or the place at which no expression goes on.
 
-use crate::answers::{fault_value, pair_value, refused, text_value};
-use crate::case::{Case, Form};
-use crate::fault::CaseFault;
-use crate::forms::{object_of, text_bytes};
-use crate::report::Verdict;
 use commit_graph::{ExprFault, Move, RefExpr};
 use lake_base::NoMemory;
 use serde_json::{Map, Value};
 use std::alloc::Global;
+use vector_forms::{
+    Case, CaseFault, Form, Verdict, fault_value, object_of, pair_value, refused, text_bytes,
+    text_value,
+};
 
 /// Asks how a text is read as an expression.
 pub fn check(alloc: Global, mut case: Case) -> Result<Verdict, CaseFault> {
@@ -39,8 +38,8 @@ fn expression_value(alloc: Global, expression: &RefExpr) -> Result<Value, NoMemo
     Ok(Value::Object(parts))
 }
 
-// Moves, in their order.
-fn moves_value(alloc: Global, moves: &[Move]) -> Result<Value, NoMemory> {
+/// Moves, in their order.
+pub fn moves_value(alloc: Global, moves: &[Move]) -> Result<Value, NoMemory> {
     let mut list = Vec::with_capacity(alloc, moves.len())?;
     for one in moves {
         list.push(move_value(alloc, *one)?)?;
