@@ -1,8 +1,10 @@
 //! The kinds of cases, each by the name that a line of its own gives it.
 
-use crate::{merges, rules, tokens};
+use crate::rules;
 use std::alloc::Global;
-use vector_files::{commits, expressions, graphs, metaranges, ranges, tree_reads, trees};
+use vector_branches::{merges, tokens};
+use vector_commits::{commits, expressions, graphs};
+use vector_files::{metaranges, ranges, tree_reads, trees};
 use vector_forms::{Case, CaseFault, Verdict};
 
 /// What cases are about.

@@ -1,16 +1,14 @@
 //! The program `check_vectors`: it reads cases from standard input, a line of JSON each, asks the crates, and reports
 //! where their answer isn't the one that the line says is due.
 //!
-//! - `kind`: the kinds of cases. Those of files and commits are `vector_files`; here are `rules`, of settings, `merges`,
-//!   and `tokens`, of branches.
+//! - `kind`: the kinds of cases. Those of files are `vector_files`, of commits `vector_commits`, of branches
+//!   `vector_branches`; here are `rules`, of settings.
 //! - `report`: what is reported.
 #![tactic(auto)]
 
 mod kind;
-mod merges;
 mod report;
 mod rules;
-mod tokens;
 
 use crate::kind::Kind;
 use crate::report::Tally;

@@ -8,7 +8,7 @@ use Rattle.lake_base.specs.declared.digest.Digest.{Digest}
 use Rattle.lake_values.specs.Commit.{CommitRecordValue}
 use Rattle.lake_values.specs.Ancestry.{Graph, commit_of, parents_in, parents, generation, first_parent, back, walk_within, walk, IsGraph}
 use Rattle.lake_values.proofs.AncestryWalkLemmas.{starts, back_past, back_ends, back_there}
-use Rattle.commit_graph.specs.Moves.{moved, resolved}
+use Rattle.commit_graph.specs.Moves.{move_target, moves_target}
 use Rattle.commit_graph.specs.declared.expression.Move.{Move}
 use Rattle.commit_graph.specs.declared.expression.Move.TheVariants.{Back, Parent}
 
@@ -48,10 +48,10 @@ walk_whole g n head ids so_far end = so_far ∙ ap (λ k. walk_within k g head) 
 
 module _ (g : Graph) where
   pub resolve_next : (moves : List Move) (i : ℕ) (at : Digest) (one : Move) → i < length moves → one ≡ get_or moves i one
-      → resolved g i at (drop i moves) ≡ option_map_or (λ next. resolved g (i + 1) next (drop (i + 1) moves)) (moved g one at) (Err i)
+      → moves_target g i at (drop i moves) ≡ option_map_or (λ next. moves_target g (i + 1) next (drop (i + 1) moves)) (move_target g one at) (Err i)
   resolve_next moves i at one lt is =
       let front : drop i moves ≡ one ∷ drop (i + 1) moves = rw (add-one, drop-cons moves i one, ← is) refl in
-      ap (resolved g i at) front
+      ap (moves_target g i at) front
 
   -- a parent of a commit is there
   parent_there : IsGraph g → (id : Digest) (place : ℕ) (to : Digest) → slice_get (parents g id) place ≡ Some to → IsSome (commit_of g to)
@@ -70,21 +70,21 @@ module _ (g : Graph) where
       by None was = cc (sym (ap (λ o. slice_get (parents_in o) place) was) ∙ is)
       by (Some c) was = (graph id (ap is_some was)).whole to (at_place (parents_in (commit_of g id)) place is)
 
-  moved_there : IsGraph g → (one : Move) (id to : Digest) → IsSome (commit_of g id) → moved g one id ≡ Some to → IsSome (commit_of g to)
+  moved_there : IsGraph g → (one : Move) (id to : Digest) → IsSome (commit_of g id) → move_target g one id ≡ Some to → IsSome (commit_of g to)
   moved_there graph (Back n) id to there is = back_there g n id to graph is
   moved_there graph (Parent zero) id to there is = let same : id ≡ to = cc in subst (λ (x : Digest). IsSome (commit_of g x)) same there
   moved_there graph (Parent (suc n)) id to there is = parent_there graph id n to is
 
-  pub resolved_there : IsGraph g → (moves : List Move) (i : ℕ) (id to : Digest) → IsSome (commit_of g id) → resolved g i id moves ≡ Ok to → IsSome (commit_of g to)
+  pub resolved_there : IsGraph g → (moves : List Move) (i : ℕ) (id to : Digest) → IsSome (commit_of g id) → moves_target g i id moves ≡ Ok to → IsSome (commit_of g to)
   resolved_there graph [] i id to there is = let same : id ≡ to = cc in subst (λ (x : Digest). IsSome (commit_of g x)) same there
-  resolved_there graph (one ∷ moves) i id to there is = by (λ next. resolved_there graph moves (i + 1) next to) (moved g one id) refl is
+  resolved_there graph (one ∷ moves) i id to there is = by (λ next. resolved_there graph moves (i + 1) next to) (move_target g one id) refl is
     where
-      by : ((next : Digest) → IsSome (commit_of g next) → resolved g (i + 1) next moves ≡ Ok to → IsSome (commit_of g to))
-          → (o : Option Digest) → moved g one id ≡ o → option_map_or (λ next. resolved g (i + 1) next moves) o (Err i) ≡ Ok to → IsSome (commit_of g to)
+      by : ((next : Digest) → IsSome (commit_of g next) → moves_target g (i + 1) next moves ≡ Ok to → IsSome (commit_of g to))
+          → (o : Option Digest) → move_target g one id ≡ o → option_map_or (λ next. moves_target g (i + 1) next moves) o (Err i) ≡ Ok to → IsSome (commit_of g to)
       by more None was e = absurd cc
       by more (Some next) was e = more next (moved_there graph one id next there was) e
 
-  pub resolved_end : (moves : List Move) (i : ℕ) (at : Digest) → length moves ≤ i → resolved g i at (drop i moves) ≡ Ok at
+  pub resolved_end : (moves : List Move) (i : ℕ) (at : Digest) → length moves ≤ i → moves_target g i at (drop i moves) ≡ Ok at
   resolved_end moves i at le =
       let none : drop i moves ≡ [] = nil_from_length (drop i moves) (omega (arith, length-drop i moves)) in
-      ap (resolved g i at) none
+      ap (moves_target g i at) none

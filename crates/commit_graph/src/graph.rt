@@ -9,7 +9,7 @@ ghost use Rattle.lake_base.specs.Digest.{sha256};
 ghost use Rattle.lake_format.specs.Spelling.{commit_spelling, commit_id};
 ghost use Rattle.lake_values.specs.Ancestry.{graph_of, commit_of, parents, generation, due_generation, first_parent, back, walk};
 ghost use Rattle.commit_graph.specs.Graphs.{IsSound};
-ghost use Rattle.commit_graph.specs.Moves.{moved, resolved};
+ghost use Rattle.commit_graph.specs.Moves.{move_target, moves_target};
 ghost use Rattle.commit_graph.specs.Adding.{Refuses, missing_parent, untimely, clash, refusal};
 
 use crate::encoding::commit_bytes;
@@ -132,14 +132,14 @@ impl Graph {
     pub fn resolve(&self, from: &CommitId, moves: &[Move]) -> Result<CommitId, u32>
         requires there { IsSome (commit_of self.now from.now) }
         requires few { length moves.now < 2 ^ 32 }
-        ensures found { result ≡ resolved self.now 0 from.now moves.now }
+        ensures found { result ≡ moves_target self.now 0 from.now moves.now }
         ensures there { IfOk result (λ id. IsSome (commit_of self.now id)) }
     {
         // It reads no field, but what holds of them decides that the answer is there.
         let _ = &self.commits;
         let mut at = *from;
         for (number, one) in moves.iter().enumerate() {
-            match self.moved(*one, &at) {
+            match self.move_target(*one, &at) {
                 Some(next) => at = next,
                 None => return Err(number as u32),
             }
@@ -165,8 +165,8 @@ impl Graph {
     }
 
     // Where a move leads.
-    fn moved(&self, one: Move, id: &CommitId) -> Option<CommitId>
-        ensures { result ≡ moved self.now one id.now }
+    fn move_target(&self, one: Move, id: &CommitId) -> Option<CommitId>
+        ensures { result ≡ move_target self.now one id.now }
     {
         match one {
             Move::Back(steps) => self.back(steps, id),

@@ -15,7 +15,7 @@ use Rattle.lake_values.specs.declared.commit.Strategy.TheVariants.{Refuse, Sourc
 use Rattle.lake_values.specs.declared.merge.Side.{Side}
 use Rattle.lake_values.specs.declared.merge.Side.TheVariants.{Source, Destination, Neither}
 use Rattle.key_merge.specs.Refusal.{TellsConflicts}
-use Rattle.key_merge.specs.MergeWalk.{SidesValue, FrontValue, Ascend, sides_of, sides_above, first_front, side_at, decided, change_at, changes_of, conflicts_of, refusals_of, refused_paths}
+use Rattle.key_merge.specs.MergeWalk.{SidesValue, FrontValue, Ascend, sides_of, sides_above, first_front, side_at, winning_side, change_at, changes_of, conflicts_of, refusals_of, refused_paths}
 use Rattle.key_merge.proofs.FrontLemmas.{IsFront, front_is, no_front, fewer}
 use Rattle.key_merge.proofs.ChangesLemmas.{stays, changes_next, no_changes, all_changes}
 use Rattle.key_merge.proofs.ConflictsLemmas.{conflicts_next, no_conflicts, all_conflicts}
@@ -23,14 +23,14 @@ use Rattle.key_merge.proofs.ConflictsLemmas.{conflicts_next, no_conflicts, all_c
 -- ---- whose value a path takes
 
 module _ (source dest : Option EntryValue) where
-  source_taken : (strategy : Strategy) (side : Side) → decided strategy side ≡ Source → side_value strategy source dest side ≡ source
+  source_taken : (strategy : Strategy) (side : Side) → winning_side strategy side ≡ Source → side_value strategy source dest side ≡ source
   source_taken strategy Source e = refl
   source_taken strategy Destination e = cc
   source_taken Refuse Neither e = cc
   source_taken SourceWins Neither e = refl
   source_taken DestWins Neither e = cc
 
-  dest_stays : (strategy : Strategy) (side : Side) → decided strategy side ≡ Destination → side_value strategy source dest side ≡ dest
+  dest_stays : (strategy : Strategy) (side : Side) → winning_side strategy side ≡ Destination → side_value strategy source dest side ≡ dest
   dest_stays strategy Source e = cc
   dest_stays strategy Destination e = refl
   dest_stays Refuse Neither e = cc
@@ -38,7 +38,7 @@ module _ (source dest : Option EntryValue) where
   dest_stays DestWins Neither e = refl
 
 -- a merge refuses without a strategy alone, at a path that conflicts
-pub undecided : (strategy : Strategy) (side : Side) → decided strategy side ≡ Neither → (strategy ≡ Refuse) × (is_neither side ≡ true)
+pub undecided : (strategy : Strategy) (side : Side) → winning_side strategy side ≡ Neither → (strategy ≡ Refuse) × (is_neither side ≡ true)
 undecided strategy Source e = cc
 undecided strategy Destination e = cc
 undecided Refuse Neither e = (refl, refl)
@@ -67,7 +67,7 @@ module _ (old new : SidesValue) (front : FrontValue) (turn : IsTurn old new fron
   turn_conflicts = conflicts_next old front turn.ascend turn.is ∙ ap (λ s. cond (is_neither (side_at front)) (front.path ∷ conflicts_of s) (conflicts_of s)) (sym turn.above)
 
   -- the source's value is taken
-  pub take_turn : (strategy : Strategy) (made pushed all : List (List ℕ × Change)) → decided strategy (side_at front) ≡ Source → pushed ≡ made ++ rows_at front.path (change_between front.source front.dest)
+  pub take_turn : (strategy : Strategy) (made pushed all : List (List ℕ × Change)) → winning_side strategy (side_at front) ≡ Source → pushed ≡ made ++ rows_at front.path (change_between front.source front.dest)
       → made ++ changes_of strategy old ≡ all → pushed ++ changes_of strategy new ≡ all
   take_turn strategy made pushed all source is so_far =
       let change : change_at strategy front ≡ change_between front.source front.dest = ap (λ v. change_between v front.dest) (source_taken front.source front.dest strategy (side_at front) source) in
@@ -78,7 +78,7 @@ module _ (old new : SidesValue) (front : FrontValue) (turn : IsTurn old new fron
       ∙ so_far
 
   -- the destination's stays
-  pub stay_turn : (strategy : Strategy) (made all : List (List ℕ × Change)) → decided strategy (side_at front) ≡ Destination
+  pub stay_turn : (strategy : Strategy) (made all : List (List ℕ × Change)) → winning_side strategy (side_at front) ≡ Destination
       → made ++ changes_of strategy old ≡ all → made ++ changes_of strategy new ≡ all
   stay_turn strategy made all dest so_far =
       let change : change_at strategy front ≡ None = ap (λ v. change_between v front.dest) (dest_stays front.source front.dest strategy (side_at front) dest) ∙ stays front.dest in
@@ -90,7 +90,7 @@ module _ (old new : SidesValue) (front : FrontValue) (turn : IsTurn old new fron
   calm_by true e = cc
   calm_by false e = refl
 
-  refusals_by : (strategy : Strategy) (side : Side) → side ≡ side_at front → (decided strategy side ≡ Neither → ⊥) → refusals_of strategy old ≡ refusals_of strategy new
+  refusals_by : (strategy : Strategy) (side : Side) → side ≡ side_at front → (winning_side strategy side ≡ Neither → ⊥) → refusals_of strategy old ≡ refusals_of strategy new
   refusals_by Refuse Source is never = turn_conflicts ∙ calm_by _ (ap is_neither (sym is))
   refusals_by Refuse Destination is never = turn_conflicts ∙ calm_by _ (ap is_neither (sym is))
   refusals_by Refuse Neither is never = absurd (never refl)
@@ -98,7 +98,7 @@ module _ (old new : SidesValue) (front : FrontValue) (turn : IsTurn old new fron
   refusals_by DestWins side is never = refl
 
   -- where it refuses at none so far, it refuses at none here
-  pub refuse_turn : (strategy : Strategy) (all : List (List ℕ)) → (decided strategy (side_at front) ≡ Neither → ⊥) → refusals_of strategy old ≡ all → refusals_of strategy new ≡ all
+  pub refuse_turn : (strategy : Strategy) (all : List (List ℕ)) → (winning_side strategy (side_at front) ≡ Neither → ⊥) → refusals_of strategy old ≡ all → refusals_of strategy new ≡ all
   refuse_turn strategy all never so_far = sym (refusals_by strategy (side_at front) refl never) ∙ so_far
 
 -- ---- the end
@@ -112,7 +112,7 @@ refused_by base source dest path paths are = record {
 }
 
 -- the first path at which it refuses, and the conflicts above it, are all conflicts
-pub refused_at : (strategy : Strategy) (base source dest : KeyMapValue) (old new : SidesValue) (front : FrontValue) → IsTurn old new front → decided strategy (side_at front) ≡ Neither
+pub refused_at : (strategy : Strategy) (base source dest : KeyMapValue) (old new : SidesValue) (front : FrontValue) → IsTurn old new front → winning_side strategy (side_at front) ≡ Neither
     → refusals_of strategy old ≡ refused_paths strategy base source dest
     → TellsConflicts strategy base source dest (take 100 (front.path ∷ conflicts_of new)) (length (front.path ∷ conflicts_of new))
 refused_at strategy base source dest old new front turn refuses so_far =

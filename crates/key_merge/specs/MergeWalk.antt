@@ -75,12 +75,12 @@ pub record Ascend (sides : SidesValue) : Type 0 where
 -- ---- what comes of them
 
 -- whose value a path takes, where the strategy decides of those that conflict
-abbrev pub decided : Strategy → Side → Side
-decided strategy Source = Source
-decided strategy Destination = Destination
-decided Refuse Neither = Neither
-decided SourceWins Neither = Source
-decided DestWins Neither = Destination
+abbrev pub winning_side : Strategy → Side → Side
+winning_side strategy Source = Source
+winning_side strategy Destination = Destination
+winning_side Refuse Neither = Neither
+winning_side SourceWins Neither = Source
+winning_side DestWins Neither = Destination
 
 -- whose value a path takes that has these values
 abbrev pub side_at : FrontValue → Side

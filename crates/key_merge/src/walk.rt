@@ -4,7 +4,7 @@ ghost use Rattle.std.specs.Prelude.{◌≡◌, [], ◌∷◌, ◌++◌, ◌+◌,
 ghost use Rattle.lake_values.specs.KeyMap.{differences};
 ghost use Rattle.lake_values.specs.Merging.{merged_map, is_refused};
 ghost use Rattle.key_merge.specs.Refusal.{TellsFault};
-ghost use Rattle.key_merge.specs.MergeWalk.{decided, conflicts_of};
+ghost use Rattle.key_merge.specs.MergeWalk.{winning_side, conflicts_of};
 
 use crate::fault::MergeFault;
 use crate::front::Sides;
@@ -53,7 +53,7 @@ fn merge_trees(
     let mut sides = Sides::new(base, source, dest);
     let mut changes = Vec::new(alloc);
     while let Some(front) = sides.next() {
-        match decided(strategy, front.side()) {
+        match winning_side(strategy, front.side()) {
             Side::Neither => return Err(refusal(alloc, sides, front.path)?),
             Side::Source => front.take_source(alloc, &mut changes)?,
             Side::Destination => {}
@@ -63,8 +63,8 @@ fn merge_trees(
 }
 
 // Whose value a path takes, where the strategy decides of those that conflict.
-fn decided(strategy: Strategy, side: Side) -> Side
-    ensures { result ≡ decided strategy side }
+fn winning_side(strategy: Strategy, side: Side) -> Side
+    ensures { result ≡ winning_side strategy side }
 {
     match (strategy, side) {
         (Strategy::SourceWins, Side::Neither) => Side::Source,

@@ -4,7 +4,7 @@ ghost use Rattle.std.specs.FinMap.{get, insert, from_entries};
 ghost use Rattle.std.specs.Ordering.{nat_cmp};
 ghost use Rattle.lake_model.specs.State.{fresh};
 ghost use Rattle.lake_model.specs.After.{replay, put_number, without};
-ghost use Rattle.lake_model.specs.Legal.{IsLegal, HasTicket, given};
+ghost use Rattle.lake_model.specs.Legal.{IsLegal, HasTicket, ticket_numbers};
 ghost use Rattle.lake_model.specs.Reply.{Gives, look_reply, versions_reply, ticket_reply, drop_reply, stage_reply, found_in, shown_by, full_refusal, branch_refusal, version_refusal};
 ghost use Rattle.lake_model.specs.declared.history.EntryKind.TheVariants.{TicketTake, TicketDrop, Stage};
 
@@ -153,7 +153,7 @@ impl PlainLake {
     ) -> Result<(u64, u64), StepFault>
         ensures reply { Gives result (ticket_reply (replay fresh self.old) repo.now branch.now) }
         ensures ok { IfOk result (λ taken. self.new ≡ self.old ++ record { by = by; kind = TicketTake repo.now branch.now taken.1 } ∷ []) }
-        ensures new { IfOk result (λ taken. Contains (given self.old) taken.1 → ⊥) }
+        ensures new { IfOk result (λ taken. Contains (ticket_numbers self.old) taken.1 → ⊥) }
         ensures ticket { IfOk result (λ taken. HasTicket (replay fresh self.new) by.seat taken.1) }
         ensures legal { IsLegal fresh self.new }
         ensures err { OnErr result (self.new ≡ self.old) }

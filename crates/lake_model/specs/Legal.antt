@@ -34,9 +34,9 @@ pub record IsSound (state : State) : Type 0 where
       → put_number change ≡ Some number → number < state.next_number
 
 -- the numbers that these entries give out, in order
-abbrev pub given : List HistoryEntry → List ℕ
-given [] = []
-given (entry ∷ entries) = given_by entry.kind ++ given entries
+abbrev pub ticket_numbers : List HistoryEntry → List ℕ
+ticket_numbers [] = []
+ticket_numbers (entry ∷ entries) = given_by entry.kind ++ ticket_numbers entries
   where
     given_by : EntryKind → List ℕ
     given_by (TicketTake repo branch number) = number ∷ []

@@ -4,7 +4,7 @@ ghost use Rattle.lake_model.specs.declared.history.HistoryEntry.{HistoryEntry};
 ghost use Rattle.lake_model.specs.declared.history.TheConstants.{HISTORY_LIMIT};
 ghost use Rattle.lake_model.specs.State.{State, fresh};
 ghost use Rattle.lake_model.specs.After.{after, replay};
-ghost use Rattle.lake_model.specs.Legal.{Allows, IsLegal, IsSound, given};
+ghost use Rattle.lake_model.specs.Legal.{Allows, IsLegal, IsSound, ticket_numbers};
 ghost use Rattle.std.specs.List.Sorted.{IsStrictlySortedBy};
 ghost use Rattle.std.specs.Ordering.{nat_cmp};
 
@@ -16,7 +16,7 @@ pub fn soundness_stays()
 
 /// The numbers that a legal history gives out rise, so none is given out twice.
 pub fn numbers_rise()
-    ensures { (state : State) (entries : List HistoryEntry) → IsLegal state entries → IsStrictlySortedBy nat_cmp (given entries) }
+    ensures { (state : State) (entries : List HistoryEntry) → IsLegal state entries → IsStrictlySortedBy nat_cmp (ticket_numbers entries) }
 {}
 
 /// The limit that the definitions cite is the profile's.

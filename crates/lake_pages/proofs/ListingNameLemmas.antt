@@ -8,7 +8,7 @@ use Rattle.std.proofs.lemmas.Bool.{cases_lt, cases_eq, lt-ltb, le-ltb, ne_eqb, l
 use Rattle.std.proofs.lemmas.List.{length-append, append-nil}
 use Rattle.std.proofs.lemmas.Str.{IsUtf8-from_is_utf8}
 use Rattle.std.proofs.Math.Utf8.{encode, encodes}
-use Rattle.lake_pages.specs.ListingSteps.{raised, name_end}
+use Rattle.lake_pages.specs.ListingSteps.{last_byte_plus_one, name_end}
 use Rattle.lake_base.specs.Maps.{byte_order}
 use Rattle.lake_pages.proofs.ListingPrefixLemmas.{same_number}
 
@@ -47,7 +47,7 @@ one_more x y k lt =
       | inr ne ↦ ap (λ o. is_lt (ordering_then o (byte_order k []))) (cmp_greater y (x + 1) (omega arith))
     ]
 
-raised_end : (x : ℕ) (xs k : List ℕ) → is_gt (byte_order (x ∷ xs) k) ≡ false → is_lt (byte_order k (raised x xs)) ≡ starts_with nat_eq k (x ∷ xs)
+raised_end : (x : ℕ) (xs k : List ℕ) → is_gt (byte_order (x ∷ xs) k) ≡ false → is_lt (byte_order k (last_byte_plus_one x xs)) ≡ starts_with nat_eq k (x ∷ xs)
 raised_end x xs [] le = absurd cc
 raised_end x [] (y ∷ k) le =
     elim (cases_order x y) [
@@ -59,11 +59,11 @@ raised_end x [] (y ∷ k) le =
 raised_end x (z ∷ xs) (y ∷ k) le =
     elim (cases_order x y) [
       | inl lt ↦
-          ap (λ o. is_lt (ordering_then o (byte_order k (raised z xs)))) (cmp_greater y x lt) ∙ sym (ap (λ b. b && starts_with nat_eq k (z ∷ xs)) (apart x y lt))
+          ap (λ o. is_lt (ordering_then o (byte_order k (last_byte_plus_one z xs)))) (cmp_greater y x lt) ∙ sym (ap (λ b. b && starts_with nat_eq k (z ∷ xs)) (apart x y lt))
       | inr (inl e) ↦
           let one : nat_cmp y x ≡ Equal = ap (nat_cmp y) e ∙ same_number y in
           let other : nat_cmp x y ≡ Equal = ap (nat_cmp x) (sym e) ∙ same_number x in
-          ap (λ o. is_lt (ordering_then o (byte_order k (raised z xs)))) one
+          ap (λ o. is_lt (ordering_then o (byte_order k (last_byte_plus_one z xs)))) one
           ∙ raised_end z xs k (sym (ap (λ o. is_gt (ordering_then o (byte_order (z ∷ xs) k))) other) ∙ le)
           ∙ sym (ap (λ b. b && starts_with nat_eq k (z ∷ xs)) (eq-eqb x y e))
       | inr (inr lt) ↦ absurd (not_low x y (z ∷ xs) k lt le)
@@ -149,7 +149,7 @@ low_end bytes utf8 some =
     let is : get_or bytes (length bytes - 1) 0 ≡ h.last = ap (λ i. get_or bytes i 0) place ∙ ap (λ l. get_or l (length h.front) 0) h.whole ∙ at_end h.front h.last in
     subst (λ n. n < 255) (sym is) h.low
 
-raised_set : (x : ℕ) (xs : List ℕ) → set (x ∷ xs) (length xs) (get_or (x ∷ xs) (length xs) 0 + 1) ≡ raised x xs
+raised_set : (x : ℕ) (xs : List ℕ) → set (x ∷ xs) (length xs) (get_or (x ∷ xs) (length xs) 0 + 1) ≡ last_byte_plus_one x xs
 raised_set x [] = refl
 raised_set x (y ∷ xs) = ap (λ l. x ∷ l) (raised_set y xs)
 

@@ -10,14 +10,14 @@ use Rattle.lake_pages.specs.declared.listing.Item.{Item}
 use Rattle.lake_pages.specs.declared.listing.PageQuery.{PageQuery}
 
 -- a byte and those after it, with the last raised by one
-abbrev pub raised : ℕ → List ℕ → List ℕ
-raised byte [] = (byte + 1) ∷ []
-raised byte (next ∷ bytes) = byte ∷ raised next bytes
+abbrev pub last_byte_plus_one : ℕ → List ℕ → List ℕ
+last_byte_plus_one byte [] = (byte + 1) ∷ []
+last_byte_plus_one byte (next ∷ bytes) = byte ∷ last_byte_plus_one next bytes
 
 -- the least bytes above all that begin with a name
 abbrev pub name_end : List ℕ → List ℕ
 name_end [] = []
-name_end (byte ∷ bytes) = raised byte bytes
+name_end (byte ∷ bytes) = last_byte_plus_one byte bytes
 
 -- the least bytes above a name and above all that are listed as its common prefix
 abbrev pub item_end : Option (List ℕ) → List ℕ → List ℕ

@@ -130,7 +130,7 @@ impl Session {
     {
         match self.blocks.put(number, text) {
             Ok(()) => {}
-            Err(trouble) => return Err(StepFault::from(want_of_room(trouble))),
+            Err(trouble) => return Err(StepFault::from(room_alone(trouble))),
         }
         let versions = self.lake.versions(&self.repo, &self.branch)?;
         let (change, printed) = made(self.alloc, number, &path, text, moment)?;
@@ -195,7 +195,7 @@ impl Session {
         match entry.place {
             Place::Own { number, .. } => match self.blocks.get(number) {
                 Ok(bytes) => Ok(bytes),
-                Err(trouble) => Err(want_of_room(trouble)),
+                Err(trouble) => Err(room_alone(trouble)),
             },
             Place::External { .. } => Ok(None),
         }
@@ -208,7 +208,7 @@ fn read_first_repo(alloc: Global) -> Result<RepoName, NoMemory>
 {
     match RepoName::read(alloc, FIRST_REPO) {
         Ok(repo) => Ok(repo),
-        Err(fault) => Err(want_of_memory(fault)),
+        Err(fault) => Err(memory_alone(fault)),
     }
 }
 
@@ -218,12 +218,12 @@ fn read_first_branch(alloc: Global) -> Result<RefName, NoMemory>
 {
     match RefName::read(alloc, FIRST_BRANCH) {
         Ok(branch) => Ok(branch),
-        Err(fault) => Err(want_of_memory(fault)),
+        Err(fault) => Err(memory_alone(fault)),
     }
 }
 
-// A name that has no fault was refused, which only want of memory does.
-fn want_of_memory(fault: NameFault) -> NoMemory
+// A name that has no fault was refused, which only lack of memory does.
+fn memory_alone(fault: NameFault) -> NoMemory
     requires { fault ≡ NameFault.NoMemory }
 {
     match fault {
@@ -233,7 +233,7 @@ fn want_of_memory(fault: NameFault) -> NoMemory
 }
 
 // A store in memory never fails, so that it refuses for memory alone.
-fn want_of_room(trouble: Trouble) -> NoMemory
+fn room_alone(trouble: Trouble) -> NoMemory
     requires { trouble ≡ Trouble.NoMemory }
 {
     match trouble {

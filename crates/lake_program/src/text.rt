@@ -9,7 +9,7 @@ use std::alloc::Global;
 /// A line of no form that is built yet.
 pub const NOT_BUILT: &[u8] = b"Error: not built yet\n";
 
-/// Want of memory.
+/// No memory is left.
 pub const OUT_OF_MEMORY: &[u8] = b"Error: out of memory [507]\n";
 
 /// More bytes than a batch may have.

@@ -1,27 +1,13 @@
-//! The forms of trees: a cut and files, read and answered, and the map of a tree.
-ghost use Rattle.std.specs.Prelude.{◌<◌, IfOk};
+//! The forms of trees: files, read and answered, and the map of a tree.
 
 use lake_base::{NoMemory, Sequence};
 use lake_values::EntryCursor;
 use meta_range::{File, Tree};
-use range_file::Cut;
 use serde_json::Value;
 use std::alloc::Global;
 use vector_forms::{
-    Case, CaseFault, bytes_of, bytes_value, digest_of, digest_value, pair_of, pair_value, row_value,
+    CaseFault, bytes_of, bytes_value, digest_of, digest_value, pair_of, pair_value, row_value,
 };
-
-/// Takes a cut out of a case: its modulus isn't 0.
-pub fn take_cut(case: &mut Case) -> Result<Cut, CaseFault>
-    ensures { IfOk result (λ cut. 0 < cut.modulus) }
-{
-    let max_bytes = case.take_number("max_bytes")?;
-    let modulus = case.take_number("modulus")?;
-    if modulus == 0 {
-        return Err(CaseFault::Malformed("modulus"));
-    }
-    Ok(Cut { max_bytes, modulus })
-}
 
 // A file, of its name and its bytes.
 fn file_of(alloc: Global, value: &Value, member: &'static str) -> Result<File, CaseFault> {

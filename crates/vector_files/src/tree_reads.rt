@@ -3,13 +3,15 @@ ghost use Rattle.std.specs.Prelude.{◌<◌};
 
 use crate::metaranges::meta_fault;
 use crate::ranges::range_fault;
-use crate::tree_forms::{files_of, map_value, take_cut};
+use crate::tree_forms::{files_of, map_value};
 use lake_base::{Digest, NoMemory};
 use meta_range::{File, Tree, TreeFault};
 use range_file::{Cut, RangeFault};
 use serde_json::{Map, Value};
 use std::alloc::Global;
-use vector_forms::{Case, CaseFault, Form, Verdict, digest_of, digest_value, object_of, refused};
+use vector_forms::{
+    Case, CaseFault, Form, Verdict, digest_of, digest_value, object_of, refused, take_cut,
+};
 
 /// Asks for the map of a tree's files.
 pub fn check(alloc: Global, mut case: Case) -> Result<Verdict, CaseFault> {

@@ -1,7 +1,7 @@
 //! The cases of trees: the name and the files of a map's tree, and the map that the same files are read as.
 ghost use Rattle.std.specs.Prelude.{◌<◌};
 
-use crate::tree_forms::{files_value, take_cut};
+use crate::tree_forms::files_value;
 use crate::tree_reads::read_answer;
 use lake_base::NoMemory;
 use lake_values::KeyMap;
@@ -9,7 +9,7 @@ use meta_range::{File, Tree};
 use range_file::Cut;
 use serde_json::{Map, Value};
 use std::alloc::Global;
-use vector_forms::{Case, CaseFault, Form, Verdict, digest_value, map_of, object_of};
+use vector_forms::{Case, CaseFault, Form, Verdict, digest_value, map_of, object_of, take_cut};
 
 /// Asks for the tree of a map.
 pub fn check(alloc: Global, mut case: Case) -> Result<Verdict, CaseFault> {

@@ -1,7 +1,7 @@
 //! The forms of the vectors that `check_vectors` reads: lines of JSON, each a question with the answer that is due.
 //!
 //! - `case`: a line, the name of a kind or a case, its members by name; `fault`: why a line is no case.
-//! - `forms`: the forms that members have in common; `answers`: what the crates answer, as JSON values.
+//! - `forms`: the forms that members have in common; `cut`: the cut of a tree; `answers`: what the crates answer, as JSON values.
 //! - `verdict`: what came of a case.
 //!
 //! The promise to the layer above: it is safe on every input. No clause says more.
@@ -9,6 +9,7 @@
 
 mod answers;
 mod case;
+mod cut;
 mod fault;
 mod forms;
 mod verdict;
@@ -18,6 +19,7 @@ pub use answers::{
     put_unlike, refused, row_value, text_value,
 };
 pub use case::{Case, Form, Line};
+pub use cut::take_cut;
 pub use fault::CaseFault;
 pub use forms::{
     branch_of, bytes_of, change_of, changes_of, digest_of, json_of, list_of, map_of, member_of,

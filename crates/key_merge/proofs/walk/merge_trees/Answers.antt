@@ -5,7 +5,7 @@ use Rattle.lake_values.specs.Merging.{merged_map}
 use Rattle.lake_values.specs.declared.merge.Side.TheVariants.{Source, Destination, Neither}
 use Rattle.key_merge.specs.Refusal.{TellsFault}
 use Rattle.key_merge.specs.declared.fault.MergeFault.TheVariants.{Conflicts}
-use Rattle.key_merge.specs.MergeWalk.{SidesValue, FrontValue, side_at, decided, conflicts_of}
+use Rattle.key_merge.specs.MergeWalk.{SidesValue, FrontValue, side_at, winning_side, conflicts_of}
 use Rattle.key_merge.proofs.WalkLemmas.{turn_of, turn_fewer, gathered_first, unrefused_first, take_turn, stay_turn, refuse_turn, refused_at, gathered_all, gathered_ascend, gathered_are, unrefused, source_decides, dest_decides}
 use Rattle.key_merge.proofs.walk.merge_trees.Goals as goal
 
@@ -31,7 +31,7 @@ returns-in-Neither-clause-exact c =
     let strategy = c.args.strategy in
     let front = c.in-Some.front in
     let turn = turn_of c.loop-front.sides c.next.new.self front c.in-Some.ensures.front c.in-Some.ensures.left c.in-Some.ensures.ascend in
-    let side : decided strategy (side_at front) ≡ Neither = ap (decided strategy) (sym c.side.ensures) ∙ sym c.decided.ensures ∙ c.in-Neither.is in
+    let side : winning_side strategy (side_at front) ≡ Neither = ap (winning_side strategy) (sym c.side.ensures) ∙ sym c.winning_side.ensures ∙ c.in-Neither.is in
     let path = ap (λ (f : FrontValue). f.path) c.front.view_is in
     let fault : c.in_ok-refusal-in-Neither.field-0 ≡ Conflicts (take 100 (front.path ∷ conflicts_of c.next.new.self)) (length (front.path ∷ conflicts_of c.next.new.self)) =
     c.in_ok-refusal-in-Neither.ensures {u = tt} ∙ ap (λ p. Conflicts (take 100 (p ∷ conflicts_of c.next.new.self)) (length (p ∷ conflicts_of c.next.new.self))) path in
@@ -46,7 +46,7 @@ loop-front-preserved-in_ok-take_source-in-Source c =
     let strategy = c.args.strategy in
     let front = c.in-Some.front in
     let turn = turn_of c.loop-front.sides c.next.new.self front c.in-Some.ensures.front c.in-Some.ensures.left c.in-Some.ensures.ascend in
-    let side : decided strategy (side_at front) ≡ Source = ap (decided strategy) (sym c.side.ensures) ∙ sym c.decided.ensures ∙ c.in-Source.is in
+    let side : winning_side strategy (side_at front) ≡ Source = ap (winning_side strategy) (sym c.side.ensures) ∙ sym c.winning_side.ensures ∙ c.in-Source.is in
     record {
       few = omega (arith, turn_fewer _ _ _ turn, c.loop-front.invariant.few);
       gathered = take_turn _ _ _ turn strategy c.loop-front.changes.items _ _ side c.in_ok-take_source-in-Source.ensures c.loop-front.invariant.gathered;
@@ -61,7 +61,7 @@ loop-front-preserved c =
     let strategy = c.args.strategy in
     let front = c.in-Some.front in
     let turn = turn_of c.loop-front.sides c.next.new.self front c.in-Some.ensures.front c.in-Some.ensures.left c.in-Some.ensures.ascend in
-    let side : decided strategy (side_at front) ≡ Destination = ap (decided strategy) (sym c.side.ensures) ∙ sym c.decided.ensures ∙ c.in-Destination.is in
+    let side : winning_side strategy (side_at front) ≡ Destination = ap (winning_side strategy) (sym c.side.ensures) ∙ sym c.winning_side.ensures ∙ c.in-Destination.is in
     record {
       few = omega (arith, turn_fewer _ _ _ turn, c.loop-front.invariant.few);
       gathered = stay_turn _ _ _ turn strategy c.loop-front.changes.items _ side c.loop-front.invariant.gathered;

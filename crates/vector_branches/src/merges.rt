@@ -9,8 +9,9 @@ use range_file::Cut;
 use serde_json::{Map, Value};
 use std::alloc::Global;
 use std::sync::Arc;
-use vector_files::tree_forms::take_cut;
-use vector_forms::{Case, CaseFault, Form, Verdict, changes_value, map_of, object_of, text_value};
+use vector_forms::{
+    Case, CaseFault, Form, Verdict, changes_value, map_of, object_of, take_cut, text_value,
+};
 
 /// Asks for the merges of three maps.
 pub fn check(alloc: Global, mut case: Case) -> Result<Verdict, CaseFault> {
