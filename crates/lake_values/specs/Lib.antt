@@ -13,3 +13,4 @@ pub mod Pairs
 pub mod Reset
 pub mod Sameness
 pub mod Settings
+pub mod NoteNames

@@ -35,5 +35,5 @@ pub use entry::{Change, Entry, Place, same_entry};
 pub use key_map::KeyMap;
 pub use merge::Side;
 pub use pairs::{Pairs, PairsFault, are_pairs};
-pub use settings::{BranchDays, Deny, HookRule, HookRules, Note, Protection, Rules};
+pub use settings::{BranchDays, Deny, HookRule, HookRules, Note, NoteName, Protection, Rules};
 pub use sorted::has_ascending_keys;

@@ -1,4 +1,6 @@
 //! The settings of a repository: retention, protection and hooks.
+ghost use Rattle.std.specs.Prelude.{◌≡◌};
+ghost use Rattle.lake_values.specs.NoteNames.{note_name};
 
 use lake_base::copying::TryCopy;
 use lake_base::names::RefName;
@@ -100,6 +102,27 @@ pub enum Note {
     Retention(Rules),
     Protection(Protection),
     Hooks(HookRules),
+}
+
+/// Which of the three settings it is.
+#[derive(Clone, Copy, Debug, PartialEq, Eq)]
+pub enum NoteName {
+    Retention,
+    Protection,
+    Hooks,
+}
+
+impl Note {
+    /// Which setting it is. It takes no memory.
+    pub fn name(&self) -> NoteName
+        ensures { result ≡ note_name self.now }
+    {
+        match self {
+            Note::Retention(_) => NoteName::Retention,
+            Note::Protection(_) => NoteName::Protection,
+            Note::Hooks(_) => NoteName::Hooks,
+        }
+    }
 }
 
 impl TryCopy for BranchDays {
