@@ -6,23 +6,23 @@ use Rattle.std.specs.Ordering.{nat_cmp}
 use Rattle.std.specs.Cmp.{eq_by_cmp_equiv}
 use Rattle.std.specs.Cmp.Lexicographic.{nat_list_cmp_total}
 use Rattle.lake_values.specs.declared.entry.Change.{Change}
-use Rattle.lake_model.specs.declared.history.By.{By}
-use Rattle.lake_model.specs.declared.history.HistoryEntry.{HistoryEntry}
-use Rattle.lake_model.specs.declared.history.EntryKind.TheVariants.{TicketTake, TicketDrop, Stage}
+use Rattle.plain_model.specs.declared.history.By.{By}
+use Rattle.plain_model.specs.declared.history.HistoryEntry.{HistoryEntry}
+use Rattle.plain_model.specs.declared.history.EntryKind.TheVariants.{TicketTake, TicketDrop, Stage}
 use Rattle.lake_base.specs.Maps.{ByteMap}
-use Rattle.lake_model.specs.State.{Branch, State, only, fresh, fresh_repo, fresh_branch}
-use Rattle.lake_model.specs.After.{after, replay, put_number, without}
-use Rattle.lake_model.specs.Legal.{Condition, IsLegal, HasTicket}
-use Rattle.lake_model.specs.Reply.{full_refusal, branch_refusal, version_refusal, ◌orelse◌, unless_refused, ticket_reply, drop_reply, stage_reply, look_reply, found_in, shown_by}
-use Rattle.lake_model.specs.declared.reply.Seen.{Seen}
-use Rattle.lake_model.specs.declared.reply.StepFault.{StepFault}
-use Rattle.lake_model.specs.declared.reply.StepFault.TheVariants.{NoRepo, NoRef}
+use Rattle.plain_model.specs.State.{Branch, State, only, fresh, fresh_repo, fresh_branch}
+use Rattle.plain_model.specs.After.{after, replay, put_number, without}
+use Rattle.plain_model.specs.Legal.{Condition, IsLegal, HasTicket}
+use Rattle.plain_model.specs.Reply.{full_refusal, branch_refusal, version_refusal, ◌orelse◌, unless_refused, ticket_reply, drop_reply, stage_reply, look_reply, found_in, shown_by}
+use Rattle.plain_model.specs.declared.reply.Seen.{Seen}
+use Rattle.plain_model.specs.declared.reply.StepFault.{StepFault}
+use Rattle.plain_model.specs.declared.reply.StepFault.TheVariants.{NoRepo, NoRef}
 use Rattle.std.specs.Str.{bytes_eq}
 use Rattle.std.proofs.lemmas.Map.Text.{is_eq-slice_cmp}
 use Rattle.lake_values.specs.Entry.{EntryValue}
-use Rattle.lake_model.proofs.Only.{ties, staged-only, named-only, there-only, refusal-only}
-use Rattle.lake_model.proofs.Refused.{room, there, refused-next}
-use Rattle.lake_model.proofs.Replay.{replay-push, IsLegal-push}
+use Rattle.plain_model.proofs.Only.{ties, staged-only, named-only, there-only, refusal-only}
+use Rattle.plain_model.proofs.Refused.{room, there, refused-next}
+use Rattle.plain_model.proofs.Replay.{replay-push, IsLegal-push}
 
 -- the state of these fields, under a history of so many entries
 abbrev pub plain : ByteMap Change → ℕ → FinMap nat_cmp ℕ → ℕ → State

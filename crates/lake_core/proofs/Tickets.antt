@@ -6,13 +6,13 @@ use Rattle.std.specs.BTreeMap.{is_at}
 use Rattle.std.specs.FinMap.{get, insert, remove, find, from_entries, get-from_entries, get-insert, get-remove, same_map, nat_cmp-IsAntisymmetric}
 use Rattle.std.specs.Ordering.{nat_cmp, eq_by_cmp}
 use Rattle.std.specs.Cmp.{nat_cmp_total, eq_by_cmp_equiv}
-use Rattle.lake_model.specs.declared.history.By.{By}
-use Rattle.lake_model.specs.declared.history.HistoryEntry.{HistoryEntry}
-use Rattle.lake_model.specs.declared.history.EntryKind.TheVariants.{TicketTake}
-use Rattle.lake_model.specs.State.{State, fresh}
-use Rattle.lake_model.specs.After.{replay}
-use Rattle.lake_model.specs.Legal.{HasTicket}
-use Rattle.lake_model.proofs.Replay.{replay-push}
+use Rattle.plain_model.specs.declared.history.By.{By}
+use Rattle.plain_model.specs.declared.history.HistoryEntry.{HistoryEntry}
+use Rattle.plain_model.specs.declared.history.EntryKind.TheVariants.{TicketTake}
+use Rattle.plain_model.specs.State.{State, fresh}
+use Rattle.plain_model.specs.After.{replay}
+use Rattle.plain_model.specs.Legal.{HasTicket}
+use Rattle.plain_model.proofs.Replay.{replay-push}
 
 abbrev seat_of : List (ℕ × ℕ) → ℕ → Option ℕ
 seat_of entries number = lookup (is_at (nat_cmp number)) entries

@@ -1,7 +1,7 @@
 -- The state that a plain lake's fields stand for.
 use Rattle.std.specs.Prelude.{length}
 use Rattle.std.specs.FinMap.{from_entries}
-use Rattle.lake_model.specs.State.{State, only}
+use Rattle.plain_model.specs.State.{State, only}
 use Rattle.lake_core.specs.declared.plain_lake.PlainLake.TheInside.{Inside}
 
 -- the changes on the one branch, the next number, the tickets, and as many entries as the history has

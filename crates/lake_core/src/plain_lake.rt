@@ -2,18 +2,18 @@
 ghost use Rattle.std.specs.Prelude.{◌≡◌, ◌<◌, [], ◌∷◌, ◌++◌, IfOk, OnOk, OnErr, IfSome, MatchResult, Contains, vec_len, vec_capacity};
 ghost use Rattle.std.specs.FinMap.{get, insert, from_entries};
 ghost use Rattle.std.specs.Ordering.{nat_cmp};
-ghost use Rattle.lake_model.specs.State.{fresh};
-ghost use Rattle.lake_model.specs.After.{replay, put_number, without};
-ghost use Rattle.lake_model.specs.Legal.{IsLegal, HasTicket, ticket_numbers};
-ghost use Rattle.lake_model.specs.Reply.{Gives, look_reply, versions_reply, ticket_reply, drop_reply, stage_reply, found_in, shown_by, full_refusal, branch_refusal, version_refusal};
-ghost use Rattle.lake_model.specs.declared.history.EntryKind.TheVariants.{TicketTake, TicketDrop, Stage};
+ghost use Rattle.plain_model.specs.State.{fresh};
+ghost use Rattle.plain_model.specs.After.{replay, put_number, without};
+ghost use Rattle.plain_model.specs.Legal.{IsLegal, HasTicket, ticket_numbers};
+ghost use Rattle.plain_model.specs.Reply.{Gives, look_reply, versions_reply, ticket_reply, drop_reply, stage_reply, found_in, shown_by, full_refusal, branch_refusal, version_refusal};
+ghost use Rattle.plain_model.specs.declared.history.EntryKind.TheVariants.{TicketTake, TicketDrop, Stage};
 
 use lake_base::{NoMemory, Path, RefName, RepoName, TryCopy};
-use lake_model::history::HISTORY_LIMIT;
-use lake_model::{
+use lake_values::{Change, Changes, Entry, Place};
+use plain_model::history::HISTORY_LIMIT;
+use plain_model::{
     By, EntryKind, FIRST_BRANCH, FIRST_REPO, HistoryEntry, Seen, StepFault, Versions,
 };
-use lake_values::{Change, Changes, Entry, Place};
 use std::alloc::Global;
 use std::collections::BTreeMap;
 use std::marker::Model;
@@ -36,10 +36,10 @@ pub struct PlainLake {
 
 impl Model for PlainLake {
     ghost use Rattle.std.specs.Prelude.{◌≡◌, List};
-    ghost use Rattle.lake_model.specs.declared.history.HistoryEntry.{HistoryEntry};
-    ghost use Rattle.lake_model.specs.State.{fresh};
-    ghost use Rattle.lake_model.specs.After.{replay};
-    ghost use Rattle.lake_model.specs.Legal.{IsLegal};
+    ghost use Rattle.plain_model.specs.declared.history.HistoryEntry.{HistoryEntry};
+    ghost use Rattle.plain_model.specs.State.{fresh};
+    ghost use Rattle.plain_model.specs.After.{replay};
+    ghost use Rattle.plain_model.specs.Legal.{IsLegal};
 
     ghost Value = { List HistoryEntry };
 

@@ -1,8 +1,8 @@
 //! What a plain lake answers and shows after a few steps.
 use crate::PlainLake;
 use lake_base::{Digest, NameFault, Path, RefName, RepoName, Text};
-use lake_model::{By, StepFault, Versions};
 use lake_values::{Change, Entry, Pairs, Place};
+use plain_model::{By, StepFault, Versions};
 use std::alloc::Global;
 use std::test::Fail;
 

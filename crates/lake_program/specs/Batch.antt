@@ -10,15 +10,15 @@ use Rattle.lake_values.specs.Entry.{EntryValue}
 use Rattle.lake_values.specs.declared.entry.Place.TheVariants.{Own}
 use Rattle.lake_values.specs.declared.entry.Change.TheVariants.{Put}
 use Rattle.block_store.specs.Blocks.{HeldObjects}
-use Rattle.lake_model.specs.declared.history.HistoryEntry.{HistoryEntry}
-use Rattle.lake_model.specs.declared.history.EntryKind.{EntryKind}
-use Rattle.lake_model.specs.declared.history.EntryKind.TheVariants.{TicketTake, TicketDrop, Stage}
-use Rattle.lake_model.specs.declared.reply.Seen.{Seen}
-use Rattle.lake_model.specs.declared.reply.Versions.{Versions}
-use Rattle.lake_model.specs.declared.reply.StepFault.{StepFault}
-use Rattle.lake_model.specs.State.{State, fresh, fresh_repo, fresh_branch}
-use Rattle.lake_model.specs.After.{own_number, replay}
-use Rattle.lake_model.specs.Reply.{look_reply, versions_reply, ticket_reply, drop_reply, stage_reply}
+use Rattle.plain_model.specs.declared.history.HistoryEntry.{HistoryEntry}
+use Rattle.plain_model.specs.declared.history.EntryKind.{EntryKind}
+use Rattle.plain_model.specs.declared.history.EntryKind.TheVariants.{TicketTake, TicketDrop, Stage}
+use Rattle.plain_model.specs.declared.reply.Seen.{Seen}
+use Rattle.plain_model.specs.declared.reply.Versions.{Versions}
+use Rattle.plain_model.specs.declared.reply.StepFault.{StepFault}
+use Rattle.plain_model.specs.State.{State, fresh, fresh_repo, fresh_branch}
+use Rattle.plain_model.specs.After.{own_number, replay}
+use Rattle.plain_model.specs.Reply.{look_reply, versions_reply, ticket_reply, drop_reply, stage_reply}
 use Rattle.lake_program.specs.Command.{Request, Upload, Cat, LineValue, Skipped, NotBuilt, Asks, line_value}
 use Rattle.lake_program.specs.Text.{not_built_text, too_long_text, upload_text, no_path_text, lost_text, refusal_text}
 

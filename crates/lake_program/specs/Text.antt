@@ -2,8 +2,8 @@
 use Rattle.std.specs.Prelude.{ℕ, List, [], ◌∷◌, ◌++◌, codes}
 use Rattle.std.specs.Fmt.{decimal}
 use Rattle.lake_base.specs.Digest.{encode_lower}
-use Rattle.lake_model.specs.declared.reply.StepFault.{StepFault}
-use Rattle.lake_model.specs.declared.reply.StepFault.TheVariants.{HistoryFull, NoRepo, NoRef, Changed, NoMemory}
+use Rattle.plain_model.specs.declared.reply.StepFault.{StepFault}
+use Rattle.plain_model.specs.declared.reply.StepFault.TheVariants.{HistoryFull, NoRepo, NoRef, Changed, NoMemory}
 
 -- a text and the end of its line
 abbrev pub line : List ℕ → List ℕ

@@ -2,7 +2,7 @@
 ghost use Rattle.std.specs.Prelude.{◌≡◌, ◌≢◌, ◌≤◌, ◌<◌, ◌^◌, ◌⊎◌, IfSome, IsSome, IsNone, IfOk, length};
 ghost use Rattle.lake_base.specs.Outside.{Rose};
 ghost use Rattle.lake_base.specs.declared.limits.TheConstants.{PATH_LIMIT};
-ghost use Rattle.lake_model.specs.declared.history.TheConstants.{HISTORY_LIMIT};
+ghost use Rattle.plain_model.specs.declared.history.TheConstants.{HISTORY_LIMIT};
 ghost use Rattle.lake_program.specs.declared.limits.TheConstants.{LINE_LIMIT};
 ghost use Rattle.lake_program.specs.Words.{timing_of};
 ghost use Rattle.lake_program.specs.Outcome.{Outcome};

@@ -1,9 +1,9 @@
 //! The requests of one client on a lake in memory.
 ghost use Rattle.std.specs.Prelude.{◌≡◌, ◌≢◌, ◌+◌, ◌<◌, ◌^◌, false, length, option_map, Err, IfOk, IfErr, OnOk, OnErr};
 ghost use Rattle.lake_base.specs.Digest.{sha256};
-ghost use Rattle.lake_model.specs.State.{fresh_repo, fresh_branch};
-ghost use Rattle.lake_model.specs.Legal.{HasTicket};
-ghost use Rattle.lake_model.specs.Reply.{look_reply, ticket_reply, drop_reply};
+ghost use Rattle.plain_model.specs.State.{fresh_repo, fresh_branch};
+ghost use Rattle.plain_model.specs.Legal.{HasTicket};
+ghost use Rattle.plain_model.specs.Reply.{look_reply, ticket_reply, drop_reply};
 ghost use Rattle.lake_values.specs.declared.entry.Change.TheVariants.{Put};
 ghost use Rattle.lake_program.specs.Text.{refusal_text, upload_text};
 ghost use Rattle.lake_program.specs.Batch.{entry_of};
@@ -13,8 +13,8 @@ use crate::text::{lost_text, no_path_text, refusal_text, upload_text};
 use block_store::{Blocks, SureBlocks};
 use lake_base::{Digest, NameFault, NoMemory, Path, RefName, RepoName, Text, Trouble};
 use lake_core::PlainLake;
-use lake_model::{By, FIRST_BRANCH, FIRST_REPO, StepFault};
 use lake_values::{Change, Entry, Pairs, Place};
+use plain_model::{By, FIRST_BRANCH, FIRST_REPO, StepFault};
 use std::alloc::Global;
 
 // How an uploaded text is kept.

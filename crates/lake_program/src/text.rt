@@ -3,7 +3,7 @@ ghost use Rattle.std.specs.Prelude.{◌≡◌, ◌++◌, IfOk};
 ghost use Rattle.lake_program.specs.Text.{upload_text, no_path_text, lost_text, refusal_text};
 
 use lake_base::{Digest, NoMemory, Path};
-use lake_model::StepFault;
+use plain_model::StepFault;
 use std::alloc::Global;
 
 /// A line of no form that is built yet.

@@ -1,9 +1,9 @@
 use Rattle.std.proofs.Common.{◌≡◌, ◌++◌, ◌∷◌, [], refl, subst}
 use Rattle.std.specs.FinMap.{from_entries}
-use Rattle.lake_model.specs.declared.history.HistoryEntry.{HistoryEntry}
-use Rattle.lake_model.specs.declared.history.EntryKind.TheVariants.{TicketDrop}
-use Rattle.lake_model.specs.State.{fresh}
-use Rattle.lake_model.specs.After.{replay}
+use Rattle.plain_model.specs.declared.history.HistoryEntry.{HistoryEntry}
+use Rattle.plain_model.specs.declared.history.EntryKind.TheVariants.{TicketDrop}
+use Rattle.plain_model.specs.State.{fresh}
+use Rattle.plain_model.specs.After.{replay}
 use Rattle.lake_core.proofs.Steps.{Leads, dropped, counted, drop_given}
 use Rattle.lake_core.proofs.plain_lake.PlainLake.drop_ticket.Goals as goal
 

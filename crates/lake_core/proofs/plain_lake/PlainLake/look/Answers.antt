@@ -1,6 +1,6 @@
 use Rattle.std.proofs.Common.{ap, ◌∙◌, sym}
-use Rattle.lake_model.specs.State.{State, fresh}
-use Rattle.lake_model.specs.After.{replay}
+use Rattle.plain_model.specs.State.{State, fresh}
+use Rattle.plain_model.specs.After.{replay}
 use Rattle.lake_core.proofs.Steps.{look_given}
 use Rattle.lake_core.proofs.plain_lake.PlainLake.look.Goals as goal
 

@@ -1,9 +1,9 @@
 use Rattle.std.proofs.Common.{◌≡◌, ◌++◌, ◌∷◌, [], refl, ap, ◌∙◌, subst}
 use Rattle.std.specs.FinMap.{from_entries}
-use Rattle.lake_model.specs.declared.history.HistoryEntry.{HistoryEntry}
-use Rattle.lake_model.specs.declared.history.EntryKind.TheVariants.{Stage}
-use Rattle.lake_model.specs.State.{State, fresh, only}
-use Rattle.lake_model.specs.After.{replay, without}
+use Rattle.plain_model.specs.declared.history.HistoryEntry.{HistoryEntry}
+use Rattle.plain_model.specs.declared.history.EntryKind.TheVariants.{Stage}
+use Rattle.plain_model.specs.State.{State, fresh, only}
+use Rattle.plain_model.specs.After.{replay, without}
 use Rattle.lake_core.proofs.Steps.{Leads, staged, counted, stage_given, staged_shows}
 use Rattle.lake_core.proofs.plain_lake.PlainLake.stage.Goals as goal
 

@@ -1,13 +1,13 @@
 use Rattle.std.proofs.Common.{◌≡◌, ◌<◌, ◌≤◌, ◌++◌, ◌∷◌, [], length, refl, ap, sym, subst, arith}
 use Rattle.std.specs.FinMap.{from_entries}
-use Rattle.lake_model.specs.declared.history.HistoryEntry.{HistoryEntry}
-use Rattle.lake_model.specs.declared.history.EntryKind.TheVariants.{TicketTake}
-use Rattle.lake_model.specs.State.{State, fresh}
-use Rattle.lake_model.specs.After.{replay}
-use Rattle.lake_model.specs.Legal.{HasTicket}
-use Rattle.lake_model.proofs.Refused.{room}
-use Rattle.lake_model.proofs.Numbers.{given_below, next_within}
-use Rattle.lake_model.proofs.Replay.{entries-fresh, HasTicket-taken}
+use Rattle.plain_model.specs.declared.history.HistoryEntry.{HistoryEntry}
+use Rattle.plain_model.specs.declared.history.EntryKind.TheVariants.{TicketTake}
+use Rattle.plain_model.specs.State.{State, fresh}
+use Rattle.plain_model.specs.After.{replay}
+use Rattle.plain_model.specs.Legal.{HasTicket}
+use Rattle.plain_model.proofs.Refused.{room}
+use Rattle.plain_model.proofs.Numbers.{given_below, next_within}
+use Rattle.plain_model.proofs.Replay.{entries-fresh, HasTicket-taken}
 use Rattle.lake_core.proofs.Steps.{Leads, taken, counted, ticket_given}
 use Rattle.lake_core.proofs.plain_lake.PlainLake.take_ticket.Goals as goal
 

@@ -1,7 +1,7 @@
 use Rattle.std.proofs.Common.{true, false, refl, ap, ◌∙◌, sym}
-use Rattle.lake_model.specs.State.{fresh_repo, fresh_branch}
-use Rattle.lake_model.specs.State.{State, fresh}
-use Rattle.lake_model.specs.After.{replay}
+use Rattle.plain_model.specs.State.{fresh_repo, fresh_branch}
+use Rattle.plain_model.specs.State.{State, fresh}
+use Rattle.plain_model.specs.After.{replay}
 use Rattle.lake_core.proofs.Steps.{tie_from, names_tell}
 use Rattle.lake_core.proofs.plain_lake.PlainLake.test_names.Goals as goal
 

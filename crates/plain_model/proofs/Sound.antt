@@ -5,15 +5,15 @@ use Rattle.std.specs.FinMap.{FinMap, get, remove, empty, get-insert, get-remove,
 use Rattle.std.specs.Ordering.{nat_cmp, eq_by_cmp}
 use Rattle.std.specs.Cmp.{nat_cmp_total, Equal-is}
 use Rattle.lake_values.specs.declared.entry.Change.{Change}
-use Rattle.lake_model.specs.declared.history.HistoryEntry.{HistoryEntry}
-use Rattle.lake_model.specs.declared.history.EntryKind.{EntryKind}
-use Rattle.lake_model.specs.declared.history.EntryKind.TheVariants.{TicketTake, TicketDrop, Stage}
-use Rattle.lake_model.specs.State.{Branch, State, branch_of, fresh}
-use Rattle.lake_model.specs.After.{put_number, without, after_kind, after}
-use Rattle.lake_model.specs.Legal.{Allows, Condition, HasTicket, IsSound}
+use Rattle.plain_model.specs.declared.history.HistoryEntry.{HistoryEntry}
+use Rattle.plain_model.specs.declared.history.EntryKind.{EntryKind}
+use Rattle.plain_model.specs.declared.history.EntryKind.TheVariants.{TicketTake, TicketDrop, Stage}
+use Rattle.plain_model.specs.State.{Branch, State, branch_of, fresh}
+use Rattle.plain_model.specs.After.{put_number, without, after_kind, after}
+use Rattle.plain_model.specs.Legal.{Allows, Condition, HasTicket, IsSound}
 use Rattle.std.specs.Cmp.Lexicographic.{slice_cmp}
-use Rattle.lake_model.proofs.Change.{staged_cases}
-use Rattle.lake_model.proofs.Only.{only_branch}
+use Rattle.plain_model.proofs.Change.{staged_cases}
+use Rattle.plain_model.proofs.Only.{only_branch}
 
 abbrev TicketsBelow : State → ℕ → Type 0
 TicketsBelow state bound = (number : ℕ) → IsSome (get state.tickets number) → number < bound

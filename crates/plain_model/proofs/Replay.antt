@@ -1,14 +1,14 @@
 -- A history with one more entry.
 use Rattle.std.proofs.Common.{◌≡◌, ℕ, ◌+◌, List, [], ◌∷◌, ◌++◌, length, cond, refl, ap, ◌∙◌, arith}
-use Rattle.lake_model.specs.declared.history.HistoryEntry.{HistoryEntry}
+use Rattle.plain_model.specs.declared.history.HistoryEntry.{HistoryEntry}
 use Rattle.std.specs.Prelude.{Some}
 use Rattle.std.specs.FinMap.{get, get-insert}
 use Rattle.std.specs.Cmp.{nat_cmp_total, eq_by_cmp_equiv}
-use Rattle.lake_model.specs.declared.history.By.{By}
-use Rattle.lake_model.specs.declared.history.EntryKind.TheVariants.{TicketTake}
-use Rattle.lake_model.specs.State.{State, fresh}
-use Rattle.lake_model.specs.After.{after, replay}
-use Rattle.lake_model.specs.Legal.{Allows, IsLegal, HasTicket}
+use Rattle.plain_model.specs.declared.history.By.{By}
+use Rattle.plain_model.specs.declared.history.EntryKind.TheVariants.{TicketTake}
+use Rattle.plain_model.specs.State.{State, fresh}
+use Rattle.plain_model.specs.After.{after, replay}
+use Rattle.plain_model.specs.Legal.{Allows, IsLegal, HasTicket}
 
 -- the last entry is replayed last
 pub replay-push : (state : State) (entries : List HistoryEntry) (entry : HistoryEntry) → replay state (entries ++ entry ∷ []) ≡ after (replay state entries) entry

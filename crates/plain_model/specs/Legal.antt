@@ -2,11 +2,11 @@
 use Rattle.std.specs.Prelude.{◌≡◌, ◌<◌, ℕ, List, [], ◌∷◌, ◌++◌, Some, IsSome, IfSome}
 use Rattle.std.specs.FinMap.{get}
 use Rattle.lake_values.specs.declared.entry.Change.{Change}
-use Rattle.lake_model.specs.declared.history.HistoryEntry.{HistoryEntry}
-use Rattle.lake_model.specs.declared.history.EntryKind.{EntryKind}
-use Rattle.lake_model.specs.declared.history.EntryKind.TheVariants.{TicketTake, TicketDrop, Stage}
-use Rattle.lake_model.specs.State.{Branch, State, branch_of}
-use Rattle.lake_model.specs.After.{put_number, after}
+use Rattle.plain_model.specs.declared.history.HistoryEntry.{HistoryEntry}
+use Rattle.plain_model.specs.declared.history.EntryKind.{EntryKind}
+use Rattle.plain_model.specs.declared.history.EntryKind.TheVariants.{TicketTake, TicketDrop, Stage}
+use Rattle.plain_model.specs.State.{Branch, State, branch_of}
+use Rattle.plain_model.specs.After.{put_number, after}
 
 -- the number is on a ticket of this seat
 abbrev pub HasTicket : State → ℕ → ℕ → Type 0

@@ -8,11 +8,11 @@ use Rattle.std.specs.Ordering.{nat_cmp, eq_by_cmp}
 use Rattle.std.specs.Cmp.Lexicographic.{slice_cmp, nat_list_cmp_total}
 use Rattle.lake_values.specs.declared.entry.Change.{Change}
 use Rattle.lake_base.specs.Maps.{ByteMap}
-use Rattle.lake_model.specs.State.{Branch, Repository, State, branch_of, only, fresh_repo, fresh_branch}
-use Rattle.lake_model.specs.After.{changed_at, staged_in}
-use Rattle.lake_model.specs.Reply.{branch_refusal}
-use Rattle.lake_model.specs.declared.reply.StepFault.TheVariants.{NoRepo, NoRef}
-use Rattle.lake_model.specs.declared.reply.StepFault.{StepFault}
+use Rattle.plain_model.specs.State.{Branch, Repository, State, branch_of, only, fresh_repo, fresh_branch}
+use Rattle.plain_model.specs.After.{changed_at, staged_in}
+use Rattle.plain_model.specs.Reply.{branch_refusal}
+use Rattle.plain_model.specs.declared.reply.StepFault.TheVariants.{NoRepo, NoRef}
+use Rattle.plain_model.specs.declared.reply.StepFault.{StepFault}
 
 -- names that tie
 abbrev pub ties : List ℕ → List ℕ → Bool

@@ -6,13 +6,13 @@ use Rattle.std.specs.Ordering.{nat_cmp}
 use Rattle.std.specs.Cmp.{nat_cmp_is}
 use Rattle.std.specs.declared.cmp.Ordering.TheVariants.{Less}
 use Rattle.std.proofs.lemmas.List.Elements.{All-from_recursion, All-contains}
-use Rattle.lake_model.specs.declared.history.By.{By}
-use Rattle.lake_model.specs.declared.history.HistoryEntry.{HistoryEntry}
-use Rattle.lake_model.specs.declared.history.EntryKind.{EntryKind}
-use Rattle.lake_model.specs.declared.history.EntryKind.TheVariants.{TicketTake, TicketDrop, Stage}
-use Rattle.lake_model.specs.State.{State, fresh}
-use Rattle.lake_model.specs.After.{after_kind, after, replay}
-use Rattle.lake_model.specs.Legal.{Condition, IsLegal, ticket_numbers}
+use Rattle.plain_model.specs.declared.history.By.{By}
+use Rattle.plain_model.specs.declared.history.HistoryEntry.{HistoryEntry}
+use Rattle.plain_model.specs.declared.history.EntryKind.{EntryKind}
+use Rattle.plain_model.specs.declared.history.EntryKind.TheVariants.{TicketTake, TicketDrop, Stage}
+use Rattle.plain_model.specs.State.{State, fresh}
+use Rattle.plain_model.specs.After.{after_kind, after, replay}
+use Rattle.plain_model.specs.Legal.{Condition, IsLegal, ticket_numbers}
 
 abbrev From : ℕ → List ℕ → Type 0
 From low numbers = AllByRecursion (λ n. low ≤ n) numbers

@@ -7,11 +7,11 @@ use Rattle.lake_values.specs.declared.entry.Place.{Place}
 use Rattle.lake_values.specs.declared.entry.Place.TheVariants.{Own, External}
 use Rattle.lake_values.specs.declared.entry.Change.{Change}
 use Rattle.lake_values.specs.declared.entry.Change.TheVariants.{Put, Delete}
-use Rattle.lake_model.specs.declared.history.HistoryEntry.{HistoryEntry}
-use Rattle.lake_model.specs.declared.history.EntryKind.{EntryKind}
-use Rattle.lake_model.specs.declared.history.EntryKind.TheVariants.{TicketTake, TicketDrop, Stage}
+use Rattle.plain_model.specs.declared.history.HistoryEntry.{HistoryEntry}
+use Rattle.plain_model.specs.declared.history.EntryKind.{EntryKind}
+use Rattle.plain_model.specs.declared.history.EntryKind.TheVariants.{TicketTake, TicketDrop, Stage}
 use Rattle.lake_base.specs.Maps.{ByteMap}
-use Rattle.lake_model.specs.State.{Repository, State}
+use Rattle.plain_model.specs.State.{Repository, State}
 
 -- the number of an object of the lake's own
 abbrev pub own_number : Place → Option ℕ

@@ -3,10 +3,10 @@ use Rattle.std.proofs.Common.{◌≡◌, ◌<◌, ℕ, Bool, true, false, cond, 
 use Rattle.std.specs.Prelude.{Option, Some, None, Result, Err, IsSome, is_some}
 use Rattle.std.proofs.lemmas.Bool.Decides.{nat_tests}
 use Rattle.std.specs.FinMap.{contains_key}
-use Rattle.lake_model.specs.declared.reply.StepFault.{StepFault}
-use Rattle.lake_model.specs.declared.reply.StepFault.TheVariants.{HistoryFull, NoRepo, NoRef, Changed, NoMemory}
-use Rattle.lake_model.specs.State.{State, branch_of}
-use Rattle.lake_model.specs.Reply.{Gives, full_refusal, branch_refusal, ◌orelse◌, unless_refused}
+use Rattle.plain_model.specs.declared.reply.StepFault.{StepFault}
+use Rattle.plain_model.specs.declared.reply.StepFault.TheVariants.{HistoryFull, NoRepo, NoRef, Changed, NoMemory}
+use Rattle.plain_model.specs.State.{State, branch_of}
+use Rattle.plain_model.specs.Reply.{Gives, full_refusal, branch_refusal, ◌orelse◌, unless_refused}
 
 -- a refusal that is the reply is given
 pub Gives-err : {X : Type 0} (fault : StepFault) (reply : Result X StepFault) → reply ≡ Err fault → Gives (Err fault) reply

@@ -1,10 +1,10 @@
 //! What holds of every history and every state. Each law is the contract of a function that does nothing.
 ghost use Rattle.std.specs.Prelude.{◌≡◌, List};
-ghost use Rattle.lake_model.specs.declared.history.HistoryEntry.{HistoryEntry};
-ghost use Rattle.lake_model.specs.declared.history.TheConstants.{HISTORY_LIMIT};
-ghost use Rattle.lake_model.specs.State.{State, fresh};
-ghost use Rattle.lake_model.specs.After.{after, replay};
-ghost use Rattle.lake_model.specs.Legal.{Allows, IsLegal, IsSound, ticket_numbers};
+ghost use Rattle.plain_model.specs.declared.history.HistoryEntry.{HistoryEntry};
+ghost use Rattle.plain_model.specs.declared.history.TheConstants.{HISTORY_LIMIT};
+ghost use Rattle.plain_model.specs.State.{State, fresh};
+ghost use Rattle.plain_model.specs.After.{after, replay};
+ghost use Rattle.plain_model.specs.Legal.{Allows, IsLegal, IsSound, ticket_numbers};
 ghost use Rattle.std.specs.List.Sorted.{IsStrictlySortedBy};
 ghost use Rattle.std.specs.Ordering.{nat_cmp};
 

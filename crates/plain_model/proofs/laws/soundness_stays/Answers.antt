@@ -1,5 +1,5 @@
-use Rattle.lake_model.proofs.Sound.{IsSound-fresh, IsSound-after}
-use Rattle.lake_model.proofs.laws.soundness_stays.Goals as goal
+use Rattle.plain_model.proofs.Sound.{IsSound-fresh, IsSound-after}
+use Rattle.plain_model.proofs.laws.soundness_stays.Goals as goal
 
 pub returns-clause-fresh : goal.returns-clause-fresh
 returns-clause-fresh c = IsSound-fresh

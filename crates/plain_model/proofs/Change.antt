@@ -8,8 +8,8 @@ use Rattle.std.specs.Cmp.{Equal-is}
 use Rattle.std.specs.Cmp.Lexicographic.{slice_cmp, nat_list_cmp_total}
 use Rattle.lake_values.specs.declared.entry.Change.{Change}
 use Rattle.lake_base.specs.Maps.{ByteMap}
-use Rattle.lake_model.specs.State.{Branch, Repository, State, branch_of}
-use Rattle.lake_model.specs.After.{changed_at, staged_in}
+use Rattle.plain_model.specs.State.{Branch, Repository, State, branch_of}
+use Rattle.plain_model.specs.After.{changed_at, staged_in}
 
 -- an answer of `and_then` came of a value
 and_then_some : {X Y : Type 0} (f : X → Option Y) (o : Option X) (y : Y) → option_and_then f o ≡ Some y → (x : X) × (o ≡ Some x) × (f x ≡ Some y)

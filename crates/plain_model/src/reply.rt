@@ -1,7 +1,7 @@
 //! What a step of the lake answers.
 
 ghost use Rattle.std.specs.Prelude.{◌≡◌};
-ghost use Rattle.lake_model.specs.declared.reply.StepFault.TheVariants.{NoMemory as step_no_memory};
+ghost use Rattle.plain_model.specs.declared.reply.StepFault.TheVariants.{NoMemory as step_no_memory};
 
 use lake_base::NoMemory;
 use lake_values::Entry;

@@ -4,11 +4,11 @@ use Rattle.std.specs.FinMap.{get, contains_key}
 use Rattle.lake_values.specs.Entry.{EntryValue}
 use Rattle.lake_values.specs.declared.entry.Change.{Change}
 use Rattle.lake_values.specs.declared.entry.Change.TheVariants.{Put, Delete}
-use Rattle.lake_model.specs.declared.reply.Seen.{Seen}
-use Rattle.lake_model.specs.declared.reply.Versions.{Versions}
-use Rattle.lake_model.specs.declared.reply.StepFault.{StepFault}
-use Rattle.lake_model.specs.declared.reply.StepFault.TheVariants.{HistoryFull, NoRepo, NoRef, Changed, NoMemory}
-use Rattle.lake_model.specs.State.{State, branch_of}
+use Rattle.plain_model.specs.declared.reply.Seen.{Seen}
+use Rattle.plain_model.specs.declared.reply.Versions.{Versions}
+use Rattle.plain_model.specs.declared.reply.StepFault.{StepFault}
+use Rattle.plain_model.specs.declared.reply.StepFault.TheVariants.{HistoryFull, NoRepo, NoRef, Changed, NoMemory}
+use Rattle.plain_model.specs.State.{State, branch_of}
 
 -- a step answers what the one-thread lake does, unless memory ran out
 abbrev pub Gives : {X : Type 0} → Result X StepFault → Result X StepFault → Type 0
