@@ -1,13 +1,8 @@
 pub mod AncestryBaseLemmas
 pub mod AncestryGraphLemmas
 pub mod AncestryReachLemmas
-pub mod FilesLemmas
-pub mod FilesLineLemmas
 pub mod HooksLemmas
 pub mod MergeLemmas
 pub mod OrderPlaceLemmas
 pub mod RetentionKeptLemmas
 pub mod RetentionLemmas
-pub mod SegmentLastLemmas
-pub mod SegmentRunLemmas
-pub mod SegmentsLemmas

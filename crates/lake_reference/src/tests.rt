@@ -1,9 +1,7 @@
 mod ancestry;
-mod files;
 mod hooks;
 mod merge;
 mod retention;
-mod segments;
 
 use lake_base::digest::Digest;
 use lake_base::names::Path;

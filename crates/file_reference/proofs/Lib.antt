@@ -1,0 +1,5 @@
+pub mod FilesLemmas
+pub mod FilesLineLemmas
+pub mod SegmentLastLemmas
+pub mod SegmentRunLemmas
+pub mod SegmentsLemmas
