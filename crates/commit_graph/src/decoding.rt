@@ -50,9 +50,9 @@ fn read_whole(alloc: Global, bytes: &[u8]) -> Result<CommitRecord, CommitFault>
     Ok(commit)
 }
 
-// The fields of a commit behind its version.
+/// The fields of a commit behind its version, and the bytes after them.
 #[tactic(auto, unfolding(crate::specs::Reading::read_commit))]
-fn read_commit(alloc: Global, bytes: &[u8]) -> Result<(CommitRecord, &[u8]), FieldFault>
+pub fn read_commit(alloc: Global, bytes: &[u8]) -> Result<(CommitRecord, &[u8]), FieldFault>
     ensures { ReadsAs (λ x. (x.0, x.1.now)) result (read_commit bytes.now) }
 {
     let (meta_range, rest) = read_digest(bytes)?;

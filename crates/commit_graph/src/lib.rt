@@ -24,7 +24,7 @@ pub mod log;
 mod tests;
 pub mod threads;
 
-pub use decoding::commit_read;
+pub use decoding::{commit_read, read_commit};
 pub use encoding::{commit_bytes, laws_of_commits};
 pub use expression::{ExprFault, Move, RefExpr};
 pub use fault::{CommitFault, GraphFault};

@@ -1,8 +1,8 @@
-//! Tables of trees, whose rows have 34 bytes each: their ranges, look-ups and cursors, the trees of a merge, and each
-//! fault of a reading.
+//! Tables of trees, whose rows have 34 bytes each: their ranges, look-ups and cursors, the trees of a merge, and files
+//! that are lost, changed or cut otherwise. The vectors of `check_vectors` have every other fault of a reading.
 ghost use Rattle.std.specs.Prelude.{◌<◌};
 
-use crate::{EntryCursor, File, MetaFault, Tree, TreeFault, Trio, read_metarange};
+use crate::{EntryCursor, File, Tree, TreeFault, Trio};
 use lake_base::digest::Digest;
 use lake_base::names::Path;
 use lake_base::sequence::Sequence;
@@ -10,7 +10,7 @@ use lake_format::entry_read;
 use lake_values::changes::Changes;
 use lake_values::entry::Change;
 use lake_values::key_map::KeyMap;
-use range_file::{Cut, RangeFault, USUAL_CUT};
+use range_file::Cut;
 use std::alloc::{AllocError, Global};
 use std::sync::Arc;
 use std::test::Fail;
@@ -18,10 +18,6 @@ use std::test::Fail;
 // The object of 5 bytes at `s3://x`, with no checksum, content type or metadata.
 const ENTRY: &[u8] =
     b"\x01\x00\x06s3://x\x00\x00\x00\x00\x00\x00\x00\x00\x00\x05\x00\x00\x00\x00\x00\x00\x00\x00\x00\x00\x00\x00";
-
-// The range of it under `a`.
-const ONE: &[u8] =
-    b"\x01\x00\x00\x00\x01\x00\x01a\x01\x00\x06s3://x\x00\x00\x00\x00\x00\x00\x00\x00\x00\x05\x00\x00\x00\x00\x00\x00\x00\x00\x00\x00\x00\x00";
 
 // It at each path of one byte.
 fn map_of(alloc: Global, paths: &[u8]) -> Result<KeyMap, Fail> {
@@ -50,7 +46,7 @@ fn lens(alloc: Global, tree: &Tree) -> Result<Vec<usize>, Fail> {
 }
 
 // Paths, the most bytes of rows, and the bytes of the metarange and of each range: 5, and 34 for each row.
-const CUTS: [(&[u8], u64, &[usize]); 5] = [
+static CUTS: [(&[u8], u64, &[usize]); 5] = [
     (b"", 1048576, &[5]),
     (b"abz", 1048576, &[47, 107]),
     (b"abz", 68, &[89, 73, 39]),
@@ -60,9 +56,9 @@ const CUTS: [(&[u8], u64, &[usize]); 5] = [
 
 #[test]
 fn trees_are_cut(rt: HostRuntime) -> Result<(), Fail> {
-    for (paths, max_bytes, files) in CUTS {
-        let tree = tree_of(rt.alloc(), paths, max_bytes)?;
-        assert!(rt; lens(rt.alloc(), &tree)?.as_slice() == files);
+    for (paths, max_bytes, files) in &CUTS {
+        let tree = tree_of(rt.alloc(), paths, *max_bytes)?;
+        assert!(rt; lens(rt.alloc(), &tree)?.as_slice() == *files);
     }
     Ok(())
 }
@@ -88,7 +84,7 @@ fn paths_above(alloc: Global, tree: &Tree, after: Option<&Path>) -> Result<Vec<u
 }
 
 // A path, whether `a`, `b` or `z` is it, and those above it.
-const PATHS: [(&[u8], bool, &[u8]); 6] = [
+static PATHS: [(&[u8], bool, &[u8]); 6] = [
     (b"Z", false, b"abz"),
     (b"a", true, b"bz"),
     (b"aa", false, b"bz"),
@@ -103,17 +99,17 @@ fn paths_are_found_and_passed(rt: HostRuntime) -> Result<(), Fail> {
     for max_bytes in [68, 67] {
         let tree = tree_of(alloc, b"abz", max_bytes)?;
         assert!(rt; paths_above(alloc, &tree, None)?.as_slice() == b"abz".as_slice());
-        for (path, is_there, above) in PATHS {
+        for (path, is_there, above) in &PATHS {
             let path = Path::read(alloc, path)?;
-            assert_eq!(rt; tree.get(&path).is_some(), is_there);
-            assert!(rt; paths_above(alloc, &tree, Some(&path))?.as_slice() == above);
+            assert_eq!(rt; tree.get(&path).is_some(), *is_there);
+            assert!(rt; paths_above(alloc, &tree, Some(&path))?.as_slice() == *above);
         }
     }
     Ok(())
 }
 
 // Base, source and destination by their paths: all ranges are shared, the first is, and none is.
-const TRIOS: [[&[u8]; 3]; 4] = [
+static TRIOS: [[&[u8]; 3]; 4] = [
     [b"abz", b"abz", b"abz"],
     [b"abz", b"aby", b"abyz"],
     [b"a", b"b", b"z"],
@@ -123,7 +119,7 @@ const TRIOS: [[&[u8]; 3]; 4] = [
 #[test]
 fn trees_of_a_merge_agree(rt: HostRuntime) -> Result<(), Fail> {
     let alloc = rt.alloc();
-    for [base, source, dest] in TRIOS {
+    for [base, source, dest] in &TRIOS {
         let base = tree_of(alloc, base, 68)?;
         let source = tree_of(alloc, source, 68)?;
         let dest = tree_of(alloc, dest, 68)?;
@@ -236,88 +232,4 @@ fn a_file_that_is_lost_or_changed_is_told(rt: HostRuntime) -> Result<(), Fail> {
 fn file(alloc: Global, name: Digest, bytes: &[u8]) -> Result<File, Fail> {
     let bytes = Sequence::of(Vec::from_slice(alloc, bytes)?);
     Ok(File { name, bytes })
-}
-
-// A metarange that tells of the range of these bytes, and these four of its count and its paths of one byte.
-fn metarange_of(alloc: Global, range: &[u8], said: &[u8]) -> Result<Vec<u8>, Fail> {
-    let mut metarange = Vec::from_slice(alloc, b"\x01\x00\x00\x00\x01")?;
-    metarange.extend_from_slice(&Digest::of(range).0)?;
-    metarange.extend_from_slice(said)?;
-    Ok(metarange)
-}
-
-// The fault of reading its tree.
-fn fault_of(alloc: Global, range: &[u8], said: &[u8]) -> Result<Option<TreeFault>, Fail> {
-    let metarange = metarange_of(alloc, range, said)?;
-    let name = Digest::of(metarange.as_slice());
-    let mut files = Vec::new(alloc);
-    files.push(file(alloc, name, metarange.as_slice())?)?;
-    files.push(file(alloc, Digest::of(range), range)?)?;
-    Ok(Tree::read(alloc, &name, files.as_slice(), &USUAL_CUT).err())
-}
-
-// What is said of the range of `a`: its count, its first path, its last; one of them wrong; and bytes too many.
-const SAID: [(&[u8], Option<TreeFault>); 7] = [
-    (b"\x00\x00\x00\x01\x00\x01a\x00\x01a", None),
-    (
-        b"\x00\x00\x00\x02\x00\x01a\x00\x01a",
-        Some(TreeFault::Mismatch(0)),
-    ),
-    (
-        b"\x00\x00\x00\x01\x00\x01A\x00\x01a",
-        Some(TreeFault::Mismatch(0)),
-    ),
-    (
-        b"\x00\x00\x00\x01\x00\x01a\x00\x01b",
-        Some(TreeFault::Mismatch(0)),
-    ),
-    (
-        b"\x00\x00\x00\x00",
-        Some(TreeFault::BadMeta(MetaFault::BadRange(0))),
-    ),
-    (
-        b"\x00\x00\x00\x01\x00\x01b\x00\x01a",
-        Some(TreeFault::BadMeta(MetaFault::BadRange(0))),
-    ),
-    (
-        b"\x00\x00\x00\x01\x00\x01a\x00\x01a!!",
-        Some(TreeFault::BadMeta(MetaFault::Trailing(2))),
-    ),
-];
-
-#[test]
-fn a_range_is_the_one_that_the_metarange_tells_of(rt: HostRuntime) -> Result<(), Fail> {
-    for (said, fault) in &SAID {
-        assert_eq!(rt; fault_of(rt.alloc(), ONE, said)?, *fault);
-    }
-    let fault = RangeFault::Empty;
-    let said = b"\x00\x00\x00\x01\x00\x01a\x00\x01a";
-    let empty = fault_of(rt.alloc(), b"\x01\x00\x00\x00\x00", said)?;
-    assert_eq!(rt; empty, Some(TreeFault::Bad { range: 0, fault }));
-    Ok(())
-}
-
-// Metaranges of two ranges, the second behind the first, of `a` to `b`: its first path above, the same and below.
-const SECOND: [(&[u8], Option<MetaFault>); 4] = [
-    (b"\x00\x00\x00\x01\x00\x01c\x00\x01c", None),
-    (b"\x00\x00\x00\x01\x00\x01b", Some(MetaFault::BadRange(1))),
-    (b"\x00\x00\x00\x01\x00\x01a", Some(MetaFault::BadRange(1))),
-    (
-        b"\x00\x00\x00\x01\x00\x01c\x00",
-        Some(MetaFault::Truncated(87)),
-    ),
-];
-
-#[test]
-fn a_range_begins_above_the_one_before(rt: HostRuntime) -> Result<(), Fail> {
-    let alloc = rt.alloc();
-    for (said, fault) in &SECOND {
-        let mut bytes = Vec::from_slice(alloc, b"\x01\x00\x00\x00\x02")?;
-        bytes.extend_from_slice(&[0; 32])?;
-        bytes.extend_from_slice(b"\x00\x00\x00\x02\x00\x01a\x00\x01b")?;
-        bytes.extend_from_slice(&[1; 32])?;
-        bytes.extend_from_slice(said)?;
-        assert_eq!(rt; read_metarange(alloc, bytes.as_slice()).err(), *fault);
-    }
-    Ok(())
 }

@@ -1,4 +1,4 @@
-//! Tables of commits: the first commit of a repository, its fronts, and each fault.
+//! The first commit of a repository, and its fronts. The vectors of `check_vectors` have every other fault.
 use crate::{CommitFault, commit_bytes, commit_read};
 use std::alloc::Global;
 use std::test::Fail;
@@ -23,40 +23,6 @@ fn each_front_is_truncated_at_its_length(rt: HostRuntime) {
         let found = fault(rt.alloc(), &FIRST[..len]);
         assert_eq!(rt; found, Some(CommitFault::Truncated(len)));
     }
-}
-
-// So many bytes of the first commit's front, what follows them, and the fault: another version; a generation of 0;
-// three parents; a committer of no bytes, and one that isn't UTF-8; a message of 65,537 bytes; 65 pairs of metadata,
-// a key of no bytes, keys out of order; and a byte too many.
-static FAULTS: [(usize, &[u8], CommitFault); 10] = [
-    (0, b"\x02", CommitFault::Version(2)),
-    (
-        33,
-        b"\x00\x00\x00\x00\x00\x00\x00\x00",
-        CommitFault::Bad(33),
-    ),
-    (49, b"\x00\x03", CommitFault::Bad(49)),
-    (51, b"\x00\x00", CommitFault::Bad(51)),
-    (51, b"\x00\x01\xff", CommitFault::Bad(51)),
-    (59, b"\x00\x01\x00\x01", CommitFault::Bad(59)),
-    (81, b"\x00\x41", CommitFault::Bad(81)),
-    (81, b"\x00\x01\x00\x00", CommitFault::Bad(83)),
-    (
-        81,
-        b"\x00\x02\x00\x01b\x00\x00\x00\x01a",
-        CommitFault::Bad(88),
-    ),
-    (83, b"!", CommitFault::Trailing(1)),
-];
-
-#[test]
-fn a_fault_has_the_place_of_its_field(rt: HostRuntime) -> Result<(), Fail> {
-    for (len, after, first) in &FAULTS {
-        let mut bytes = Vec::from_slice(rt.alloc(), &FIRST[..(*len).min(83)])?;
-        bytes.extend_from_slice(after)?;
-        assert_eq!(rt; fault(rt.alloc(), bytes.as_slice()), Some(*first));
-    }
-    Ok(())
 }
 
 // The bytes of the commit that is read from these bytes.

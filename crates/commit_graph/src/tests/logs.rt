@@ -123,31 +123,6 @@ fn a_page_has_the_first_of_a_log(rt: HostRuntime) -> Result<(), Fail> {
     Ok(())
 }
 
-// The ids of pages of one, each taken after the one before.
-fn one_by_one(alloc: Global, graph: &Graph, from: &CommitId) -> Result<Vec<CommitId>, Fail> {
-    let mut ids = Vec::new(alloc);
-    let mut after = None;
-    for _ in 0..graph.len() {
-        let page = page(alloc, graph, from, after.as_ref(), None, 1)?;
-        ids.extend_from_slice(page.ids.as_slice())?;
-        after = page.ids.as_slice().last().copied();
-        if !page.has_more {
-            break;
-        }
-    }
-    Ok(ids)
-}
-
-#[test]
-fn pages_give_the_whole_log(rt: HostRuntime) -> Result<(), Fail> {
-    let alloc = rt.alloc();
-    let mut graph = Graph::new(alloc);
-    let Ids { r, x, y, m } = grow(alloc, &mut graph)?;
-    let ids = one_by_one(alloc, &graph, &m)?;
-    assert!(rt; ids.as_slice() == [m, x.min(y), x.max(y), r].as_slice());
-    Ok(())
-}
-
 // The commit of a merge base, as a merge asks for it.
 fn base_commit<'a>(
     alloc: Global,
