@@ -1,0 +1,17 @@
+pub mod State
+pub mod Parts
+pub mod Branches
+pub mod Uncommitted
+pub mod Commits
+pub mod NoteChanges
+pub mod Naming
+pub mod Removal
+pub mod History
+pub mod Soundness
+pub mod Versions
+pub mod Now
+pub mod Refusals
+pub mod Resolving
+pub mod Readings
+pub mod Steps
+pub mod Preparing
