@@ -1,0 +1,12 @@
+pub mod CauseLemmas
+pub mod PlaceLemmas
+pub mod TargetLemmas
+pub mod CopyLemmas
+pub mod NameLemmas
+pub mod SwapLemmas
+pub mod NoteLemmas
+pub mod RefusalLemmas
+pub mod CopyRefusalLemmas
+pub mod SwapRefusalLemmas
+pub mod RepositoryLemmas
+pub mod SwapStepLemmas
