@@ -1,0 +1,4 @@
+pub mod MemoryLemmas
+pub mod PairsLemmas
+pub mod PutLemmas
+pub mod SureLemmas

@@ -1,0 +1,40 @@
+//! The trait of a keeper of pairs.
+ghost use Rattle.std.specs.Prelude.{◌≡◌, ℕ, List, Option, Some, is_some, IfOk, IfSome, OnOk, IsErrOf};
+ghost use Rattle.std.specs.FinMap as map;
+ghost use Rattle.lake_base.specs.Maps.{HasAscendingKeys};
+ghost use Rattle.lake_base.specs.declared.outside.Trouble.TheVariants.{Failed as trouble_failed, NoMemory as trouble_no_memory};
+ghost use Rattle.keeper.specs.Keepers.{KeptPairs, FailsByFault, MayHaveMade, entries_of, pairs_after};
+
+use crate::put::Put;
+use lake_base::Trouble;
+use pair_format::Pair;
+
+/// A keeper of pairs. It may tell contracts which pairs it keeps. It counts its faults.
+pub trait Keeper: Drop {
+    /// The pairs kept, where the keeper tells them.
+    ghost kept: { Self → Option KeptPairs };
+
+    /// How often it has failed.
+    ghost faults: { Self → ℕ };
+
+    /// All pairs, in byte order of their keys.
+    fn load(&mut self) -> Result<Vec<Pair>, Trouble>
+        ensures pairs { IfOk result (λ pairs. IfSome (kept self.old)
+            (λ before. entries_of pairs.items ≡ map.entries before)) }
+        ensures ascending { IfOk result (λ pairs. HasAscendingKeys (entries_of pairs.items)) }
+        ensures kept { kept self.new ≡ kept self.old }
+        ensures cause { FailsByFault (faults self.old) (faults self.new) result };
+
+    /// Makes the puts, one after the other: all of them, or none.
+    fn put_all(&mut self, puts: &[Put]) -> Result<(), Trouble>
+        ensures kept { OnOk result (IfSome (kept self.old)
+            (λ before. kept self.new ≡ Some (pairs_after puts.now before))) }
+
+        // After a failure of the keeper all of them were made or none; running out of memory changes nothing.
+        ensures failed { IsErrOf result trouble_failed → IfSome (kept self.old)
+            (λ before. IfSome (kept self.new) (MayHaveMade puts.now before)) }
+        ensures no_memory { IsErrOf result trouble_no_memory → kept self.new ≡ kept self.old }
+
+        ensures told { is_some (kept self.new) ≡ is_some (kept self.old) }
+        ensures cause { FailsByFault (faults self.old) (faults self.new) result };
+}

@@ -1,0 +1,155 @@
+//! A keeper in memory.
+ghost use Rattle.std.specs.Prelude.{◌≡◌, ◌<◌, ◌↔◌, [], reverse, Some, IsTrue, IfOk, IfErr, IfSome, IsErrOf, OnOk, OnErr, is_some, vec_len, vec_capacity, ◌++◌, ◌∷◌};
+ghost use Rattle.std.specs.FinMap as map;
+ghost use Rattle.lake_base.specs.Maps.{HasAscendingKeys};
+ghost use Rattle.lake_base.specs.declared.outside.Trouble.TheVariants.{NoMemory as trouble_no_memory};
+ghost use Rattle.keeper.specs.Keepers.{FailsByFault, entries_of, pairs_after};
+
+use crate::keeper::Keeper;
+use crate::pairs::OrderedPairs;
+use crate::put::Put;
+use lake_base::copying::copied;
+use lake_base::outside::{NoMemory, Trouble};
+use pair_format::Pair;
+use std::alloc::Global;
+use std::marker::Model;
+
+/// A keeper in memory. It never fails but for memory. Contracts see the pairs that it keeps.
+#[derive(Debug, Drop)]
+pub struct SureKeeper {
+    alloc: Global,
+    pairs: OrderedPairs,
+    // Puts that count and aren't in place yet, since a map has no room that was made before; the next one last.
+    waiting: Vec<Put>,
+}
+
+impl Model for SureKeeper {
+    ghost use Rattle.std.specs.Prelude.{reverse};
+    ghost use Rattle.std.specs.Coded.{coded_list, coded_ℕ};
+    ghost use Rattle.std.specs.FinMap as map;
+    ghost use Rattle.keeper.specs.Keepers.{KeptPairs, pairs_after};
+
+    ghost Value = { KeptPairs };
+
+    ghost coded = { map.code (coded_list coded_ℕ) (coded_list coded_ℕ) };
+
+    ghost view = { λ keeper. pairs_after (reverse keeper.waiting.items) keeper.pairs };
+}
+
+impl SureKeeper {
+    /// A keeper of these pairs, whose keys strictly ascend: `are_ascending` tells.
+    pub fn holding(alloc: Global, pairs: Vec<Pair>) -> Result<SureKeeper, NoMemory>
+        requires { HasAscendingKeys (entries_of pairs.items) }
+        ensures { IfOk result (λ keeper. map.entries keeper ≡ entries_of pairs.items) }
+    {
+        let pairs = ordered(alloc, pairs)?;
+        Ok(SureKeeper {
+            alloc,
+            pairs,
+            waiting: Vec::new(alloc),
+        })
+    }
+}
+
+// These pairs in an ordered map; of those of one key the first.
+fn ordered(alloc: Global, mut pairs: Vec<Pair>) -> Result<OrderedPairs, NoMemory>
+    ensures { IfOk result (λ ordered. ordered ≡ map.from_entries (entries_of pairs.items)) }
+{
+    let mut ordered = OrderedPairs::new(alloc);
+    while let Some(pair) = pairs.pop() {
+        match ordered.set(pair.key, pair.value) {
+            Ok(()) => {}
+            Err(_) => return Err(NoMemory),
+        }
+    }
+    Ok(ordered)
+}
+
+/// Whether the keys of the pairs strictly ascend, as bytes. It takes no memory.
+pub fn are_ascending(pairs: &[Pair]) -> bool
+    ensures { IsTrue result ↔ HasAscendingKeys (entries_of pairs.now) }
+{
+    for at in 1..pairs.len() {
+        if !pairs[at - 1]
+            .key
+            .as_slice()
+            .cmp(pairs[at].key.as_slice())
+            .is_lt()
+        {
+            return false;
+        }
+    }
+    true
+}
+
+// Puts what waits in place, the last first, as far as memory goes.
+fn settle(pairs: &mut OrderedPairs, waiting: &mut Vec<Put>) -> Result<(), NoMemory>
+    ensures same { pairs_after (reverse waiting.new.items) pairs.new
+        ≡ pairs_after (reverse waiting.old.items) pairs.old }
+    ensures settled { OnOk result (waiting.new.items ≡ []) }
+{
+    while let Some(put) = waiting.pop() {
+        match pairs.make(put) {
+            Ok(()) => {}
+            Err(put) => {
+                give_back(waiting, put);
+                return Err(NoMemory);
+            }
+        }
+    }
+    Ok(())
+}
+
+// Puts one that was taken from the end back there.
+fn give_back(waiting: &mut Vec<Put>, put: Put)
+    requires { vec_len waiting.old < vec_capacity waiting.old }
+    ensures { waiting.new.items ≡ waiting.old.items ++ put ∷ [] }
+{
+    match waiting.push(put) {
+        Ok(()) => {}
+        Err(_) => unreachable!(),
+    }
+}
+
+// Equal puts, the last first.
+fn reversed(alloc: Global, puts: &[Put]) -> Result<Vec<Put>, NoMemory>
+    ensures { IfOk result (λ copy. reverse copy.items ≡ puts.now) }
+{
+    let mut copy = copied(alloc, puts)?;
+    copy.reverse();
+    Ok(copy)
+}
+
+impl Keeper for SureKeeper {
+    ghost kept = { λ keeper. Some keeper };
+
+    ghost faults = { λ _. 0 };
+
+    fn load(&mut self) -> Result<Vec<Pair>, Trouble>
+        ensures pairs { IfOk result (λ pairs. entries_of pairs.items ≡ map.entries self.old) }
+        ensures ascending { IfOk result (λ pairs. HasAscendingKeys (entries_of pairs.items)) }
+        ensures kept { self.new ≡ self.old }
+        ensures cause { FailsByFault 0 0 result }
+
+        // It fails for memory alone.
+        ensures sure { IfErr result (λ trouble. trouble ≡ trouble_no_memory) }
+    {
+        settle(&mut self.pairs, &mut self.waiting)?;
+        let pairs = self.pairs.all(self.alloc)?;
+        Ok(pairs)
+    }
+
+    fn put_all(&mut self, puts: &[Put]) -> Result<(), Trouble>
+        ensures kept { OnOk result (self.new ≡ pairs_after puts.now self.old) }
+        ensures unchanged { OnErr result (self.new ≡ self.old) }
+        ensures cause { FailsByFault 0 0 result }
+
+        // It fails for memory alone.
+        ensures sure { IfErr result (λ trouble. trouble ≡ trouble_no_memory) }
+    {
+        settle(&mut self.pairs, &mut self.waiting)?;
+        self.waiting = reversed(self.alloc, puts)?;
+        let _ = settle(&mut self.pairs, &mut self.waiting);
+        Ok(())
+    }
+}

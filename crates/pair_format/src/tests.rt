@@ -1,0 +1,2 @@
+//! Tests of pairs.
+mod pairs;
