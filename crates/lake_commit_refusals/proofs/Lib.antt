@@ -1,0 +1,3 @@
+pub mod CommittingLemmas
+pub mod PicksLemmas
+pub mod ConflictLemmas

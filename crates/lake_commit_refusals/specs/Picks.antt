@@ -1,0 +1,80 @@
+-- Commits that are made, hooks that deny them, and commits that are picked.
+use Rattle.std.specs.Prelude.{◌≡◌, [], ◌∷◌, Some}
+use Rattle.lake_base.specs.declared.digest.Digest.{Digest}
+use Rattle.lake_values.specs.Commit.{AboutValue}
+use Rattle.lake_values.specs.Entry.{EntryValue}
+use Rattle.lake_values.specs.declared.commit.Strategy.{Strategy}
+use Rattle.lake_values.specs.declared.settings.Deny.TheVariants.{MaxChanges}
+use Rattle.lake_values.specs.declared.settings.Note.{Note}
+use Rattle.lake_values.specs.declared.settings.Note.TheVariants.{Hooks}
+use Rattle.lake_values.specs.declared.settings.NoteName.TheVariants as name
+use Rattle.lake_format.specs.declared.cut.Cut.{Cut}
+use Rattle.lake_model.specs.declared.history.HistoryEntry.{HistoryEntry}
+use Rattle.lake_model.specs.declared.history.Operation.TheVariants.{Copy, NoteSet, Pick}
+use Rattle.lake_model.specs.declared.history.CopySource.TheVariants as source
+use Rattle.lake_model.specs.State.{State, HasBranch}
+use Rattle.lake_model.specs.Parts.{in_repository}
+use Rattle.lake_model.specs.Removal.{with_expired}
+use Rattle.lake_model.specs.Commits.{IsAdmissible, pick_draft}
+use Rattle.lake_model.specs.History.{after, replay}
+use Rattle.lake_histories.specs.Words.{quickstart, main, first, outside, head_of, made, put, sealed, committed}
+use Rattle.lake_refusals.specs.Lakes.{a, b, ready_lake}
+
+-- a commit of `main` may change no path
+abbrev pub no_changes : Note
+no_changes = Hooks (record { branch = main; deny = MaxChanges 0 } ∷ [])
+
+-- the outside object is put at `a` and sealed, and then the hook is set
+abbrev pub hooked_lake : Cut → State
+hooked_lake cut = after (ready_lake cut) (made (NoteSet quickstart name.Hooks (Some no_changes)))
+
+-- the outside object is committed at `a`
+unfoldable pub committed_lake : Cut → AboutValue → State
+committed_lake cut about = after (ready_lake cut) (committed about)
+
+-- the commit of it
+unfoldable pub new_commit : Cut → AboutValue → Digest
+new_commit cut about = head_of (committed_lake cut about)
+
+-- then the outside object is put at `b` too, and sealed
+abbrev pub sealed_lake : Cut → AboutValue → State
+sealed_lake cut about = replay (committed_lake cut about) (put b outside ∷ sealed ∷ [])
+
+-- the lake of the commit, but for its first commit, which is expired: no legal history gives it
+abbrev pub half_expired_lake : Cut → AboutValue → State
+half_expired_lake cut about = in_repository quickstart (with_expired (first cut)) (committed_lake cut about)
+
+-- the lake of the commit, but that this one is expired: no legal history gives it
+abbrev pub expired_head_lake : Cut → AboutValue → State
+expired_head_lake cut about = in_repository quickstart (with_expired (new_commit cut about)) (committed_lake cut about)
+
+-- the object at `a` of a commit is copied to `b` of `main`
+abbrev pub copied : Digest → HistoryEntry
+copied id = made (Copy quickstart main b (source.Commit id) a outside)
+
+-- another outside object, of 6 bytes
+abbrev pub larger : EntryValue
+larger = record outside { size = 6 }
+
+-- it is put at `a` in place of the other, sealed, and committed
+unfoldable pub twice_committed_lake : Cut → AboutValue → AboutValue → State
+twice_committed_lake cut about other = replay (committed_lake cut about) (put a larger ∷ sealed ∷ committed other ∷ [])
+
+-- the commit of it
+unfoldable pub last_commit : Cut → AboutValue → AboutValue → Digest
+last_commit cut about other = head_of (twice_committed_lake cut about other)
+
+-- the ids of the three commits differ
+pub record AreThree (cut : Cut) (about other : AboutValue) : Type 0 where
+  pub early : first cut ≡ new_commit cut about → ⊥
+  pub late : new_commit cut about ≡ last_commit cut about other → ⊥
+  pub ends : first cut ≡ last_commit cut about other → ⊥
+
+-- what a commit has over a base is taken into `main`
+abbrev pub picked : Digest → Digest → Strategy → AboutValue → HistoryEntry
+picked base source strategy about = made (Pick quickstart main base source strategy about)
+
+-- the commit of such a pick would be admissible
+abbrev pub IsPickAdmissible : State → Digest → Digest → Strategy → AboutValue → Type 0
+IsPickAdmissible state base source strategy about =
+    HasBranch state quickstart main (λ r x. IsAdmissible state r (pick_draft base source strategy about r x))

@@ -1,0 +1,96 @@
+//! Commits, merges and picks.
+ghost use Rattle.std.specs.Prelude.{◌≡◌, true, List, Some, ℕ};
+ghost use Rattle.std.specs.List.{Contains};
+ghost use Rattle.lake_base.specs.declared.digest.Digest.{Digest};
+ghost use Rattle.lake_values.specs.Ancestry.{commit_of};
+ghost use Rattle.lake_values.specs.Commit.{AboutValue, CommitRecordValue};
+ghost use Rattle.lake_values.specs.declared.commit.Strategy.TheVariants as strategy;
+ghost use Rattle.lake_format.specs.Cutting.{files};
+ghost use Rattle.lake_format.specs.Spelling.{commit_id, file_name};
+ghost use Rattle.lake_format.specs.declared.cut.Cut.{Cut};
+ghost use Rattle.lake_model.specs.State.{HasBranch, Repository, State, is_expired, map_of};
+ghost use Rattle.lake_model.specs.Branches.{IsUnprotected};
+ghost use Rattle.lake_model.specs.Commits.{AreKept, Draft, IsAdmissible, MayBecomeHead, StandsBefore, bytes_of, commit_draft, record_of};
+ghost use Rattle.lake_model.specs.History.{Allows};
+ghost use Rattle.lake_histories.specs.Words.{quickstart, main, first, committed, IsCommitAdmissible};
+ghost use Rattle.lake_histories.specs.Nothing as nothing;
+ghost use Rattle.lake_refusals.specs.Lakes.{ready_lake};
+ghost use Rattle.lake_commit_refusals.specs.Picks.{AreThree, IsPickAdmissible, committed_lake, copied, expired_head_lake, half_expired_lake, hooked_lake, new_commit, picked, sealed_lake, twice_committed_lake};
+
+/// Nothing is sealed that changes the head's map, though all else that a commit asks holds. The premise is that no file
+/// of it shares its name with other bytes.
+pub fn nothing_to_commit()
+    ensures others { (cut : Cut) (about : AboutValue) → IsCommitAdmissible (nothing.lake cut) about
+        → HasBranch (nothing.lake cut) quickstart main
+        (λ r b. IsUnprotected r main × MayBecomeHead (nothing.lake cut) main r b (commit_draft r b about)) }
+    ensures refused { (cut : Cut) (about : AboutValue) → Allows (nothing.lake cut) (committed about) → ⊥ }
+{}
+
+/// A hook denies the commit: it changes one path, and may change none.
+pub fn hook_that_denies()
+    ensures allowed { (cut : Cut) (about : AboutValue) → IsCommitAdmissible (ready_lake cut) about
+        → Allows (ready_lake cut) (committed about) }
+    ensures refused { (cut : Cut) (about : AboutValue) → Allows (hooked_lake cut) (committed about) → ⊥ }
+{}
+
+/// A commit isn't admissible whose id is expired, or is another commit's or that of another map, or which has bytes
+/// that share their name with others. But for the first these want two contents of one SHA-256, so none is shown.
+pub fn inadmissible_commit()
+    ensures expired { (state : State) (r : Repository) (draft : Draft)
+        → is_expired r (commit_id (record_of state.cut r.commits draft)) ≡ true → IsAdmissible state r draft → ⊥ }
+    ensures other_commit { (state : State) (r : Repository) (draft : Draft) (old : CommitRecordValue)
+        → commit_of r.commits (commit_id (record_of state.cut r.commits draft)) ≡ Some old
+        → (old ≡ record_of state.cut r.commits draft → ⊥) → IsAdmissible state r draft → ⊥ }
+    ensures other_map { (state : State) (r : Repository) (draft : Draft) (old : CommitRecordValue)
+        → commit_of r.commits (commit_id (record_of state.cut r.commits draft)) ≡ Some old
+        → (map_of r (commit_id (record_of state.cut r.commits draft)) ≡ draft.objects → ⊥)
+        → IsAdmissible state r draft → ⊥ }
+    ensures clash { (state : State) (r : Repository) (draft : Draft) (new kept : List ℕ)
+        → Contains (bytes_of state.cut r.commits draft) new → AreKept state kept → file_name new ≡ file_name kept
+        → (new ≡ kept → ⊥) → IsAdmissible state r draft → ⊥ }
+    ensures clash_of_new { (state : State) (r : Repository) (draft : Draft) (new kept : List ℕ)
+        → StandsBefore (files state.cut draft.objects) kept new → file_name new ≡ file_name kept
+        → (new ≡ kept → ⊥) → IsAdmissible state r draft → ⊥ }
+{}
+
+/// A copy from a commit that is expired.
+pub fn copy_of_expired()
+    ensures allowed { (cut : Cut) (about : AboutValue) → Allows (committed_lake cut about) (copied (new_commit cut about)) }
+    ensures refused { (cut : Cut) (about : AboutValue)
+        → Allows (expired_head_lake cut about) (copied (new_commit cut about)) → ⊥ }
+{}
+
+/// A pick of what a commit has over the first one. It is allowed, and isn't with a base or a source that is no commit,
+/// with an expired source, with a source whose map is the base's, and while changes are sealed. The premises are that
+/// the ids differ, and that no file of the new commit shares its name with other bytes.
+pub fn pick_of_commit()
+    ensures allowed { (cut : Cut) (about other : AboutValue) → (first cut ≡ new_commit cut about → ⊥)
+        → IsPickAdmissible (committed_lake cut about) (first cut) (new_commit cut about) strategy.Refuse other
+        → Allows (committed_lake cut about) (picked (first cut) (new_commit cut about) strategy.Refuse other) }
+    ensures no_base { (cut : Cut) (about other : AboutValue) (id : Digest)
+        → (first cut ≡ id → ⊥) → (new_commit cut about ≡ id → ⊥)
+        → Allows (committed_lake cut about) (picked id (new_commit cut about) strategy.Refuse other) → ⊥ }
+    ensures no_source { (cut : Cut) (about other : AboutValue) (id : Digest)
+        → (first cut ≡ id → ⊥) → (new_commit cut about ≡ id → ⊥)
+        → Allows (committed_lake cut about) (picked (new_commit cut about) id strategy.Refuse other) → ⊥ }
+    ensures expired_source { (cut : Cut) (about other : AboutValue)
+        → Allows (half_expired_lake cut about) (picked (new_commit cut about) (first cut) strategy.Refuse other) → ⊥ }
+    ensures same_map { (cut : Cut) (about other : AboutValue)
+        → Allows (committed_lake cut about)
+        (picked (new_commit cut about) (new_commit cut about) strategy.Refuse other) → ⊥ }
+    ensures over_sealed { (cut : Cut) (about other : AboutValue)
+        → Allows (sealed_lake cut about) (picked (first cut) (new_commit cut about) strategy.Refuse other) → ⊥ }
+{}
+
+/// Where a path conflicts, a pick wants a strategy: what went between the second commit and the first is picked into
+/// the third, which has another object there. The premises are those of `pick_of_commit`.
+pub fn pick_in_conflict()
+    ensures allowed { (cut : Cut) (about other third : AboutValue) → AreThree cut about other
+        → IsPickAdmissible (twice_committed_lake cut about other)
+        (new_commit cut about) (first cut) strategy.SourceWins third
+        → Allows (twice_committed_lake cut about other)
+        (picked (new_commit cut about) (first cut) strategy.SourceWins third) }
+    ensures refused { (cut : Cut) (about other third : AboutValue) → AreThree cut about other
+        → Allows (twice_committed_lake cut about other)
+        (picked (new_commit cut about) (first cut) strategy.Refuse third) → ⊥ }
+{}

@@ -1,0 +1,106 @@
+-- Two days of commits and what comes after them: the older commits expire, and an object of theirs is condemned.
+use Rattle.std.specs.Prelude.{◌≡◌, List, [], ◌∷◌, ◌++◌, ℕ, Some, codes}
+use Rattle.lake_base.specs.declared.digest.Digest.{Digest}
+use Rattle.lake_values.specs.Commit.{AboutValue}
+use Rattle.lake_values.specs.declared.settings.Note.{Note}
+use Rattle.lake_values.specs.declared.settings.Note.TheVariants.{Retention}
+use Rattle.lake_values.specs.declared.settings.NoteName.TheVariants as name
+use Rattle.lake_format.specs.declared.cut.Cut.{Cut}
+use Rattle.lake_model.specs.declared.history.HistoryEntry.{HistoryEntry}
+use Rattle.lake_model.specs.declared.history.Operation.TheVariants.{NoteSet, Expire, Condemn}
+use Rattle.lake_model.specs.declared.history.RepositoryCommit.{RepositoryCommit}
+use Rattle.lake_model.specs.State.{State}
+use Rattle.lake_model.specs.History.{after, replay}
+use Rattle.lake_model.specs.Soundness.{fresh}
+use Rattle.lake_histories.specs.Words.{quickstart, first, own, head_of, made, taken, put, deleted, sealed, committed}
+
+abbrev pub x : List ℕ
+x = codes "x"
+
+abbrev pub y : List ℕ
+y = codes "y"
+
+abbrev pub z : List ℕ
+z = codes "z"
+
+-- what is said of a commit of this date
+abbrev pub said_at : ℕ → AboutValue
+said_at date = record { committer = codes "seat"; message = codes "a day"; metadata = []; date = date }
+
+-- the number 0 is put at `x`, and sealed
+abbrev pub first_changes : Digest → List HistoryEntry
+first_changes digest = taken 0 ∷ put x (own digest 0) ∷ sealed ∷ []
+
+abbrev pub lake_before_first : Cut → Digest → State
+lake_before_first cut digest = replay (fresh cut) (first_changes digest)
+
+-- and committed at the moment 1,000,000
+abbrev pub first_day : Digest → List HistoryEntry
+first_day digest = first_changes digest ++ committed (said_at 1000000) ∷ []
+
+unfoldable pub lake_of_first : Cut → Digest → State
+lake_of_first cut digest = replay (fresh cut) (first_day digest)
+
+-- `x` is deleted, the number 1 is put at `y`, and both are sealed
+abbrev pub second_changes : Digest → List HistoryEntry
+second_changes digest = deleted x ∷ taken 1 ∷ put y (own digest 1) ∷ sealed ∷ []
+
+abbrev pub lake_before_second : Cut → Digest → State
+lake_before_second cut digest = replay (lake_of_first cut digest) (second_changes digest)
+
+-- and committed at the moment 1,100,000
+abbrev pub second_day : Digest → List HistoryEntry
+second_day digest = second_changes digest ++ committed (said_at 1100000) ∷ []
+
+unfoldable pub lake_of_second : Cut → Digest → State
+lake_of_second cut digest = replay (lake_of_first cut digest) (second_day digest)
+
+-- commits are kept for a day
+abbrev pub one_day : Note
+one_day = Retention (record { default_days = 1; branches = [] })
+
+-- the number 2 is put at `z` and sealed, the number 3 is given out for an upload, and commits are kept for a day
+abbrev pub later : Digest → List HistoryEntry
+later digest =
+    taken 2 ∷ put z (own digest 2) ∷ sealed ∷ taken 3 ∷ made (NoteSet quickstart name.Retention (Some one_day)) ∷ []
+
+unfoldable pub lake : Cut → Digest → State
+lake cut digest = replay (lake_of_second cut digest) (later digest)
+
+-- the commits of the two days
+unfoldable pub first_commit : Cut → Digest → Digest
+first_commit cut digest = head_of (lake_of_first cut digest)
+
+unfoldable pub second_commit : Cut → Digest → Digest
+second_commit cut digest = head_of (lake_of_second cut digest)
+
+-- the ids of the three commits differ
+pub record AreApart (cut : Cut) (digest : Digest) : Type 0 where
+  pub early : first cut ≡ first_commit cut digest → ⊥
+  pub late : first_commit cut digest ≡ second_commit cut digest → ⊥
+  pub ends : first cut ≡ second_commit cut digest → ⊥
+
+-- a commit of the repository
+abbrev pub commit : Digest → RepositoryCommit
+commit id = record { repo = quickstart; commit = id }
+
+-- at the moment 1,300,000 these commits expire
+abbrev pub expiring : List RepositoryCommit → HistoryEntry
+expiring commits = made (Expire 1300000 commits)
+
+-- the older two: that of the first day, and the one that the repository began with
+abbrev pub older : Cut → Digest → List RepositoryCommit
+older cut digest = commit (first_commit cut digest) ∷ commit (first cut) ∷ []
+
+-- the lake after that
+abbrev pub lake_after : Cut → Digest → State
+lake_after cut digest = after (lake cut digest) (expiring (older cut digest))
+
+-- the number 0 is condemned
+abbrev pub condemning : HistoryEntry
+condemning = made (Condemn (0 ∷ []))
+
+-- the whole history
+abbrev pub entries : Cut → Digest → List HistoryEntry
+entries cut digest =
+    first_day digest ++ (second_day digest ++ (later digest ++ expiring (older cut digest) ∷ condemning ∷ []))

@@ -1,0 +1,40 @@
+//! The commits of a lake expire, and a number is condemned.
+ghost use Rattle.std.specs.Prelude.{◌≡◌, [], ◌∷◌};
+ghost use Rattle.lake_base.specs.declared.digest.Digest.{Digest};
+ghost use Rattle.lake_format.specs.declared.cut.Cut.{Cut};
+ghost use Rattle.lake_values.specs.Keeping.{cutoff};
+ghost use Rattle.lake_model.specs.History.{Allows, IsLegal};
+ghost use Rattle.lake_model.specs.Naming.{IsGarbage, IsNamed};
+ghost use Rattle.lake_model.specs.Soundness.{fresh};
+ghost use Rattle.lake_histories.specs.Words.{first, IsCommitAdmissible};
+ghost use Rattle.lake_expiry.specs.Days.{AreApart, commit, entries, expiring, first_commit, lake, lake_after, lake_before_first, lake_before_second, older, said_at, second_commit};
+
+/// Commits are kept for a day. At the moment 1,300,000 those expire that are no branch's head, as all are dated before
+/// the moment 1,213,600. Then the number 0, of an object that was deleted in the second commit, is garbage and is
+/// condemned; the numbers in the head's map, among the sealed changes and on a ticket aren't. The premises are that the
+/// ids of the three commits differ, and that no file of the new ones shares its name with other bytes.
+pub fn expiry()
+    ensures moment { cutoff 1300000 1 ≡ 1213600 }
+    ensures legal { (cut : Cut) (digest : Digest) → IsCommitAdmissible (lake_before_first cut digest) (said_at 1000000)
+        → IsCommitAdmissible (lake_before_second cut digest) (said_at 1100000) → AreApart cut digest
+        → IsLegal (fresh cut) (entries cut digest) }
+    ensures named_before { (cut : Cut) (digest : Digest) → AreApart cut digest → IsNamed (lake cut digest) 0 }
+    ensures garbage { (cut : Cut) (digest : Digest) → IsGarbage (lake_after cut digest) 0 }
+    ensures named_by_head { (cut : Cut) (digest : Digest) → AreApart cut digest → IsNamed (lake_after cut digest) 1 }
+    ensures named_by_seal { (cut : Cut) (digest : Digest) → IsNamed (lake_after cut digest) 2 }
+    ensures named_by_ticket { (cut : Cut) (digest : Digest) → IsNamed (lake_after cut digest) 3 }
+{}
+
+/// All that can expire do, each once, and nothing else does.
+pub fn expiry_of_others()
+    ensures allowed { (cut : Cut) (digest : Digest) → AreApart cut digest
+        → Allows (lake cut digest) (expiring (commit (first_commit cut digest) ∷ commit (first cut) ∷ [])) }
+    ensures one_left { (cut : Cut) (digest : Digest) → AreApart cut digest
+        → Allows (lake cut digest) (expiring (commit (first_commit cut digest) ∷ [])) → ⊥ }
+    ensures twice { (cut : Cut) (digest : Digest)
+        → Allows (lake cut digest)
+        (expiring (commit (first_commit cut digest) ∷ commit (first cut) ∷ commit (first cut) ∷ [])) → ⊥ }
+    ensures head { (cut : Cut) (digest : Digest)
+        → Allows (lake cut digest)
+        (expiring (commit (first_commit cut digest) ∷ commit (first cut) ∷ commit (second_commit cut digest) ∷ [])) → ⊥ }
+{}

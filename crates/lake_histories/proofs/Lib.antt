@@ -1,0 +1,12 @@
+pub mod SceneLemmas
+pub mod EntriesLemmas
+pub mod MapsLemmas
+pub mod NamingLemmas
+pub mod VersionsLemmas
+pub mod NothingLemmas
+pub mod TakenBackLemmas
+pub mod GuardLemmas
+pub mod CommitsLemmas
+pub mod StaysStagedLemmas
+pub mod TwoSealsLemmas
+pub mod InsertsLemmas

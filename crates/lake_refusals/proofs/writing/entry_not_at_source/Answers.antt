@@ -1,0 +1,11 @@
+use Rattle.lake_refusals.proofs.WritingLemmas.{copy_allowed, copy_of_nothing, copy_of_another}
+use Rattle.lake_refusals.proofs.writing.entry_not_at_source.Goals as goal
+
+pub returns-clause-allowed : goal.returns-clause-allowed
+returns-clause-allowed c = copy_allowed
+
+pub returns-clause-nothing_there : goal.returns-clause-nothing_there
+returns-clause-nothing_there c = copy_of_nothing
+
+pub returns-clause-another : goal.returns-clause-another
+returns-clause-another c = copy_of_another

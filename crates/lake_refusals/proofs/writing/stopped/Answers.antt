@@ -1,0 +1,8 @@
+use Rattle.lake_refusals.proofs.WritingLemmas.{stopped_others, stopped_refused}
+use Rattle.lake_refusals.proofs.writing.stopped.Goals as goal
+
+pub returns-clause-others : goal.returns-clause-others
+returns-clause-others c = stopped_others
+
+pub returns-clause-refused : goal.returns-clause-refused
+returns-clause-refused c = stopped_refused

@@ -1,0 +1,106 @@
+//! Uploads, changes, seals and settings.
+ghost use Rattle.std.specs.Prelude.{◌≡◌, ℕ, List, None, Some};
+ghost use Rattle.lake_base.specs.declared.digest.Digest.{Digest};
+ghost use Rattle.lake_format.specs.declared.cut.Cut.{Cut};
+ghost use Rattle.lake_values.specs.Commit.{AboutValue};
+ghost use Rattle.lake_values.specs.declared.commit.ResetWhat.TheVariants as what;
+ghost use Rattle.lake_values.specs.declared.commit.Strategy.{Strategy};
+ghost use Rattle.lake_values.specs.declared.entry.Change.TheVariants.{Put};
+ghost use Rattle.lake_values.specs.declared.settings.NoteName.TheVariants as name;
+ghost use Rattle.lake_model.specs.declared.history.CopySource.TheVariants as source;
+ghost use Rattle.lake_model.specs.declared.history.Operation.TheVariants.{Copy, NoteSet, Reset, Seal, Stage, TicketDrop};
+ghost use Rattle.lake_model.specs.declared.history.SealFor.TheVariants as seal;
+ghost use Rattle.lake_model.specs.State.{Branch, Repository, State};
+ghost use Rattle.lake_model.specs.Commits.{IsMerge, IsPick};
+ghost use Rattle.lake_model.specs.Uncommitted.{MaySeal};
+ghost use Rattle.lake_model.specs.History.{Allows};
+ghost use Rattle.lake_model.specs.Soundness.{fresh};
+ghost use Rattle.lake_histories.specs.Words.{quickstart, main, outside, own, made, made_by, taken, put, deleted, sealed, committed, IsCommitAdmissible};
+ghost use Rattle.lake_refusals.specs.Lakes.{a, b, one_day, stopped_lake, lake_of_entries, ticket_lake, retaining_lake, ready_lake, protected_lake};
+
+/// Nothing comes after a fault of the store, though it be possible.
+pub fn stopped()
+    ensures others { (cut : Cut) → MaySeal (stopped_lake cut) quickstart main seal.Commit }
+    ensures refused { (cut : Cut) → Allows (stopped_lake cut) sealed → ⊥ }
+{}
+
+/// A history has at most 4,194,304 entries.
+pub fn full_history()
+    ensures allowed { (cut : Cut) → Allows (lake_of_entries 4194303 cut) sealed }
+    ensures refused { (cut : Cut) → Allows (lake_of_entries 4194304 cut) sealed → ⊥ }
+{}
+
+/// The number isn't the next one.
+pub fn number_not_next()
+    ensures allowed { (cut : Cut) → Allows (fresh cut) (taken 0) }
+    ensures refused { (cut : Cut) → Allows (fresh cut) (taken 1) → ⊥ }
+{}
+
+/// The ticket is another seat's, or there is none.
+pub fn ticket_of_another()
+    ensures allowed { (cut : Cut) (digest : Digest) → Allows (ticket_lake cut) (put a (own digest 0)) }
+    ensures refused { (cut : Cut) (digest : Digest)
+        → Allows (ticket_lake cut) (made_by 2 (Stage quickstart main a (Put (own digest 0)))) → ⊥ }
+    ensures without { (cut : Cut) (digest : Digest) → Allows (fresh cut) (put a (own digest 0)) → ⊥ }
+    ensures allowed_drop { (cut : Cut) → Allows (ticket_lake cut) (made (TicketDrop 0)) }
+    ensures refused_drop { (cut : Cut) → Allows (ticket_lake cut) (made_by 2 (TicketDrop 0)) → ⊥ }
+{}
+
+/// The source of a copy hasn't the entry: nothing is at the path, or another entry.
+pub fn entry_not_at_source()
+    ensures allowed { (cut : Cut)
+        → Allows (ready_lake cut) (made (Copy quickstart main b (source.Branch main) a outside)) }
+    ensures nothing_there { (cut : Cut)
+        → Allows (ready_lake cut) (made (Copy quickstart main a (source.Branch main) b outside)) → ⊥ }
+    ensures another { (cut : Cut) (digest : Digest)
+        → Allows (ready_lake cut) (made (Copy quickstart main b (source.Branch main) a (own digest 0))) → ⊥ }
+{}
+
+/// What a protected branch refuses, and what is allowed where it isn't protected.
+pub fn protected_branch()
+    ensures allowed_take { (cut : Cut) → Allows (ready_lake cut) (taken 0) }
+    ensures refused_take { (cut : Cut) → Allows (protected_lake cut) (taken 0) → ⊥ }
+    ensures allowed_put { (cut : Cut) → Allows (ready_lake cut) (put b outside) }
+    ensures refused_put { (cut : Cut) → Allows (protected_lake cut) (put b outside) → ⊥ }
+    ensures allowed_deletion { (cut : Cut) → Allows (ready_lake cut) (deleted a) }
+    ensures refused_deletion { (cut : Cut) → Allows (protected_lake cut) (deleted a) → ⊥ }
+    ensures allowed_copy { (cut : Cut)
+        → Allows (ready_lake cut) (made (Copy quickstart main b (source.Branch main) a outside)) }
+    ensures refused_copy { (cut : Cut)
+        → Allows (protected_lake cut) (made (Copy quickstart main b (source.Branch main) a outside)) → ⊥ }
+    ensures allowed_reset { (cut : Cut) → Allows (ready_lake cut) (made (Reset quickstart main what.All)) }
+    ensures refused_reset { (cut : Cut) → Allows (protected_lake cut) (made (Reset quickstart main what.All)) → ⊥ }
+    ensures allowed_seal { (cut : Cut) → Allows (ready_lake cut) sealed }
+    ensures refused_seal { (cut : Cut) → Allows (protected_lake cut) sealed → ⊥ }
+    ensures allowed_commit { (cut : Cut) (about : AboutValue) → IsCommitAdmissible (ready_lake cut) about
+        → Allows (ready_lake cut) (committed about) }
+    ensures refused_commit { (cut : Cut) (about : AboutValue) → Allows (protected_lake cut) (committed about) → ⊥ }
+{}
+
+/// What a protected branch accepts: a seal for something else than a commit, and merges and picks, which are possible
+/// whatever branches are protected.
+pub fn accepted_where_protected()
+    ensures seal { (cut : Cut) → Allows (protected_lake cut) (made (Seal quickstart main seal.Other)) }
+    ensures merge { (state : State) (branch : List ℕ) (id : Digest) (strategy : Strategy) (about : AboutValue)
+        (r : Repository) (b : Branch) (patterns : List (List ℕ))
+        → IsMerge state branch id strategy about r b
+        → IsMerge state branch id strategy about
+        (record r { notes = record r.notes { protection = Some patterns } }) b }
+    ensures pick { (state : State) (branch : List ℕ) (base id : Digest) (strategy : Strategy) (about : AboutValue)
+        (r : Repository) (b : Branch) (patterns : List (List ℕ))
+        → IsPick state branch base id strategy about r b
+        → IsPick state branch base id strategy about
+        (record r { notes = record r.notes { protection = Some patterns } }) b }
+{}
+
+/// The setting isn't there, or the value is another setting's.
+pub fn no_setting()
+    ensures allowed_deletion { (cut : Cut)
+        → Allows (retaining_lake cut) (made (NoteSet quickstart name.Retention None)) }
+    ensures refused_deletion { (cut : Cut)
+        → Allows (fresh cut) (made (NoteSet quickstart name.Retention None)) → ⊥ }
+    ensures allowed_setting { (cut : Cut)
+        → Allows (fresh cut) (made (NoteSet quickstart name.Retention (Some one_day))) }
+    ensures refused_setting { (cut : Cut)
+        → Allows (fresh cut) (made (NoteSet quickstart name.Hooks (Some one_day))) → ⊥ }
+{}
