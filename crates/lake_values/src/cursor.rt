@@ -12,23 +12,26 @@ use crate::key_map::KeyMap;
 use lake_base::names::Path;
 use std::cmp::Ordering;
 
-/// Entries at paths, some of which are still to come, in ascending order of path: each call tells so. Contracts
-/// see those still to come, by the ghost member `left`.
-pub trait EntryCursor<'a>: Drop {
+/// Entries at paths, some of which are still to come. Contracts see these, by the ghost member `left`. It stands in a
+/// trait without a lifetime, so that a type that holds a cursor can say in its invariant what the cursor has left.
+pub trait EntriesLeft: Drop {
     /// The entries still to come.
     ghost left: { Self → List (List ℕ × EntryValue) };
+}
 
+/// A cursor that gives such entries, in ascending order of path: each call tells so.
+pub trait EntryCursor<'a>: EntriesLeft {
     /// The entry that comes next, which is passed. It takes no memory.
     fn next(&mut self) -> Option<(&'a Path, &'a Entry)>
         ensures entry { MatchOption result
-            ((left self.old ≡ []) × (left self.new ≡ []))
-            (λ entry. left self.old ≡ (entry.0.now, entry.1.now) ∷ left self.new) }
-        ensures ascend { HasAscendingKeys (left self.old) };
+            ((Self.left self.old ≡ []) × (Self.left self.new ≡ []))
+            (λ entry. Self.left self.old ≡ (entry.0.now, entry.1.now) ∷ Self.left self.new) }
+        ensures ascend { HasAscendingKeys (Self.left self.old) };
 
     /// Passes over the entries at paths below these bytes. It takes no memory.
     fn seek(&mut self, least: &[u8])
-        ensures from { left self.new ≡ entries_from least.now (left self.old) }
-        ensures ascend { HasAscendingKeys (left self.old) };
+        ensures from { Self.left self.new ≡ entries_from least.now (Self.left self.old) }
+        ensures ascend { HasAscendingKeys (Self.left self.old) };
 }
 
 /// A cursor over a slice of entries whose paths ascend.
@@ -58,9 +61,11 @@ impl KeyMap {
     }
 }
 
-impl<'a> EntryCursor<'a> for SliceCursor<'a> {
+impl<'a> EntriesLeft for SliceCursor<'a> {
     ghost left = { λ cursor. cursor.rest.now };
+}
 
+impl<'a> EntryCursor<'a> for SliceCursor<'a> {
     fn next(&mut self) -> Option<(&'a Path, &'a Entry)> {
         let (row, rest) = self.rest.split_first()?;
         self.rest = rest;

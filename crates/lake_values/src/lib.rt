@@ -30,7 +30,7 @@ pub mod threads;
 
 pub use changes::Changes;
 pub use commit::{About, CommitId, CommitRecord, ResetWhat, Strategy};
-pub use cursor::{EntryCursor, SliceCursor};
+pub use cursor::{EntriesLeft, EntryCursor, SliceCursor};
 pub use entry::{Change, Entry, Place, same_entry};
 pub use key_map::KeyMap;
 pub use merge::Side;

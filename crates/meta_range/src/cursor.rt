@@ -10,7 +10,7 @@ ghost use Rattle.meta_range.specs.Ranges.{rows_of, rows_above, AreLeft};
 use crate::shared_range::SharedRange;
 use crate::tree::Tree;
 use lake_base::names::Path;
-use lake_values::cursor::{EntryCursor, is_below};
+use lake_values::cursor::{EntriesLeft, EntryCursor, is_below};
 use lake_values::entry::Entry;
 use range_file::Row;
 use std::marker::Model;
@@ -76,9 +76,11 @@ impl<'a> Cursor<'a> {
     }
 }
 
-impl<'a> EntryCursor<'a> for Cursor<'a> {
+impl<'a> EntriesLeft for Cursor<'a> {
     ghost left = { λ cursor. cursor };
+}
 
+impl<'a> EntryCursor<'a> for Cursor<'a> {
     fn next(&mut self) -> Option<(&'a Path, &'a Entry)> {
         let (row, rows, ranges) = first_row(self.rows, self.ranges)?;
         self.rows = rows;

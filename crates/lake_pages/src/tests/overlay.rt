@@ -11,7 +11,7 @@ use crate::listing::{Page, PageQuery, page_over};
 use lake_base::names::Path;
 use lake_base::outside::NoMemory;
 use lake_values::changes::Changes;
-use lake_values::cursor::{EntryCursor, is_below};
+use lake_values::cursor::{EntriesLeft, EntryCursor, is_below};
 use lake_values::entry::{Change, Entry};
 use lake_values::key_map::KeyMap;
 use std::alloc::Global;
@@ -26,10 +26,12 @@ struct OverlayCursor<'a> {
     ghost entries_ascend: { HasAscendingKeys entries.now },
 }
 
+impl<'a> EntriesLeft for OverlayCursor<'a> {
+    ghost left = { λ c. entries_of (apply (from_sorted {R = byte_order} c.changes.now) (from_sorted {R = byte_order} c.entries.now)) };
+}
+
 #[tactic(auto, using(crate::proofs::OverlayLemmas::ascends))]
 impl<'a> EntryCursor<'a> for OverlayCursor<'a> {
-    ghost left = { λ c. entries_of (apply (from_sorted {R = byte_order} c.changes.now) (from_sorted {R = byte_order} c.entries.now)) };
-
     fn next(&mut self) -> Option<(&'a Path, &'a Entry)> {
         while let Some((change, changes)) = self.changes.split_first() {
             match order_of_first(self.entries, &change.0) {
