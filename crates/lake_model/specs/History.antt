@@ -1,5 +1,6 @@
 -- The condition of each kind of entry, and what it changes; legal histories, and their replay.
 use Rattle.std.specs.Prelude.{◌≡◌, ◌<◌, ◌+◌, true, false, ℕ, List, [], ◌∷◌}
+use Rattle.lake_model.specs.declared.history.By.{By}
 use Rattle.lake_model.specs.declared.history.HistoryEntry.{HistoryEntry}
 use Rattle.lake_model.specs.declared.history.EntryKind.{EntryKind}
 use Rattle.lake_model.specs.declared.history.EntryKind.TheVariants.{Accepted, Faulted}
@@ -31,6 +32,14 @@ IsPossible state seat (Pick repo branch base source strategy about) = MayPick st
 IsPossible state seat (NoteSet repo name note) = MaySetNote state repo name note
 IsPossible state seat (Expire now commits) = MayExpire state now commits
 IsPossible state seat (Condemn numbers) = MayCondemn state numbers
+
+-- the entry of an operation that was accepted, and who made it
+abbrev pub accepted_entry : By → Operation → HistoryEntry
+accepted_entry by operation = record { by = by; kind = Accepted operation }
+
+-- the entry of an operation that was possible when the store failed
+abbrev pub faulted_entry : By → Operation → HistoryEntry
+faulted_entry by operation = record { by = by; kind = Faulted operation }
 
 -- what an operation of a seat changes
 abbrev pub after_operation : ℕ → Operation → State → State

@@ -43,8 +43,8 @@ abbrev pub source_of : Sides → Digest
 source_of (Merge source) = source
 source_of (Pick base source) = source
 
-abbrev pub prepared : State → VersionsGiven → List ℕ → List ℕ → Option Sides → Repository → Branch → PreparedValue
-prepared state given repo branch sides r b = record {
+abbrev pub preparation : State → VersionsGiven → List ℕ → List ℕ → Option Sides → Repository → Branch → PreparedValue
+preparation state given repo branch sides r b = record {
   at = state.entries;
   version = branch_version given repo branch;
   settings = settings_version given repo;
@@ -62,7 +62,7 @@ expired_source r sides = if is_expired r (source_of sides) then Some (Expired (s
 
 abbrev pub prepare_reply : State → VersionsGiven → List ℕ → List ℕ → Option Sides → Result PreparedValue StepFault
 prepare_reply state given repo branch sides = in_repository_of state repo (λ r. option_map_or
-    (λ b. unless_refused (option_map_or (expired_source r) sides None) (prepared state given repo branch sides r b))
+    (λ b. unless_refused (option_map_or (expired_source r) sides None) (preparation state given repo branch sides r b))
     (get r.branches branch) (Err NoRef))
 
 -- what the rules of retention are asked of a repository

@@ -232,15 +232,15 @@ swap_operation repo branch (kind.Merge source strategy) about = Merge repo branc
 swap_operation repo branch (kind.Pick base source strategy) about = Pick repo branch base source strategy about
 
 -- the new commit, where the branch is there
-abbrev pub swapped : State → List ℕ → List ℕ → SwapRule → Option CommitRecordValue
-swapped state repo branch rule =
+abbrev pub new_commit : State → List ℕ → List ℕ → SwapRule → Option CommitRecordValue
+new_commit state repo branch rule =
     in_it state repo (λ r. option_map (λ b. record_of state.cut r.commits (rule.draft r b)) (get r.branches branch))
 
 -- the first expired commit: the source, or the new commit
 abbrev pub swap_expired : State → List ℕ → List ℕ → SwapRule → Option StepFault
 swap_expired state repo branch rule = in_it state repo (λ r.
     option_or (option_and_then (expired_fault r) rule.source)
-    (option_and_then (λ commit. expired_fault r (commit_id commit)) (swapped state repo branch rule)))
+    (option_and_then (λ commit. expired_fault r (commit_id commit)) (new_commit state repo branch rule)))
 
 -- whether both versions are those now
 abbrev pub is_current : VersionsGiven → List ℕ → List ℕ → ℕ → ℕ → Bool
@@ -266,7 +266,7 @@ abbrev pub IsSwapReply : State → VersionsGiven → List ℕ → List ℕ → �
 IsSwapReply state given repo branch version settings rule answer =
     (clash : Option Clash) × IsSwapClash state repo branch rule clash
     × IsReplyOf state (swap_causes state given repo branch version settings rule clash)
-    (option_map (λ commit. (commit_id commit, commit)) (swapped state repo branch rule)) answer
+    (option_map (λ commit. (commit_id commit, commit)) (new_commit state repo branch rule)) answer
 
 -- commits expire, by a version of the references
 abbrev pub expire_causes : State → VersionsGiven → ℕ → Causes

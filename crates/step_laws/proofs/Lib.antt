@@ -10,3 +10,4 @@ pub mod CopyRefusalLemmas
 pub mod SwapRefusalLemmas
 pub mod RepositoryLemmas
 pub mod SwapStepLemmas
+pub mod AllowanceLemmas

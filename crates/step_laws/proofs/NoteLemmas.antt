@@ -9,19 +9,18 @@ use Rattle.lake_model.specs.declared.fault.StepFault.TheVariants.{NoNote}
 use Rattle.lake_model.specs.declared.history.By.{By}
 use Rattle.lake_model.specs.declared.history.Operation.TheVariants.{NoteSet}
 use Rattle.lake_model.specs.State.{State}
-use Rattle.lake_model.specs.History.{Allows}
+use Rattle.lake_model.specs.History.{Allows, accepted_entry}
 use Rattle.lake_model.specs.NoteChanges.{IsNoteChange, note_at}
 use Rattle.lake_model.specs.Refusals.{first_cause}
 use Rattle.lake_model.specs.Steps.{in_it, set_note_causes}
 use Rattle.lake_model.specs.Versions.{VersionsGiven}
-use Rattle.step_laws.specs.Made.{made}
 use Rattle.step_laws.proofs.CauseLemmas.{no_cause, allowed, test_fails}
 use Rattle.step_laws.proofs.PlaceLemmas.{answered, there}
 
 -- no cause holds: the setting may be set, or deleted
 pub note_allowed : (state : State) (given : VersionsGiven) (by : By) (repo : List ℕ) (expected : Option ℕ) (name : NoteName) (note : Option Note)
     → first_cause (set_note_causes state given repo expected name note) ≡ None → IfSome note (λ n. note_name n ≡ name)
-    → Allows state (made by (NoteSet repo name note))
+    → Allows state (accepted_entry by (NoteSet repo name note))
 note_allowed state given by repo expected name None none kind =
     let no = no_cause (set_note_causes state given repo expected name None) none in
     allowed state _ no.stopped no.full

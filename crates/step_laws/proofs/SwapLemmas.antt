@@ -16,7 +16,7 @@ use Rattle.lake_model.specs.declared.fault.StepFault.TheVariants.{Expired}
 use Rattle.lake_model.specs.State.{Branch, Repository, State, is_expired}
 use Rattle.lake_model.specs.Commits.{AreKept, Draft, IsAdmissible, MayBecomeHead, StandsBefore, bytes_of, record_of}
 use Rattle.lake_model.specs.Refusals.{IsClashOrNone}
-use Rattle.lake_model.specs.Steps.{SwapRule, expired_fault, swap_expired, swapped}
+use Rattle.lake_model.specs.Steps.{SwapRule, expired_fault, swap_expired, new_commit}
 use Rattle.step_laws.specs.Prepared.{IsPreparedDraft}
 use Rattle.step_laws.proofs.CauseLemmas.{or_none, test_fails}
 use Rattle.step_laws.proofs.PlaceLemmas.{answered, asked}
@@ -63,17 +63,17 @@ module _ (state : State) (r : Repository) (draft : Draft) (none : IsClashOrNone 
 
 module _ (state : State) (repo branch : List ℕ) (rule : SwapRule) (r : Repository) (b : Branch) (is : get state.repositories repo ≡ Some r) (has : get r.branches branch ≡ Some b) where
   -- the new commit
-  pub swapped_is : swapped state repo branch rule ≡ Some (record_of state.cut r.commits (rule.draft r b))
-  swapped_is =
+  pub new_commit_is : new_commit state repo branch rule ≡ Some (record_of state.cut r.commits (rule.draft r b))
+  new_commit_is =
       answered state repo (λ x. option_map (λ y. record_of state.cut x.commits (rule.draft x y)) (get x.branches branch)) r _ is
       (ap (option_map (λ y. record_of state.cut r.commits (rule.draft r y))) has)
 
   both_live : swap_expired state repo branch rule ≡ None
       → (option_and_then (expired_fault r) rule.source ≡ None)
-      × (option_and_then (λ commit. expired_fault r (commit_id commit)) (swapped state repo branch rule) ≡ None)
+      × (option_and_then (λ commit. expired_fault r (commit_id commit)) (new_commit state repo branch rule) ≡ None)
   both_live none = or_none _ _ (asked state repo
       (λ x. option_or (option_and_then (expired_fault x) rule.source)
-      (option_and_then (λ commit. expired_fault x (commit_id commit)) (swapped state repo branch rule))) r None is none)
+      (option_and_then (λ commit. expired_fault x (commit_id commit)) (new_commit state repo branch rule))) r None is none)
 
   -- the source isn't expired, where there is one
   pub source_live : swap_expired state repo branch rule ≡ None → option_and_then (expired_fault r) rule.source ≡ None
@@ -84,4 +84,4 @@ module _ (state : State) (repo branch : List ℕ) (rule : SwapRule) (r : Reposit
       → is_expired r (commit_id (record_of state.cut r.commits (rule.draft r b))) ≡ false
   new_live none =
       test_fails _ (Expired (commit_id (record_of state.cut r.commits (rule.draft r b))))
-      (ap (option_and_then (λ (commit : CommitRecordValue). expired_fault r (commit_id commit))) (sym swapped_is) ∙ (both_live none).1)
+      (ap (option_and_then (λ (commit : CommitRecordValue). expired_fault r (commit_id commit))) (sym new_commit_is) ∙ (both_live none).1)

@@ -16,12 +16,12 @@ use Rattle.lake_model.specs.State.{Branch, Repository, State, HasBranch, is_expi
 use Rattle.lake_model.specs.Commits.{Draft, IsAdmissible, record_of}
 use Rattle.lake_model.specs.History.{Allows, IsPossible}
 use Rattle.lake_model.specs.Refusals.{Clash, IsClash, first_cause}
-use Rattle.lake_model.specs.Steps.{IsSwapClash, SwapRule, expired_fault, is_current, swap_causes, swap_expired, swap_operation, swap_rule, swapped}
+use Rattle.lake_model.specs.Steps.{IsSwapClash, SwapRule, expired_fault, is_current, swap_causes, swap_expired, swap_operation, swap_rule, new_commit}
 use Rattle.lake_model.specs.Versions.{VersionsGiven, branch_version, settings_version}
 use Rattle.step_laws.specs.Prepared.{WhereThere}
 use Rattle.step_laws.proofs.CauseLemmas.{cause_fails, cause_not, neither, none_holds, not_full, not_stopped}
 use Rattle.step_laws.proofs.PlaceLemmas.{answered, branch_none, repository_none, unprotected_is}
-use Rattle.step_laws.proofs.SwapLemmas.{swapped_is}
+use Rattle.step_laws.proofs.SwapLemmas.{new_commit_is}
 
 -- nothing clashes with an admissible commit
 pub no_clash : (state : State) (r : Repository) (draft : Draft) → IsAdmissible state r draft → (clash : Clash) → IsClash state r draft clash → ⊥
@@ -56,8 +56,8 @@ expired_none : (state : State) (repo branch : List ℕ) (rule : SwapRule) (r : R
 expired_none state repo branch rule r b is has source may =
     answered state repo
     (λ x. option_or (option_and_then (expired_fault x) rule.source)
-    (option_and_then (λ commit. expired_fault x (commit_id commit)) (swapped state repo branch rule))) r None is
-    (neither _ _ source (ap (option_and_then (λ (commit : CommitRecordValue). expired_fault r (commit_id commit))) (swapped_is state repo branch rule r b is has)
+    (option_and_then (λ commit. expired_fault x (commit_id commit)) (new_commit state repo branch rule))) r None is
+    (neither _ _ source (ap (option_and_then (λ (commit : CommitRecordValue). expired_fault r (commit_id commit))) (new_commit_is state repo branch rule r b is has)
     ∙ cause_fails _ (Expired (commit_id (record_of state.cut r.commits (rule.draft r b)))) may.live))
 
 module _ (state : State) (entry : HistoryEntry) (may : Allows state entry) (given : VersionsGiven) (repo branch : List ℕ) where

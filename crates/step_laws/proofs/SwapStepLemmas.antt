@@ -7,11 +7,10 @@ use Rattle.lake_model.specs.declared.reply.SwapKind.{SwapKind}
 use Rattle.lake_model.specs.declared.reply.SwapKind.TheVariants as kind
 use Rattle.lake_model.specs.State.{State, is_expired}
 use Rattle.lake_model.specs.Commits.{IsCommittable, IsMerge, IsPick, commit_draft, merge_draft, pick_draft}
-use Rattle.lake_model.specs.History.{Allows}
+use Rattle.lake_model.specs.History.{Allows, accepted_entry}
 use Rattle.lake_model.specs.Refusals.{first_cause}
 use Rattle.lake_model.specs.Steps.{IsSwapClash, swap_causes, swap_operation, swap_rule}
 use Rattle.lake_model.specs.Versions.{VersionsGiven}
-use Rattle.step_laws.specs.Made.{made}
 use Rattle.step_laws.specs.Prepared.{IsPrepared, WhereThere}
 use Rattle.step_laws.proofs.CauseLemmas.{no_cause, allowed, test_fails}
 use Rattle.step_laws.proofs.PlaceLemmas.{branch_there, unprotected}
@@ -21,7 +20,7 @@ use Rattle.step_laws.proofs.SwapLemmas.{becomes_head, new_live, source_live}
 pub swap_allowed : (state : State) (given : VersionsGiven) (by : By) (repo branch : List ℕ) (version settings : ℕ) (swap : SwapKind) (about : AboutValue)
     → first_cause (swap_causes state given repo branch version settings (swap_rule swap about) None) ≡ None
     → IsSwapClash state repo branch (swap_rule swap about) None → WhereThere state repo branch (IsPrepared state branch swap about)
-    → Allows state (made by (swap_operation repo branch swap about))
+    → Allows state (accepted_entry by (swap_operation repo branch swap about))
 swap_allowed state given by repo branch version settings kind.Commit about none clash kept =
     let rule = swap_rule kind.Commit about in
     let no = no_cause (swap_causes state given repo branch version settings rule None) none in

@@ -6,11 +6,10 @@ ghost use Rattle.lake_values.specs.declared.settings.NoteName.{NoteName};
 ghost use Rattle.lake_model.specs.declared.history.By.{By};
 ghost use Rattle.lake_model.specs.declared.history.Operation.TheVariants.{NoteSet};
 ghost use Rattle.lake_model.specs.State.{State};
-ghost use Rattle.lake_model.specs.History.{Allows};
+ghost use Rattle.lake_model.specs.History.{Allows, accepted_entry};
 ghost use Rattle.lake_model.specs.Refusals.{first_cause};
 ghost use Rattle.lake_model.specs.Steps.{set_note_causes};
 ghost use Rattle.lake_model.specs.Versions.{VersionsGiven};
-ghost use Rattle.step_laws.specs.Made.{made};
 
 /// Where no cause holds, a setting of the name may be set, or the one that is there may be deleted.
 pub fn law_of_note_steps()
@@ -18,5 +17,5 @@ pub fn law_of_note_steps()
         (name : NoteName) (note : Option Note)
         → first_cause (set_note_causes state given repo expected name note) ≡ None
         → IfSome note (λ n. note_name n ≡ name)
-        → Allows state (made by (NoteSet repo name note)) }
+        → Allows state (accepted_entry by (NoteSet repo name note)) }
 {}

@@ -5,10 +5,9 @@ ghost use Rattle.lake_model.specs.declared.history.By.{By};
 ghost use Rattle.lake_model.specs.declared.history.Operation.TheVariants.{RepoCreate};
 ghost use Rattle.lake_model.specs.State.{State};
 ghost use Rattle.lake_model.specs.Commits.{bare_repository, first_draft};
-ghost use Rattle.lake_model.specs.History.{Allows};
+ghost use Rattle.lake_model.specs.History.{Allows, accepted_entry};
 ghost use Rattle.lake_model.specs.Refusals.{IsClashOrNone, first_cause};
 ghost use Rattle.lake_model.specs.Steps.{create_repository_causes};
-ghost use Rattle.step_laws.specs.Made.{made};
 
 /// Where no cause holds, and the first commit doesn't clash, a repository may be made whose default branch has a name
 /// like no id. Where one may be made, no cause holds, and nothing clashes.
@@ -17,11 +16,11 @@ pub fn law_of_repository_steps()
         → is_like_id branch ≡ false
         → first_cause (create_repository_causes state repo None) ≡ None
         → IsClashOrNone state (bare_repository date branch) (first_draft date) None
-        → Allows state (made by (RepoCreate repo branch date)) }
+        → Allows state (accepted_entry by (RepoCreate repo branch date)) }
     ensures causes { (state : State) (by : By) (repo branch : List ℕ) (date : ℕ)
-        → Allows state (made by (RepoCreate repo branch date))
+        → Allows state (accepted_entry by (RepoCreate repo branch date))
         → first_cause (create_repository_causes state repo None) ≡ None }
     ensures clash { (state : State) (by : By) (repo branch : List ℕ) (date : ℕ)
-        → Allows state (made by (RepoCreate repo branch date))
+        → Allows state (accepted_entry by (RepoCreate repo branch date))
         → IsClashOrNone state (bare_repository date branch) (first_draft date) None }
 {}

@@ -4,11 +4,10 @@ ghost use Rattle.lake_values.specs.Commit.{AboutValue};
 ghost use Rattle.lake_model.specs.declared.history.By.{By};
 ghost use Rattle.lake_model.specs.declared.reply.SwapKind.{SwapKind};
 ghost use Rattle.lake_model.specs.State.{State};
-ghost use Rattle.lake_model.specs.History.{Allows};
+ghost use Rattle.lake_model.specs.History.{Allows, accepted_entry};
 ghost use Rattle.lake_model.specs.Refusals.{first_cause};
 ghost use Rattle.lake_model.specs.Steps.{IsSwapClash, swap_causes, swap_operation, swap_rule};
 ghost use Rattle.lake_model.specs.Versions.{VersionsGiven};
-ghost use Rattle.step_laws.specs.Made.{made};
 ghost use Rattle.step_laws.specs.Prepared.{IsPrepared, WhereThere};
 
 /// Where no cause holds, nothing clashes, and the new head is prepared, it may be made: by a commit, a merge or a
@@ -19,5 +18,5 @@ pub fn law_of_swap_steps()
         → first_cause (swap_causes state given repo branch version settings (swap_rule swap about) None) ≡ None
         → IsSwapClash state repo branch (swap_rule swap about) None
         → WhereThere state repo branch (IsPrepared state branch swap about)
-        → Allows state (made by (swap_operation repo branch swap about)) }
+        → Allows state (accepted_entry by (swap_operation repo branch swap about)) }
 {}

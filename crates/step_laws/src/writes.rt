@@ -10,12 +10,11 @@ ghost use Rattle.lake_model.specs.declared.history.Operation.TheVariants.{Copy, 
 ghost use Rattle.lake_model.specs.declared.history.SealFor.{SealFor};
 ghost use Rattle.lake_model.specs.State.{State};
 ghost use Rattle.lake_model.specs.Uncommitted.{HasTicket, put_number};
-ghost use Rattle.lake_model.specs.History.{Allows};
+ghost use Rattle.lake_model.specs.History.{Allows, accepted_entry};
 ghost use Rattle.lake_model.specs.Soundness.{IsSound};
 ghost use Rattle.lake_model.specs.Refusals.{first_cause};
 ghost use Rattle.lake_model.specs.Steps.{copied_entry, copy_causes, copy_source, in_it, seal_causes, stage_causes, write_causes};
 ghost use Rattle.lake_model.specs.Versions.{VersionsGiven};
-ghost use Rattle.step_laws.specs.Made.{made};
 
 /// Where no cause holds, a change may be staged whose number, where it puts one, is on a ticket of the seat; in a
 /// sound lake an entry may be copied that was found; changes may be dropped; and staged changes may be sealed.
@@ -24,18 +23,18 @@ pub fn law_of_write_steps()
         (path : List ℕ) (change : Change)
         → first_cause (stage_causes state given repo branch version) ≡ None
         → IfSome (put_number change) (HasTicket state by.seat)
-        → Allows state (made by (Stage repo branch path change)) }
+        → Allows state (accepted_entry by (Stage repo branch path change)) }
     ensures copy { (state : State) (given : VersionsGiven) (by : By) (repo branch : List ℕ) (version : ℕ)
         (path : List ℕ) (e : RefExprValue) (source : CopySource) (from : List ℕ) (entry : EntryValue)
         → IsSound state
         → first_cause (copy_causes state given repo branch version e from) ≡ None
         → copied_entry state repo e from ≡ Some entry
         → in_it state repo (λ r. copy_source r e) ≡ Some source
-        → Allows state (made by (Copy repo branch path source from entry)) }
+        → Allows state (accepted_entry by (Copy repo branch path source from entry)) }
     ensures reset { (state : State) (by : By) (repo branch : List ℕ) (what : ResetWhat)
         → first_cause (write_causes state repo branch) ≡ None
-        → Allows state (made by (Reset repo branch what)) }
+        → Allows state (accepted_entry by (Reset repo branch what)) }
     ensures seal { (state : State) (by : By) (repo branch : List ℕ) (why : SealFor)
         → first_cause (seal_causes why state repo branch) ≡ None
-        → Allows state (made by (Seal repo branch why)) }
+        → Allows state (accepted_entry by (Seal repo branch why)) }
 {}
