@@ -1,0 +1,4 @@
+pub mod ByteMapLemmas
+pub mod LendsLemmas
+pub mod RowsLemmas
+pub mod ValuesLemmas
