@@ -6,6 +6,7 @@ use vector_branches::{merges, tokens};
 use vector_commits::{commits, expressions, graphs};
 use vector_files::{metaranges, ranges, tree_reads, trees};
 use vector_forms::{Case, CaseFault, Verdict};
+use vector_pairs::pairs;
 
 /// What cases are about.
 #[derive(Clone, Copy)]
@@ -20,6 +21,7 @@ pub enum Kind {
     Graphs,
     Merges,
     Tokens,
+    Pairs,
 }
 
 impl Kind {
@@ -36,6 +38,7 @@ impl Kind {
             "graphs" => Some(Kind::Graphs),
             "merges" => Some(Kind::Merges),
             "tokens" => Some(Kind::Tokens),
+            "pairs" => Some(Kind::Pairs),
             _ => None,
         }
     }
@@ -53,6 +56,7 @@ impl Kind {
             Kind::Graphs => graphs::check(alloc, case),
             Kind::Merges => merges::check(alloc, case),
             Kind::Tokens => tokens::check(alloc, case),
+            Kind::Pairs => pairs::check(alloc, case),
         }
     }
 }

@@ -2,7 +2,7 @@
 //! where their answer isn't the one that the line says is due.
 //!
 //! - `kind`: the kinds of cases. Those of files are `vector_files`, of commits `vector_commits`, of branches
-//!   `vector_branches`; here are `rules`, of settings.
+//!   `vector_branches`, of pairs `vector_pairs`; here are `rules`, of settings.
 //! - `report`: what is reported.
 #![tactic(auto)]
 
