@@ -1,0 +1,4 @@
+pub mod Branches
+pub mod Counts
+pub mod Lakes
+pub mod Repositories

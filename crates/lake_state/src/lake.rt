@@ -1,0 +1,49 @@
+//! A lake in memory.
+ghost use Rattle.std.specs.Prelude.{◌≡◌, option_copied, option_map};
+ghost use Rattle.std.specs.FinMap.{get};
+ghost use Rattle.lake_state.specs.Lakes.{lake_value};
+ghost use Rattle.lake_state.specs.Repositories.{repository_value};
+
+use crate::repository::RepositoryState;
+use byte_map::ByteMap;
+use lake_base::RepoName;
+use lake_format::Cut;
+use std::collections::BTreeMap;
+
+/// A lake: its repositories, what was given out, and how much happened.
+///
+/// A name under which nothing stands is room for a repository that is about to be made, and a number without a seat is
+/// room for its ticket.
+#[derive(Drop)]
+pub struct LakeState {
+    /// By which maps are cut into ranges.
+    pub cut: Cut,
+    pub repositories: ByteMap<RepoName, Option<RepositoryState>>,
+    /// The seat of each upload that isn't finished.
+    pub tickets: BTreeMap<u64, Option<u32>>,
+    /// The numbers of objects that may be removed for good.
+    pub gone: BTreeMap<u64, ()>,
+    /// Whether the store has failed.
+    pub stopped: bool,
+    /// How many entries the history has.
+    pub entries: u64,
+    /// How many of them changed what references lead to.
+    pub references: u64,
+    /// What is given out next: the number of an object, a version, a token.
+    pub next_number: u64,
+    pub next_version: u64,
+    pub next_token: u64,
+}
+
+impl LakeState {
+    /// The repository of a name. It takes no memory.
+    pub fn repository(&self, repo: &RepoName) -> Option<&RepositoryState>
+        ensures { option_map repository_value (option_copied result)
+            ≡ get (lake_value self.now).repositories repo.now }
+    {
+        match self.repositories.get(repo) {
+            Some(place) => place.as_ref(),
+            None => None,
+        }
+    }
+}
