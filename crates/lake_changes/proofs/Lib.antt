@@ -1,0 +1,7 @@
+pub mod ChangedLemmas
+pub mod CountLemmas
+pub mod PlacesLemmas
+pub mod SealLemmas
+pub mod StateLemmas
+pub mod TicketsLemmas
+pub mod TokenLemmas

@@ -1,0 +1,5 @@
+pub mod BranchChanges
+pub mod FreshTokens
+pub mod LakeChanges
+pub mod LakeRoom
+pub mod RepositoryChanges

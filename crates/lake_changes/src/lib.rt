@@ -1,0 +1,18 @@
+//! Changes of a lake in memory.
+//!
+//! - `branch`, `repository`: what is done to a branch and to a repository that stay, and the room made for it.
+//! - `lake`: what each operation makes of a lake.
+//! - `laws`: of the state that a lake stands for a change makes what the operation does; versions stay those counted
+//!   over the history, and fresh tokens are unused.
+//!
+//! The promise to the layer above: a change for which room was made needs no memory and can't be refused.
+#![tactic(auto)]
+
+pub mod branch;
+pub mod lake;
+mod laws;
+pub mod repository;
+#[cfg(test)]
+mod tests;
+
+pub use laws::{laws_of_counts, laws_of_states, laws_of_tokens};
