@@ -1,0 +1,5 @@
+pub mod EntryLemmas
+pub mod HexLemmas
+pub mod NamedLemmas
+pub mod PlacesLemmas
+pub mod TargetLemmas
