@@ -1,0 +1,15 @@
+use Rattle.std.proofs.Common.{ap, ◌∙◌}
+use Rattle.std.specs.FinMap.{insert}
+use Rattle.lake_causes.proofs.SmallLakeLemmas.{two_mapped}
+use Rattle.lake_causes.proofs.tests.small_lake.trees_of.Goals as goal
+
+pub returns : goal.returns
+returns c =
+    let first = c.args.commits.now.first.0 in
+    let second = c.args.commits.now.second.0 in
+    let tree = c.in_ok-tree.tree in
+    let copy = c.in_ok-clone.field-0 in
+    let map = ap (λ t. t.map) c.in_ok-tree.ensures.ok in
+    two_mapped c.insert-2.new.self (λ t. t.value.map) first second copy tree c.args.tree.map
+    (c.in_ok-insert-2.ensures.inserted ∙ ap (λ m. insert m second tree) (c.in_ok-insert.ensures.inserted ∙ ap (λ m. insert m first copy) c.new-trees.ensures))
+    (ap (λ t. t.map) c.in_ok-clone.ensures.cases ∙ map) map

@@ -1,0 +1,23 @@
+//! Why a change of a lake in memory is refused: each test answers the first cause that holds, in the one order, or that
+//! none does. No test takes memory.
+//!
+//! - `common`: what many changes ask: that the lake isn't stopped and has room, that a repository and a branch are
+//!   there, that a branch is unprotected.
+//! - `writing`: what changes of a branch ask.
+//! - `naming`: what ask branches and tags that come and go, and settings.
+//! - `copying`: what a copy asks, and the entry that it finds.
+#![tactic(auto)]
+
+mod common;
+pub mod copying;
+pub mod naming;
+#[cfg(test)]
+mod tests;
+pub mod writing;
+
+pub use common::test_change;
+pub use copying::{Copied, test_copy};
+pub use naming::{
+    test_create_branch, test_create_tag, test_delete_branch, test_delete_tag, test_set_note,
+};
+pub use writing::{test_seal, test_stage, test_write};
