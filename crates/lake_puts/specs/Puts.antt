@@ -1,0 +1,138 @@
+-- The puts by which each change of a lake is kept, made of what the lake is before it. Where a branch or a repository
+-- isn't there, there are none.
+use Rattle.std.specs.Prelude.{◌+◌, ℕ, List, [], ◌∷◌, ◌++◌, map, filter, Option, Some, None, option_and_then, if◌then◌else◌}
+use Rattle.std.specs.Option.{option_map_or}
+use Rattle.std.specs.List.{flat_map}
+use Rattle.std.specs.FinMap.{contains_key, get, keys}
+use Rattle.lake_base.specs.declared.digest.Digest.{Digest}
+use Rattle.lake_values.specs.Reset.{drops_path}
+use Rattle.lake_values.specs.declared.commit.ResetWhat.{ResetWhat}
+use Rattle.lake_values.specs.declared.commit.ResetWhat.TheVariants.{All}
+use Rattle.lake_values.specs.declared.entry.Change.{Change}
+use Rattle.lake_values.specs.declared.settings.Note.{Note}
+use Rattle.lake_values.specs.declared.settings.Note.TheVariants as setting
+use Rattle.lake_values.specs.declared.settings.NoteName.{NoteName}
+use Rattle.branch_record.specs.Tokens.{TokenMap, changes_under}
+use Rattle.hook_rules.specs.HookForms.{hooks_text, protection_text}
+use Rattle.pair_format.specs.declared.key.OwnedKey.{OwnedKey}
+use Rattle.pair_format.specs.declared.key.OwnedKey.TheVariants as key
+use Rattle.pair_format.specs.declared.stored.Stored.{Stored}
+use Rattle.pair_format.specs.declared.stored.Stored.TheVariants as stored
+use Rattle.pair_format.specs.Spelling.{key_of, key_spelling, value_spelling}
+use Rattle.keeper.specs.declared.put.Put.{Put}
+use Rattle.lake_state.specs.Branches.{BranchValue, new_branch, tokens_of}
+use Rattle.lake_state.specs.Repositories.{RepositoryValue}
+use Rattle.lake_state.specs.Lakes.{LakeValue}
+
+-- ---- puts
+
+-- by which something is stored
+unfoldable pub spelled_put : Stored → Put
+spelled_put s = record { key = key_spelling (key_of s); value = Some (value_spelling s) }
+
+-- by which nothing stands under a key
+unfoldable pub removed_put : OwnedKey → Put
+removed_put k = record { key = key_spelling k; value = None }
+
+-- of the counts of a lake
+abbrev pub counts_put : LakeValue → Put
+counts_put l = spelled_put (stored.Counts l.next_number l.next_version l.next_token)
+
+-- of a branch
+abbrev pub branch_put : List ℕ → List ℕ → BranchValue → Put
+branch_put repo name b = spelled_put (stored.Branch repo name b.version b.head b.staging b.sealed)
+
+-- of a repository
+abbrev pub repository_put : List ℕ → RepositoryValue → Put
+repository_put repo r = spelled_put (stored.Repository repo r.created r.default_branch r.settings)
+
+-- ---- numbers, and the changes of a branch
+
+-- the branch of a name, where it is there
+abbrev pub branch_at : List ℕ → List ℕ → LakeValue → Option BranchValue
+branch_at repo name l = option_and_then (λ r. get r.branches name) (get l.repositories repo)
+
+-- a number is given out
+abbrev pub ticket_puts : LakeValue → List Put
+ticket_puts l = counts_put (record l { next_number = l.next_number + 1 }) ∷ []
+
+-- a change is staged
+abbrev pub stage_puts : List ℕ → List ℕ → List ℕ → Change → LakeValue → List Put
+stage_puts repo name path change l =
+    option_map_or (λ b. spelled_put (stored.Staged b.staging path change) ∷ []) (branch_at repo name l) []
+
+-- the removals of the changes at those of these paths, under a token, that a reset drops
+unfoldable pub removals_at : ResetWhat → ℕ → List (List ℕ) → List Put
+removals_at what token paths = map (λ path. removed_put (key.Staged token path)) (filter (drops_path what) paths)
+
+-- the same of each change under a token, in order of path
+abbrev pub removals_under : ResetWhat → TokenMap → ℕ → List Put
+removals_under what tokens token = removals_at what token (keys (changes_under tokens token))
+
+-- the same of each token of a branch: the staging token, then the sealed ones, newest first
+abbrev pub removals_of : ResetWhat → BranchValue → List Put
+removals_of what b = flat_map (removals_under what b.tokens) (tokens_of b)
+
+-- changes are dropped
+abbrev pub reset_puts : List ℕ → List ℕ → ResetWhat → LakeValue → List Put
+reset_puts repo name what l =
+    option_map_or (λ b. removals_of what b ++ branch_put repo name (record b { version = l.next_version })
+    ∷ counts_put (record l { next_version = l.next_version + 1 }) ∷ []) (branch_at repo name l) []
+
+-- a fresh staging token, and the old one first of the sealed ones; one without changes stays in place
+abbrev pub with_fresh : ℕ → BranchValue → BranchValue
+with_fresh fresh b =
+    if contains_key b.tokens b.staging then record b { staging = fresh; sealed = b.staging ∷ b.sealed } else b
+
+-- staged changes are sealed
+abbrev pub seal_puts : List ℕ → List ℕ → LakeValue → List Put
+seal_puts repo name l =
+    option_map_or (λ b. branch_put repo name (record (with_fresh l.next_token b) { version = l.next_version })
+    ∷ counts_put (record l { next_version = l.next_version + 1; next_token = l.next_token + 1 }) ∷ [])
+    (branch_at repo name l) []
+
+-- ---- names
+
+-- a branch is made
+abbrev pub create_branch_puts : List ℕ → List ℕ → Digest → LakeValue → List Put
+create_branch_puts repo name commit l =
+    branch_put repo name (new_branch l.next_version commit l.next_token)
+    ∷ counts_put (record l { next_version = l.next_version + 1; next_token = l.next_token + 1 }) ∷ []
+
+-- a branch goes
+abbrev pub delete_branch_puts : List ℕ → List ℕ → LakeValue → List Put
+delete_branch_puts repo name l =
+    option_map_or (λ b. removed_put (key.Branch repo name) ∷ removals_of All b) (branch_at repo name l) []
+
+-- a tag names a commit
+abbrev pub create_tag_puts : List ℕ → List ℕ → Digest → List Put
+create_tag_puts repo name commit = spelled_put (stored.Tag repo name commit) ∷ []
+
+-- a tag goes
+abbrev pub delete_tag_puts : List ℕ → List ℕ → List Put
+delete_tag_puts repo name = removed_put (key.Tag repo name) ∷ []
+
+-- ---- settings
+
+-- a setting that has a text: retention has none yet
+abbrev pub HasText : Note → Type 0
+HasText (setting.Retention rules) = ⊥
+HasText (setting.Protection patterns) = Unit {0}
+HasText (setting.Hooks rules) = Unit {0}
+
+-- the text of a setting
+abbrev pub note_text : Note → List ℕ
+note_text (setting.Retention rules) = []
+note_text (setting.Protection patterns) = protection_text patterns
+note_text (setting.Hooks rules) = hooks_text rules
+
+-- of a setting: its text, or its removal
+abbrev pub note_put : List ℕ → NoteName → Option Note → Put
+note_put repo name None = removed_put (key.Note repo name)
+note_put repo name (Some note) = spelled_put (stored.Note repo name (note_text note))
+
+-- a setting is set, or deleted where no new one is given
+abbrev pub set_note_puts : List ℕ → NoteName → Option Note → LakeValue → List Put
+set_note_puts repo name note l =
+    option_map_or (λ r. note_put repo name note ∷ repository_put repo (record r { settings = l.next_version })
+    ∷ counts_put (record l { next_version = l.next_version + 1 }) ∷ []) (get l.repositories repo) []

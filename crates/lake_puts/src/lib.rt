@@ -1,0 +1,25 @@
+//! The puts by which each change of a lake is kept. They are made of what the lake is before the change, and take all
+//! memory that keeping it takes.
+//!
+//! - `paths`: numbers of uploads, and changes that are staged.
+//! - `branches`: branches that are reset, sealed, made and deleted.
+//! - `tags`: tags that are made and deleted.
+//! - `notes`: settings.
+//! - `pushing`: puts that are appended to others; `parts`: what is put of a branch; `removing`: the changes of a branch
+//!   that a reset drops.
+//!
+//! The promise to the layer above: what a `Keeper` is handed for a change is just what the definitions say.
+#![tactic(auto)]
+
+pub mod branches;
+pub mod notes;
+mod parts;
+pub mod paths;
+mod pushing;
+mod removing;
+pub mod tags;
+
+pub use branches::{create_branch_puts, delete_branch_puts, reset_puts, seal_puts};
+pub use notes::set_note_puts;
+pub use paths::{copy_puts, stage_puts, ticket_puts};
+pub use tags::{create_tag_puts, delete_tag_puts};
