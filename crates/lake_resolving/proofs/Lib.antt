@@ -1,5 +1,6 @@
 pub mod EntryLemmas
 pub mod HexLemmas
 pub mod NamedLemmas
+pub mod OnlyLemmas
 pub mod PlacesLemmas
 pub mod TargetLemmas

@@ -56,7 +56,7 @@ or_cases : {X : Type 0} (o p : Option X) (x : X) → option_or o p ≡ Some x �
 or_cases None p x is = inr is
 or_cases (Some y) p x is = inl is
 
-map_cases : {X Y : Type 0} (f : X → Y) (o : Option X) (y : Y) → option_map f o ≡ Some y → (x : X) × (o ≡ Some x) × (f x ≡ y)
+pub map_cases : {X Y : Type 0} (f : X → Y) (o : Option X) (y : Y) → option_map f o ≡ Some y → (x : X) × (o ≡ Some x) × (f x ≡ y)
 map_cases f None y is = absurd cc
 map_cases f (Some x) y is = (x, refl, cc)
 

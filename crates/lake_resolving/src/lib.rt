@@ -9,6 +9,8 @@
 
 pub mod entries;
 pub mod targets;
+#[cfg(test)]
+mod tests;
 
 pub use entries::{entry_at, entry_on, map_entry};
 pub use targets::{commit_named, is_plain_branch, name_target, target};
