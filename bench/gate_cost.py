@@ -1,7 +1,7 @@
 #!/usr/bin/env python3
 """What the merge gate costs: bench/gate_cost.py [--here]
 
-Clones this repository into a scratch folder, runs `rt ci --anew` there, which proves everything from nothing, and
+Clones this repository into a scratch folder, runs `rt ci` there, from nothing (`--anew` where the kit has that word), and
 watches its processes. Prints a table, a row a crate: processor minutes of its proofs, of its tests and of its
 must-fail edits, the largest memory of one process and the longest process, its lines (.rt and .antt), and processor
 minutes a thousand lines; then the whole run, and the longest chain of crates that stand on one another. With --here
@@ -119,13 +119,19 @@ def chain(below, minutes):
     return max(best.values())
 
 
+def anew():
+    """The word by which rt ci proves everything from nothing, where the kit has one: else it always does."""
+    told = subprocess.run(["rt", "help"], stdout=subprocess.PIPE, stderr=subprocess.STDOUT, check=False).stdout.decode(errors="replace")
+    return ["--anew"] if "--anew" in told else []
+
+
 def main():
     top = HERE if "--here" in sys.argv else f"{tempfile.mkdtemp(prefix='gate-')}/clone"
     if top != HERE:
         subprocess.run(["git", "clone", "-q", HERE, top], check=True)
     start = time.time()
     with open(f"{top}/../gate.log" if top != HERE else os.devnull, "w") as log:
-        run = subprocess.Popen(["rt", "ci", "--anew"], cwd=top, stdout=log, stderr=subprocess.STDOUT)
+        run = subprocess.Popen(["rt", "ci", *anew()], cwd=top, stdout=log, stderr=subprocess.STDOUT)
         used_by = list(watch(run))
     whole = (time.time() - start) / 60
     below = crates(top)
