@@ -8,8 +8,8 @@ use Rattle.plain_model.specs.Legal.{HasTicket}
 use Rattle.plain_model.proofs.Refused.{room}
 use Rattle.plain_model.proofs.Numbers.{given_below, next_within}
 use Rattle.plain_model.proofs.Replay.{entries-fresh, HasTicket-taken}
-use Rattle.lake_core.proofs.Steps.{Leads, taken, counted, ticket_given}
-use Rattle.lake_core.proofs.plain_lake.PlainLake.take_ticket.Goals as goal
+use Rattle.plain_lake.proofs.Steps.{Leads, taken, counted, ticket_given}
+use Rattle.plain_lake.proofs.plain_lake.PlainLake.take_ticket.Goals as goal
 
 pub overflow_add-self : goal.overflow_add-self
 overflow_add-self c =

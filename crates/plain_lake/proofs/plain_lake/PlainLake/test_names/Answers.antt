@@ -2,8 +2,8 @@ use Rattle.std.proofs.Common.{true, false, refl, ap, ◌∙◌, sym}
 use Rattle.plain_model.specs.State.{fresh_repo, fresh_branch}
 use Rattle.plain_model.specs.State.{State, fresh}
 use Rattle.plain_model.specs.After.{replay}
-use Rattle.lake_core.proofs.Steps.{tie_from, names_tell}
-use Rattle.lake_core.proofs.plain_lake.PlainLake.test_names.Goals as goal
+use Rattle.plain_lake.proofs.Steps.{tie_from, names_tell}
+use Rattle.plain_lake.proofs.plain_lake.PlainLake.test_names.Goals as goal
 
 pub returns-then-ne-clause-refusal : goal.returns-then-ne-clause-refusal
 returns-then-ne-clause-refusal c =

@@ -4,8 +4,8 @@ use Rattle.plain_model.specs.declared.history.HistoryEntry.{HistoryEntry}
 use Rattle.plain_model.specs.declared.history.EntryKind.TheVariants.{TicketDrop}
 use Rattle.plain_model.specs.State.{fresh}
 use Rattle.plain_model.specs.After.{replay}
-use Rattle.lake_core.proofs.Steps.{Leads, dropped, counted, drop_given}
-use Rattle.lake_core.proofs.plain_lake.PlainLake.drop_ticket.Goals as goal
+use Rattle.plain_lake.proofs.Steps.{Leads, dropped, counted, drop_given}
+use Rattle.plain_lake.proofs.plain_lake.PlainLake.drop_ticket.Goals as goal
 
 pub invariant_of-self-2 : goal.invariant_of-self-2
 invariant_of-self-2 c =

@@ -43,7 +43,7 @@ impl Model for PlainLake {
 
     ghost Value = { List HistoryEntry };
 
-    ghost use Rattle.lake_core.specs.Plain.{state_of};
+    ghost use Rattle.plain_lake.specs.Plain.{state_of};
 
     ghost view = { λ lake. lake.history.items };
 

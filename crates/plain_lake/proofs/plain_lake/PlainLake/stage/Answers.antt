@@ -4,8 +4,8 @@ use Rattle.plain_model.specs.declared.history.HistoryEntry.{HistoryEntry}
 use Rattle.plain_model.specs.declared.history.EntryKind.TheVariants.{Stage}
 use Rattle.plain_model.specs.State.{State, fresh, only}
 use Rattle.plain_model.specs.After.{replay, without}
-use Rattle.lake_core.proofs.Steps.{Leads, staged, counted, stage_given, staged_shows}
-use Rattle.lake_core.proofs.plain_lake.PlainLake.stage.Goals as goal
+use Rattle.plain_lake.proofs.Steps.{Leads, staged, counted, stage_given, staged_shows}
+use Rattle.plain_lake.proofs.plain_lake.PlainLake.stage.Goals as goal
 
 pub invariant_of-self-2 : goal.invariant_of-self-2
 invariant_of-self-2 c =

@@ -2,7 +2,7 @@
 use Rattle.std.specs.Prelude.{length}
 use Rattle.std.specs.FinMap.{from_entries}
 use Rattle.plain_model.specs.State.{State, only}
-use Rattle.lake_core.specs.declared.plain_lake.PlainLake.TheInside.{Inside}
+use Rattle.plain_lake.specs.declared.plain_lake.PlainLake.TheInside.{Inside}
 
 -- the changes on the one branch, the next number, the tickets, and as many entries as the history has
 abbrev pub state_of : Inside → State

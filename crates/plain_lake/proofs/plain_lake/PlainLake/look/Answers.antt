@@ -1,8 +1,8 @@
 use Rattle.std.proofs.Common.{ap, ◌∙◌, sym}
 use Rattle.plain_model.specs.State.{State, fresh}
 use Rattle.plain_model.specs.After.{replay}
-use Rattle.lake_core.proofs.Steps.{look_given}
-use Rattle.lake_core.proofs.plain_lake.PlainLake.look.Goals as goal
+use Rattle.plain_lake.proofs.Steps.{look_given}
+use Rattle.plain_lake.proofs.plain_lake.PlainLake.look.Goals as goal
 
 pub returns-clause-reply : goal.returns-clause-reply
 returns-clause-reply c =
