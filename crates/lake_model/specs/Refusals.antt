@@ -62,6 +62,12 @@ abbrev pub unless_refused : {X : Type 0} → Option StepFault → X → Result X
 unless_refused None answer = Ok answer
 unless_refused (Some fault) answer = Err fault
 
+-- a refusal: neither lack of memory nor a fault of the store
+abbrev pub IsRefusal : StepFault → Type 0
+IsRefusal StoreFault = ⊥
+IsRefusal NoMemory = ⊥
+IsRefusal _ = Unit {0}
+
 -- What a reading answered is the reply, or memory ran out.
 abbrev pub Gives : {X : Type 0} → Result X StepFault → Result X StepFault → Type 0
 Gives (Err NoMemory) reply = Unit {0}

@@ -39,7 +39,7 @@ pub struct RepositoryCommit {
 }
 
 /// What is done to the lake, with every expression resolved. A revert is a Pick.
-#[derive(Debug, Drop)]
+#[derive(Debug)]
 pub enum Operation {
     /// A repository is made, with its default branch at a first commit of this date.
     RepoCreate {
@@ -146,6 +146,88 @@ pub enum Operation {
     Condemn {
         numbers: Sequence<u64>,
     },
+}
+
+/// An operation is let go part by part, written out: what is above proves it once, and not anew for each variant.
+impl Drop for Operation {
+    fn drop(self) {
+        match self {
+            Operation::RepoCreate {
+                repo: _,
+                branch: _,
+                date: _,
+            } => {}
+            Operation::BranchCreate {
+                repo: _,
+                branch: _,
+                commit: _,
+            } => {}
+            Operation::BranchDelete { repo: _, branch: _ } => {}
+            Operation::TagCreate {
+                repo: _,
+                tag: _,
+                commit: _,
+            } => {}
+            Operation::TagDelete { repo: _, tag: _ } => {}
+            Operation::TicketTake {
+                repo: _,
+                branch: _,
+                number: _,
+            } => {}
+            Operation::TicketDrop { number: _ } => {}
+            Operation::Stage {
+                repo: _,
+                branch: _,
+                path: _,
+                change: _,
+            } => {}
+            Operation::Copy {
+                repo: _,
+                branch: _,
+                path: _,
+                from: _,
+                from_path: _,
+                entry: _,
+            } => {}
+            Operation::Reset {
+                repo: _,
+                branch: _,
+                what: _,
+            } => {}
+            Operation::Seal {
+                repo: _,
+                branch: _,
+                why: _,
+            } => {}
+            Operation::Commit {
+                repo: _,
+                branch: _,
+                about: _,
+            } => {}
+            Operation::Merge {
+                repo: _,
+                branch: _,
+                source: _,
+                strategy: _,
+                about: _,
+            } => {}
+            Operation::Pick {
+                repo: _,
+                branch: _,
+                base: _,
+                source: _,
+                strategy: _,
+                about: _,
+            } => {}
+            Operation::NoteSet {
+                repo: _,
+                name: _,
+                note: _,
+            } => {}
+            Operation::Expire { now: _, commits: _ } => {}
+            Operation::Condemn { numbers: _ } => {}
+        }
+    }
 }
 
 /// What an entry says.

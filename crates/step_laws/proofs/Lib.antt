@@ -11,3 +11,4 @@ pub mod SwapRefusalLemmas
 pub mod RepositoryLemmas
 pub mod SwapStepLemmas
 pub mod AllowanceLemmas
+pub mod ToldLemmas
