@@ -13,13 +13,13 @@ use Rattle.lake_model.specs.Branches.{protected_by}
 use Rattle.lake_model.specs.Refusals.{Causes, cause_if, first_cause, protection_of, with_branch, with_repository}
 use Rattle.lake_model.specs.Steps.{in_it, holds_in}
 use Rattle.lake_model.specs.Versions.{VersionsGiven, branch_version, settings_version}
-use Rattle.lake_state.specs.Branches.{BranchValue, branch_of}
+use Rattle.lake_state.specs.Branches.{BranchStateValue, branch_of}
 use Rattle.lake_state.specs.Counts.{HasVersions}
-use Rattle.lake_state.specs.Repositories.{RepositoryValue, repository_of}
-use Rattle.lake_state.specs.Lakes.{LakeValue, state_of}
+use Rattle.lake_state.specs.Repositories.{RepositoryStateValue, repository_of}
+use Rattle.lake_state.specs.Lakes.{LakeStateValue, state_of}
 use Rattle.lake_causes.proofs.FirstCauseLemmas.{PassesChange, reference_refuses, refused, repository_refuses}
 
-module _ (l : LakeValue) (repo : List ℕ) where
+module _ (l : LakeStateValue) (repo : List ℕ) where
   -- a repository that isn't there is a cause
   no_repository : get l.repositories repo ≡ None → cause_if (not (contains_key (state_of l).repositories repo)) NoRepo ≡ Some NoRepo
   no_repository none =
@@ -34,7 +34,7 @@ module _ (l : LakeValue) (repo : List ℕ) where
       let asks = with_repository (state_of l) repo c in
       refused P asks answer told NoRepo err is.0 (repository_refuses asks change NoRepo (no_repository is.1))
 
-  module _ (r : RepositoryValue) (at : get l.repositories repo ≡ Some r) where
+  module _ (r : RepositoryStateValue) (at : get l.repositories repo ≡ Some r) where
     -- one that is there stands for one of the state
     there : get (state_of l).repositories repo ≡ Some (repository_of r)
     there = get_map_values repository_of l.repositories repo ∙ ap (option_map repository_of) at
@@ -56,13 +56,13 @@ module _ (l : LakeValue) (repo : List ℕ) where
     protection_is branch = asked (λ x. option_map Protected (protected_by x.notes.protection branch))
 
     -- its branches
-    pub branch_found : (branch : List ℕ) (o : Option BranchValue) → get r.branches branch ≡ o
+    pub branch_found : (branch : List ℕ) (o : Option BranchStateValue) → get r.branches branch ≡ o
         → model.branch_of (state_of l) repo branch ≡ option_map branch_of o
     branch_found branch o is =
         asked (λ x. get x.branches branch) ∙ get_map_values branch_of r.branches branch ∙ ap (option_map branch_of) is
 
     -- a branch that is there is no cause
-    pub branch_passes : (branch : List ℕ) (b : BranchValue) → get r.branches branch ≡ Some b
+    pub branch_passes : (branch : List ℕ) (b : BranchStateValue) → get r.branches branch ≡ Some b
         → cause_if (not (is_some (model.branch_of (state_of l) repo branch))) NoRef ≡ None
     branch_passes branch b is = ap (λ o. cause_if (not (is_some o)) NoRef) (branch_found branch (Some b) is)
 
@@ -77,7 +77,7 @@ module _ (l : LakeValue) (repo : List ℕ) where
         (ap (λ o. cause_if (not (is_some o)) NoRef) (branch_found branch None is.1)))
 
     -- ---- the version of a branch that is there
-    module _ (given : VersionsGiven) (counts : HasVersions given l) (branch : List ℕ) (b : BranchValue) (has : get r.branches branch ≡ Some b) (version : ℕ) where
+    module _ (given : VersionsGiven) (counts : HasVersions given l) (branch : List ℕ) (b : BranchStateValue) (has : get r.branches branch ≡ Some b) (version : ℕ) where
       version_is : (t : Bool) → (version == b.version) ≡ t
           → cause_if (not (version == branch_version given repo branch)) (Changed (branch_version given repo branch) (settings_version given repo))
           ≡ cause_if (not t) (Changed b.version r.settings)

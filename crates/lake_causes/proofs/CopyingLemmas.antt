@@ -16,18 +16,18 @@ use Rattle.lake_model.specs.Refusals.{Causes, cause_if, causes_of_change, first_
 use Rattle.lake_model.specs.Resolving.{expression_target, name_target}
 use Rattle.lake_model.specs.Steps.{copied_entry, copy_causes, copy_source, holds_in, source_fault}
 use Rattle.lake_model.specs.Versions.{VersionsGiven}
-use Rattle.lake_state.specs.Branches.{BranchValue}
+use Rattle.lake_state.specs.Branches.{BranchStateValue}
 use Rattle.lake_state.specs.Counts.{HasVersions}
-use Rattle.lake_state.specs.Repositories.{RepositoryValue, repository_of}
-use Rattle.lake_state.specs.Lakes.{LakeValue, state_of}
+use Rattle.lake_state.specs.Repositories.{RepositoryStateValue, repository_of}
+use Rattle.lake_state.specs.Lakes.{LakeStateValue, state_of}
 use Rattle.lake_causes.specs.Finding.{FindsCopy, source_of}
 use Rattle.lake_causes.specs.declared.copying.Copied.{Copied}
 use Rattle.lake_causes.proofs.CommonLemmas.{asked, branch_found, branch_passes, protection_is, repository_passes, version_changed, version_passes}
 use Rattle.lake_causes.proofs.ExpressionLemmas.{expression_refuses, name_passes, parent_passes}
 use Rattle.lake_causes.proofs.FirstCauseLemmas.{change_passes, expired_refuses, nothing_refuses, path_refuses, protected_refuses, reference_refuses, version_refuses}
 
-module _ (l : LakeValue) (given : VersionsGiven) (counts : HasVersions given l) (repo branch : List ℕ) (version : ℕ) (e : RefExprValue) (from : List ℕ)
-    (r : RepositoryValue) (at : get l.repositories repo ≡ Some r) (change : first_cause (causes_of_change (state_of l)) ≡ None) where
+module _ (l : LakeStateValue) (given : VersionsGiven) (counts : HasVersions given l) (repo branch : List ℕ) (version : ℕ) (e : RefExprValue) (from : List ℕ)
+    (r : RepositoryStateValue) (at : get l.repositories repo ≡ Some r) (change : first_cause (causes_of_change (state_of l)) ≡ None) where
   -- what the copy asks, and of this what its expression's name does
   abbrev copy : Causes
   copy = copy_causes (state_of l) given repo branch version e from
@@ -41,7 +41,7 @@ module _ (l : LakeValue) (given : VersionsGiven) (counts : HasVersions given l) 
       reference_refuses copy (change_passes (state_of l) change) (repository_passes l repo r at) NoRef
       (ap (λ o. option_or (cause_if (not (is_some o)) NoRef) name_cause) (branch_found l repo r at branch None none))
 
-  module _ (b : BranchValue) (has : get r.branches branch ≡ Some b) where
+  module _ (b : BranchStateValue) (has : get r.branches branch ≡ Some b) where
     reference_is : copy.reference ≡ name_cause
     reference_is = ap (λ o. option_or o name_cause) (branch_passes l repo r at branch b has)
 

@@ -15,8 +15,8 @@ use Rattle.lake_model.specs.Resolving.{expression_target}
 use Rattle.lake_model.specs.Refusals.{Causes, cause_if, causes_of_change, first_cause, with_repository}
 use Rattle.lake_model.specs.Steps.{expired_fault, holds_in, in_it, target_in, with_expression, with_live_target}
 use Rattle.lake_state.specs.Branches.{branch_of}
-use Rattle.lake_state.specs.Repositories.{RepositoryValue, repository_of}
-use Rattle.lake_state.specs.Lakes.{LakeValue, state_of}
+use Rattle.lake_state.specs.Repositories.{RepositoryStateValue, repository_of}
+use Rattle.lake_state.specs.Lakes.{LakeStateValue, state_of}
 use Rattle.lake_causes.specs.Asking.{AsksFor}
 use Rattle.lake_causes.proofs.CommonLemmas.{asked, repository_passes, tested}
 use Rattle.lake_causes.proofs.ExpressionLemmas.{expression_refuses, name_passes, parent_passes, target_is}
@@ -33,13 +33,13 @@ found_some f None p is = ap is_some (sym is)
 found_some f (Some x) p is = ap is_some (sym is)
 
 -- the cause of a branch that has the name, and of a tag
-abbrev pub branch_cause : LakeValue → List ℕ → List ℕ → Option StepFault
+abbrev pub branch_cause : LakeStateValue → List ℕ → List ℕ → Option StepFault
 branch_cause l repo name = cause_if (is_some (model.branch_of (state_of l) repo name)) Exists
 
-abbrev pub tag_cause : LakeValue → List ℕ → List ℕ → Option StepFault
+abbrev pub tag_cause : LakeStateValue → List ℕ → List ℕ → Option StepFault
 tag_cause l repo name = cause_if (holds_in (state_of l) repo (λ x. contains_key x.tags name)) Exists
 
-module _ (l : LakeValue) (repo : List ℕ) (r : RepositoryValue) (at : get l.repositories repo ≡ Some r) where
+module _ (l : LakeStateValue) (repo : List ℕ) (r : RepositoryStateValue) (at : get l.repositories repo ≡ Some r) where
   -- a branch of the name
   pub branch_taken : (name : List ℕ) (t : Bool) → is_some (get r.branches name) ≡ t
       → branch_cause l repo name ≡ cause_if t Exists

@@ -12,8 +12,8 @@ use Rattle.lake_model.specs.State.{Repository}
 use Rattle.lake_model.specs.Resolving.{expression_target, moved_target, name_target, parent_fault}
 use Rattle.lake_model.specs.Refusals.{Causes, cause_if, first_cause, first_of}
 use Rattle.lake_model.specs.Steps.{holds_in, in_it, move_fault, target_in}
-use Rattle.lake_state.specs.Repositories.{RepositoryValue, repository_of}
-use Rattle.lake_state.specs.Lakes.{LakeValue, state_of}
+use Rattle.lake_state.specs.Repositories.{RepositoryStateValue, repository_of}
+use Rattle.lake_state.specs.Lakes.{LakeStateValue, state_of}
 use Rattle.lake_causes.proofs.CommonLemmas.{asked, tested}
 use Rattle.lake_causes.proofs.FirstCauseLemmas.{PassesChange, after_parent, repository_passed}
 
@@ -35,7 +35,7 @@ name_leads : (r : Repository) (e : RefExprValue) (o : Option Digest) (id : Diges
 name_leads r e None id is = absurd cc
 name_leads r e (Some at) id is = refl
 
-module _ (l : LakeValue) (repo : List ℕ) (r : RepositoryValue) (at : get l.repositories repo ≡ Some r) where
+module _ (l : LakeStateValue) (repo : List ℕ) (r : RepositoryStateValue) (at : get l.repositories repo ≡ Some r) where
   module _ (e : RefExprValue) where
     name_is : cause_if (holds_in (state_of l) repo (λ x. is_none (name_target x e.name))) NoRef
         ≡ cause_if (is_none (name_target (repository_of r) e.name)) NoRef

@@ -15,18 +15,18 @@ use Rattle.lake_model.specs.NoteChanges.{note_at}
 use Rattle.lake_model.specs.Refusals.{cause_if, causes_of_change, first_cause}
 use Rattle.lake_model.specs.Steps.{delete_branch_causes, delete_tag_causes, holds_in, in_it, is_expected, set_note_causes}
 use Rattle.lake_model.specs.Versions.{VersionsGiven, settings_version}
-use Rattle.lake_state.specs.Branches.{BranchValue}
+use Rattle.lake_state.specs.Branches.{BranchStateValue}
 use Rattle.lake_state.specs.Counts.{HasVersions}
-use Rattle.lake_state.specs.Repositories.{RepositoryValue, repository_of}
-use Rattle.lake_state.specs.Lakes.{LakeValue, state_of}
+use Rattle.lake_state.specs.Repositories.{RepositoryStateValue, repository_of}
+use Rattle.lake_state.specs.Lakes.{LakeStateValue, state_of}
 use Rattle.lake_causes.specs.Asking.{Asks}
 use Rattle.lake_causes.proofs.CommonLemmas.{asked, branch_passes, protection_is, repository_passes, tested}
 use Rattle.lake_causes.proofs.FirstCauseLemmas.{change_passes, default_branch_refuses, note_refuses, nothing_refuses, protected_refuses, reference_refuses, version_refuses}
 
-module _ (l : LakeValue) (repo : List ℕ) (r : RepositoryValue) (at : get l.repositories repo ≡ Some r)
+module _ (l : LakeStateValue) (repo : List ℕ) (r : RepositoryStateValue) (at : get l.repositories repo ≡ Some r)
     (change : first_cause (causes_of_change (state_of l)) ≡ None) where
   -- ---- a branch that is there goes
-  module _ (name : List ℕ) (b : BranchValue) (has : get r.branches name ≡ Some b) where
+  module _ (name : List ℕ) (b : BranchStateValue) (has : get r.branches name ≡ Some b) where
     default_is : (t : Bool) → bytes_eq r.default_branch name ≡ t
         → cause_if (holds_in (state_of l) repo (λ x. bytes_eq x.default_branch name)) DefaultBranch ≡ cause_if t DefaultBranch
     default_is t is = ap (λ h. cause_if h DefaultBranch) (tested l repo r at (λ x. bytes_eq x.default_branch name) ∙ is)

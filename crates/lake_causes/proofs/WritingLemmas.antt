@@ -9,15 +9,15 @@ use Rattle.lake_model.specs.Branches.{protected_by}
 use Rattle.lake_model.specs.Refusals.{causes_of_change, first_cause, with_branch}
 use Rattle.lake_model.specs.Steps.{stage_causes, write_causes}
 use Rattle.lake_model.specs.Versions.{VersionsGiven}
-use Rattle.lake_state.specs.Branches.{BranchValue}
+use Rattle.lake_state.specs.Branches.{BranchStateValue}
 use Rattle.lake_state.specs.Counts.{HasVersions}
-use Rattle.lake_state.specs.Repositories.{RepositoryValue, repository_of}
-use Rattle.lake_state.specs.Lakes.{LakeValue, state_of}
+use Rattle.lake_state.specs.Repositories.{RepositoryStateValue, repository_of}
+use Rattle.lake_state.specs.Lakes.{LakeStateValue, state_of}
 use Rattle.lake_causes.specs.Asking.{Asks}
 use Rattle.lake_causes.proofs.CommonLemmas.{branch_passes, protection_is, repository_passes, version_changed, version_passes}
 use Rattle.lake_causes.proofs.FirstCauseLemmas.{change_passes, nothing_refuses, protected_refuses, version_refuses}
 
-module _ (l : LakeValue) (repo branch : List ℕ) (r : RepositoryValue) (b : BranchValue)
+module _ (l : LakeStateValue) (repo branch : List ℕ) (r : RepositoryStateValue) (b : BranchStateValue)
     (at : get l.repositories repo ≡ Some r) (has : get r.branches branch ≡ Some b)
     (change : first_cause (causes_of_change (state_of l)) ≡ None) where
   -- a branch that is named

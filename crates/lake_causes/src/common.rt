@@ -18,6 +18,7 @@ use lake_state::{BranchState, LakeState, RepositoryState};
 use lake_values::CommitId;
 
 /// What every change asks: the lake isn't stopped, and its history has room. Stopped, HistoryFull.
+#[tactic(auto, unfolding(lake_state::specs::Lakes::lake_value))]
 pub fn test_change(lake: &LakeState) -> Result<(), StepFault>
     ensures { Asks (causes_of_change (state_of (lake_value lake.now))) result }
 {

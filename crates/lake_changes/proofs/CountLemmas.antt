@@ -10,9 +10,9 @@ use Rattle.byte_map.proofs.ByteMapLemmas.{get_empty, get_insert}
 use Rattle.lake_values.specs.declared.entry.Change.{Change}
 use Rattle.lake_model.specs.Parts.{changed_at}
 use Rattle.lake_model.specs.Versions.{VersionsGiven, branch_version, settings_version, with_branch_version, with_settings_version}
-use Rattle.lake_state.specs.Branches.{BranchValue}
-use Rattle.lake_state.specs.Repositories.{RepositoryValue}
-use Rattle.lake_state.specs.Lakes.{LakeValue}
+use Rattle.lake_state.specs.Branches.{BranchStateValue}
+use Rattle.lake_state.specs.Repositories.{RepositoryStateValue}
+use Rattle.lake_state.specs.Lakes.{LakeStateValue}
 use Rattle.lake_state.specs.Counts.{HasVersions}
 use Rattle.lake_changes.specs.declared.branch.BranchChange.TheVariants.{Stage}
 use Rattle.lake_changes.specs.BranchChanges.{branch_after}
@@ -77,24 +77,24 @@ settings_by given repo q test is =
 -- ---- the versions that repositories have
 
 -- a repository has these
-pub record HasVersionsIn (of_branch : List ℕ → ℕ) (of_settings : ℕ) (r : RepositoryValue) : Type 0 where
-  pub branches : (name : List ℕ) (b : BranchValue) → get r.branches name ≡ Some b → of_branch name ≡ b.version
+pub record HasVersionsIn (of_branch : List ℕ → ℕ) (of_settings : ℕ) (r : RepositoryStateValue) : Type 0 where
+  pub branches : (name : List ℕ) (b : BranchStateValue) → get r.branches name ≡ Some b → of_branch name ≡ b.version
   pub settings : of_settings ≡ r.settings
 
 -- each repository has these, and settings of one that isn't there had none
-pub record AreVersionsOf (of_branch : List ℕ → List ℕ → ℕ) (of_settings : List ℕ → ℕ) (repositories : ByteMap RepositoryValue) : Type 0 where
-  pub each : (repo : List ℕ) (r : RepositoryValue) → get repositories repo ≡ Some r → HasVersionsIn (of_branch repo) (of_settings repo) r
+pub record AreVersionsOf (of_branch : List ℕ → List ℕ → ℕ) (of_settings : List ℕ → ℕ) (repositories : ByteMap RepositoryStateValue) : Type 0 where
+  pub each : (repo : List ℕ) (r : RepositoryStateValue) → get repositories repo ≡ Some r → HasVersionsIn (of_branch repo) (of_settings repo) r
   pub unset : (repo : List ℕ) → get repositories repo ≡ None → of_settings repo ≡ 0
 
 -- those of a lake
-pub versions_of : (given : VersionsGiven) (l : LakeValue) → HasVersions given l → AreVersionsOf (branch_version given) (settings_version given) l.repositories
+pub versions_of : (given : VersionsGiven) (l : LakeStateValue) → HasVersions given l → AreVersionsOf (branch_version given) (settings_version given) l.repositories
 versions_of given l has = record {
   each = λ repo r is. record { branches = λ name b there. has.branches repo r name b is there; settings = has.settings repo r is };
   unset = has.unset;
 }
 
 -- and the other way round
-pub lake_versions : (given : VersionsGiven) (l : LakeValue) → given.next ≡ l.next_version → given.references ≡ l.references
+pub lake_versions : (given : VersionsGiven) (l : LakeStateValue) → given.next ≡ l.next_version → given.references ≡ l.references
     → AreVersionsOf (branch_version given) (settings_version given) l.repositories → HasVersions given l
 lake_versions given l next references are = record {
   next = next;
@@ -104,10 +104,10 @@ lake_versions given l next references are = record {
   unset = are.unset;
 }
 
-module _ (given : VersionsGiven) (repositories : ByteMap RepositoryValue) (repo : List ℕ) (change : RepositoryValue → RepositoryValue)
+module _ (given : VersionsGiven) (repositories : ByteMap RepositoryStateValue) (repo : List ℕ) (change : RepositoryStateValue → RepositoryStateValue)
     (are : AreVersionsOf (branch_version given) (settings_version given) repositories) where
   -- a repository is changed, and its versions stay
-  pub versions_stay : ((of_branch : List ℕ → ℕ) (of_settings : ℕ) (r : RepositoryValue) → HasVersionsIn of_branch of_settings r → HasVersionsIn of_branch of_settings (change r))
+  pub versions_stay : ((of_branch : List ℕ → ℕ) (of_settings : ℕ) (r : RepositoryStateValue) → HasVersionsIn of_branch of_settings r → HasVersionsIn of_branch of_settings (change r))
       → AreVersionsOf (branch_version given) (settings_version given) (changed_at repo change repositories)
   versions_stay keeps = record {
     each = all_changed (λ q r. HasVersionsIn (branch_version given q) (settings_version given q) r) repositories repo change
@@ -117,7 +117,7 @@ module _ (given : VersionsGiven) (repositories : ByteMap RepositoryValue) (repo 
 
   -- a branch of it is given the next version
   pub versions_rise : (name : List ℕ)
-      → ((q : List ℕ) (r : RepositoryValue) → bytes_eq q repo ≡ true → HasVersionsIn (branch_version given q) (settings_version given q) r
+      → ((q : List ℕ) (r : RepositoryStateValue) → bytes_eq q repo ≡ true → HasVersionsIn (branch_version given q) (settings_version given q) r
       → HasVersionsIn (branch_version (with_branch_version repo name given) q) (settings_version given q) (change r))
       → AreVersionsOf (branch_version (with_branch_version repo name given)) (settings_version given) (changed_at repo change repositories)
   versions_rise name rises = record {
@@ -137,7 +137,7 @@ module _ (given : VersionsGiven) (repositories : ByteMap RepositoryValue) (repo 
 
   -- its settings are given the next version
   pub settings_rise : IsSome (get repositories repo)
-      → ((r : RepositoryValue) → given.next ≡ (change r).settings) → ((r : RepositoryValue) → (change r).branches ≡ r.branches)
+      → ((r : RepositoryStateValue) → given.next ≡ (change r).settings) → ((r : RepositoryStateValue) → (change r).branches ≡ r.branches)
       → AreVersionsOf (branch_version given) (settings_version (with_settings_version repo given)) (changed_at repo change repositories)
   settings_rise there next same = record {
     each = all_changed (λ q r. HasVersionsIn (branch_version given q) (settings_version (with_settings_version repo given) q) r) repositories repo change
@@ -153,9 +153,9 @@ module _ (given : VersionsGiven) (repositories : ByteMap RepositoryValue) (repo 
   }
 
 -- ---- what is done to the branches of a repository
-module _ (of_branch : List ℕ → ℕ) (of_settings : ℕ) (r : RepositoryValue) (has : HasVersionsIn of_branch of_settings r) (name : List ℕ) where
+module _ (of_branch : List ℕ → ℕ) (of_settings : ℕ) (r : RepositoryStateValue) (has : HasVersionsIn of_branch of_settings r) (name : List ℕ) where
   -- a branch is changed, and its version stays
-  branch_stays : (change : BranchValue → BranchValue) → ((b : BranchValue) → b.version ≡ (change b).version)
+  branch_stays : (change : BranchStateValue → BranchStateValue) → ((b : BranchStateValue) → b.version ≡ (change b).version)
       → HasVersionsIn of_branch of_settings (record r { branches = changed_at name change r.branches })
   branch_stays change same = record {
     branches = all_changed (λ q b. of_branch q ≡ b.version) r.branches name change
@@ -167,10 +167,10 @@ module _ (of_branch : List ℕ → ℕ) (of_settings : ℕ) (r : RepositoryValue
   pub branch_goes : HasVersionsIn of_branch of_settings (record r { branches = remove r.branches name })
   branch_goes = record { branches = all_left (λ q b. of_branch q ≡ b.version) r.branches name has.branches; settings = has.settings }
 
-module _ (given : VersionsGiven) (repo name q : List ℕ) (of_settings : ℕ) (r : RepositoryValue) (tie : bytes_eq q repo ≡ true)
+module _ (given : VersionsGiven) (repo name q : List ℕ) (of_settings : ℕ) (r : RepositoryStateValue) (tie : bytes_eq q repo ≡ true)
     (has : HasVersionsIn (branch_version given q) of_settings r) where
   -- a branch is given the next version
-  branch_rises : (change : BranchValue → BranchValue) → ((b : BranchValue) → given.next ≡ (change b).version)
+  branch_rises : (change : BranchStateValue → BranchStateValue) → ((b : BranchStateValue) → given.next ≡ (change b).version)
       → HasVersionsIn (branch_version (with_branch_version repo name given) q) of_settings (record r { branches = changed_at name change r.branches })
   branch_rises change next = record {
     branches = all_changed (λ n b. branch_version (with_branch_version repo name given) q n ≡ b.version) r.branches name change
@@ -180,7 +180,7 @@ module _ (given : VersionsGiven) (repo name q : List ℕ) (of_settings : ℕ) (r
   }
 
   -- a branch is made, with the next version
-  pub branch_begins : (b : BranchValue) → given.next ≡ b.version
+  pub branch_begins : (b : BranchStateValue) → given.next ≡ b.version
       → HasVersionsIn (branch_version (with_branch_version repo name given) q) of_settings (record r { branches = insert r.branches name b })
   branch_begins b next = record {
     branches = all_inserted (λ n x. branch_version (with_branch_version repo name given) q n ≡ x.version) r.branches name b
@@ -192,26 +192,26 @@ module _ (given : VersionsGiven) (repo name q : List ℕ) (of_settings : ℕ) (r
 -- ---- what operations do to a lake
 
 -- branches of a repository are changed, and their versions stay
-lake_stays : (given : VersionsGiven) (l : LakeValue) (repo name : List ℕ) (change : BranchValue → BranchValue) → ((b : BranchValue) → b.version ≡ (change b).version)
+lake_stays : (given : VersionsGiven) (l : LakeStateValue) (repo name : List ℕ) (change : BranchStateValue → BranchStateValue) → ((b : BranchStateValue) → b.version ≡ (change b).version)
     → HasVersions given l → AreVersionsOf (branch_version given) (settings_version given) (in_branch repo name change l).repositories
 lake_stays given l repo name change same has =
     versions_stay given l.repositories repo (λ r. record r { branches = changed_at name change r.branches }) (versions_of given l has)
     (λ of_branch of_settings r is. branch_stays of_branch of_settings r is name change same)
 
 -- a branch is given the next version
-pub lake_rises : (given : VersionsGiven) (l : LakeValue) (repo name : List ℕ) (change : BranchValue → BranchValue) → ((b : BranchValue) → l.next_version ≡ (change b).version)
+pub lake_rises : (given : VersionsGiven) (l : LakeStateValue) (repo name : List ℕ) (change : BranchStateValue → BranchStateValue) → ((b : BranchStateValue) → l.next_version ≡ (change b).version)
     → HasVersions given l → AreVersionsOf (branch_version (with_branch_version repo name given)) (settings_version given) (in_branch repo name change l).repositories
 lake_rises given l repo name change next has =
     versions_rise given l.repositories repo (λ r. record r { branches = changed_at name change r.branches }) (versions_of given l has) name
     (λ q r tie is. branch_rises given repo name q (settings_version given q) r tie is change (λ b. has.next ∙ next b))
 
 -- a change is staged
-pub stage_stays : (given : VersionsGiven) (l : LakeValue) (repo name path : List ℕ) (change : Change) → HasVersions given l
+pub stage_stays : (given : VersionsGiven) (l : LakeStateValue) (repo name path : List ℕ) (change : Change) → HasVersions given l
     → HasVersions given (with_entry (in_branch repo name (branch_after (Stage path change)) l))
 stage_stays given l repo name path change has = lake_versions _ _ has.next has.references (lake_stays given l repo name _ (λ b. refl) has)
 
 -- and the ticket of its number goes
-pub ticketed_stays : (given : VersionsGiven) (l : LakeValue) (repo name path : List ℕ) (change : Change) (number : Option ℕ) → HasVersions given l
+pub ticketed_stays : (given : VersionsGiven) (l : LakeStateValue) (repo name path : List ℕ) (change : Change) (number : Option ℕ) → HasVersions given l
     → HasVersions given (with_entry (in_branch repo name (branch_after (Stage path change)) (option_map_or (λ n. without_ticket n l) number l)))
 ticketed_stays given l repo name path change None has = stage_stays given l repo name path change has
 ticketed_stays given l repo name path change (Some number) has =

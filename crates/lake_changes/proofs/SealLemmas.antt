@@ -4,7 +4,7 @@ use Rattle.std.specs.Prelude.{Result, Ok, Err, IsOk, OnOk}
 use Rattle.std.specs.FinMap.{contains_key}
 use Rattle.branch_record.specs.Record.{is_among, record_after_seal}
 use Rattle.lake_state.specs.declared.branch.BranchState.{BranchState}
-use Rattle.lake_state.specs.Branches.{BranchValue, branch_value, tokens_of}
+use Rattle.lake_state.specs.Branches.{BranchStateValue, branch_value, tokens_of}
 use Rattle.lake_changes.specs.declared.branch.BranchChange.TheVariants.{Seal}
 use Rattle.lake_changes.specs.BranchChanges.{IsUnused, branch_after}
 use Rattle.lake_changes.specs.FreshTokens.{HasTokensBelow}
@@ -25,7 +25,7 @@ sealed_branch b fresh version spare =
     ≡ record (cond there (record (branch_value b) { staging = fresh; sealed = b.record.staging ∷ b.record.sealed }) (branch_value b)) { version = version }) [ true ↦ refl | false ↦ refl ]
 
 -- the next token is unused, where every token of the branch is below it
-pub next_unused : (next : ℕ) (b : BranchValue) → HasTokensBelow next b → IsUnused b next
+pub next_unused : (next : ℕ) (b : BranchStateValue) → HasTokensBelow next b → IsUnused b next
 next_unused next b h = record { unnamed = above (is_among (tokens_of b) next) (h.named next); empty = above (contains_key b.tokens next) (h.used next) }
   where
     above : (there : Bool) → (there ≡ true → next < next) → there ≡ false

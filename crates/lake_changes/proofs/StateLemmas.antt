@@ -22,9 +22,9 @@ use Rattle.lake_model.specs.Branches.{clean_branch}
 use Rattle.lake_model.specs.Parts as state
 use Rattle.lake_model.specs.Parts.{changed_at}
 use Rattle.lake_model.specs.Uncommitted.{reset_branch, sealed_branch, with_staged, without_ticket as without_number}
-use Rattle.lake_state.specs.Branches.{BranchValue, branch_of, new_branch, tokens_of}
-use Rattle.lake_state.specs.Repositories.{RepositoryValue, repository_of}
-use Rattle.lake_state.specs.Lakes.{LakeValue, state_of}
+use Rattle.lake_state.specs.Branches.{BranchStateValue, branch_of, new_branch, tokens_of}
+use Rattle.lake_state.specs.Repositories.{RepositoryStateValue, repository_of}
+use Rattle.lake_state.specs.Lakes.{LakeStateValue, state_of}
 use Rattle.lake_changes.specs.declared.branch.BranchChange.TheVariants.{Stage, Reset, Seal}
 use Rattle.lake_changes.specs.BranchChanges.{branch_after}
 use Rattle.lake_changes.specs.FreshTokens.{AreTokensBelow, HasTokensBelow}
@@ -46,15 +46,15 @@ module _ {X Y : Type 0} (f : X → Y) (map : ByteMap X) (name : List ℕ) (chang
       ∙ ap (λ o. option_map_or (λ y. insert (map_values f map) name (other y)) o (map_values f map)) (sym (get_map_values f map name))
 
 -- a repository is changed
-pub repository_seen : (l : LakeValue) (repo : List ℕ) (change : RepositoryValue → RepositoryValue) (other : Repository → Repository)
-    → ((r : RepositoryValue) → get l.repositories repo ≡ Some r → repository_of (change r) ≡ other (repository_of r))
+pub repository_seen : (l : LakeStateValue) (repo : List ℕ) (change : RepositoryStateValue → RepositoryStateValue) (other : Repository → Repository)
+    → ((r : RepositoryStateValue) → get l.repositories repo ≡ Some r → repository_of (change r) ≡ other (repository_of r))
     → state_of (in_repository repo change l) ≡ state.in_repository repo other (state_of l)
 repository_seen l repo change other alike =
     ap (λ repositories. record (state_of l) { repositories = repositories }) (map_changed repository_of l.repositories repo change other alike)
 
 -- a branch is changed
-branch_seen : (l : LakeValue) (repo name : List ℕ) (change : BranchValue → BranchValue) (other : Branch → Branch)
-    → ((r : RepositoryValue) (b : BranchValue) → get l.repositories repo ≡ Some r → get r.branches name ≡ Some b → branch_of (change b) ≡ other (branch_of b))
+branch_seen : (l : LakeStateValue) (repo name : List ℕ) (change : BranchStateValue → BranchStateValue) (other : Branch → Branch)
+    → ((r : RepositoryStateValue) (b : BranchStateValue) → get l.repositories repo ≡ Some r → get r.branches name ≡ Some b → branch_of (change b) ≡ other (branch_of b))
     → state_of (in_branch repo name change l) ≡ state.in_branch repo name other (state_of l)
 branch_seen l repo name change other alike =
     repository_seen l repo (λ r. record r { branches = changed_at name change r.branches }) (λ r. record r { branches = changed_at name other r.branches })
@@ -65,7 +65,7 @@ abbrev pub with_one_more : State → State
 with_one_more s = record s { entries = s.entries + 1 }
 
 -- ---- a branch
-module _ (b : BranchValue) where
+module _ (b : BranchStateValue) where
   -- its record, in which there is no room for more
   abbrev record_of : BranchRecordValue
   record_of = record { version = b.version; head = b.head; staging = b.staging; sealed = b.sealed; spare = 0 }
@@ -114,7 +114,7 @@ new_seen version commit token = λ i. record { head = commit; sealed = layers_no
 -- ---- what operations do to a lake
 
 -- a branch is made
-pub made_seen : (l : LakeValue) (repo name : List ℕ) (version : ℕ) (commit : Digest) (token : ℕ)
+pub made_seen : (l : LakeStateValue) (repo name : List ℕ) (version : ℕ) (commit : Digest) (token : ℕ)
     → state_of (in_repository repo (λ r. record r { branches = insert r.branches name (new_branch version commit token) }) l)
     ≡ state.in_branches repo (λ branches. insert branches name (clean_branch commit)) (state_of l)
 made_seen l repo name version commit token =
@@ -122,13 +122,13 @@ made_seen l repo name version commit token =
     (map_values_insert branch_of r.branches name (new_branch version commit token) ∙ ap (insert (map_values branch_of r.branches) name) (new_seen version commit token)))
 
 -- a branch goes
-pub gone_seen : (l : LakeValue) (repo name : List ℕ)
+pub gone_seen : (l : LakeStateValue) (repo name : List ℕ)
     → state_of (in_repository repo (λ r. record r { branches = remove r.branches name }) l)
     ≡ state.in_branches repo (λ branches. remove branches name) (state_of l)
 gone_seen l repo name =
     repository_seen l repo _ _ (λ r is. ap (λ branches. record (repository_of r) { branches = branches }) (map_values_remove branch_of r.branches name))
 
-module _ (l : LakeValue) (repo name : List ℕ) where
+module _ (l : LakeStateValue) (repo name : List ℕ) where
   -- a change is staged
   pub stage_seen : (path : List ℕ) (change : Change) → AreTokensBelow l
       → state_of (in_branch repo name (branch_after (Stage path change)) l) ≡ state.in_branch repo name (with_staged path change) (state_of l)
@@ -150,7 +150,7 @@ module _ (l : LakeValue) (repo name : List ℕ) where
       (λ r b is there. sealed_seen b l.next_token version (nothing_fresh b l.next_token (below repo r name b is there)))
 
 -- a change is staged, and the ticket of its number goes: the history has one entry more
-pub ticketed_seen : (l : LakeValue) (repo name path : List ℕ) (change : Change) (number : Option ℕ) → AreTokensBelow l
+pub ticketed_seen : (l : LakeStateValue) (repo name path : List ℕ) (change : Change) (number : Option ℕ) → AreTokensBelow l
     → state_of (with_entry (in_branch repo name (branch_after (Stage path change)) (option_map_or (λ n. without_ticket n l) number l)))
     ≡ record (state.in_branch repo name (with_staged path change) (without_number number (state_of l))) { entries = l.entries + 1 }
 ticketed_seen l repo name path change None below = ap with_one_more (stage_seen l repo name path change below)

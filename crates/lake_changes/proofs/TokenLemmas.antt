@@ -16,9 +16,9 @@ use Rattle.branch_record.specs.Record.{is_among}
 use Rattle.branch_record.specs.Tokens.{TokenMap, with_change}
 use Rattle.branch_record.proofs.TokensLemmas.{distinct_more, distinct_one, get_changed, get_with, turned}
 use Rattle.lake_model.specs.Parts.{changed_at}
-use Rattle.lake_state.specs.Branches.{BranchValue, new_branch, tokens_of}
-use Rattle.lake_state.specs.Repositories.{RepositoryValue}
-use Rattle.lake_state.specs.Lakes.{LakeValue}
+use Rattle.lake_state.specs.Branches.{BranchStateValue, new_branch, tokens_of}
+use Rattle.lake_state.specs.Repositories.{RepositoryStateValue}
+use Rattle.lake_state.specs.Lakes.{LakeStateValue}
 use Rattle.lake_changes.specs.declared.branch.BranchChange.TheVariants.{Stage, Reset, Seal}
 use Rattle.lake_changes.specs.BranchChanges.{branch_after}
 use Rattle.lake_changes.specs.FreshTokens.{AreTokensBelow, HasTokensBelow}
@@ -28,7 +28,7 @@ use Rattle.lake_changes.proofs.ChangedLemmas.{all_changed, all_inserted, all_lef
 -- ---- a branch
 
 -- what is below a token is below the one after it
-pub below_later : (next : ℕ) (b : BranchValue) → HasTokensBelow next b → HasTokensBelow (next + 1) b
+pub below_later : (next : ℕ) (b : BranchStateValue) → HasTokensBelow next b → HasTokensBelow (next + 1) b
 below_later next b below = record {
   distinct = below.distinct;
   named = λ token among. let less = below.named token among in omega arith;
@@ -47,7 +47,7 @@ changed_under : (tokens : TokenMap) (test : Bool) (token : ℕ) (changes : Optio
 changed_under tokens true token changes next here other there = here refl
 changed_under tokens false token changes next here other there = other there
 
-module _ (next : ℕ) (b : BranchValue) (below : HasTokensBelow next b) where
+module _ (next : ℕ) (b : BranchStateValue) (below : HasTokensBelow next b) where
   -- a change is staged
   staged_below : (path : List ℕ) (change : Change) → HasTokensBelow next (branch_after (Stage path change) b)
   unfolding with_change
@@ -100,18 +100,18 @@ new_below version commit next = record {
 -- ---- a lake
 
 -- those of each of these branches are below a token
-abbrev AreBelow : ℕ → ByteMap BranchValue → Type 0
-AreBelow next branches = (name : List ℕ) (b : BranchValue) → get branches name ≡ Some b → HasTokensBelow next b
+abbrev AreBelow : ℕ → ByteMap BranchStateValue → Type 0
+AreBelow next branches = (name : List ℕ) (b : BranchStateValue) → get branches name ≡ Some b → HasTokensBelow next b
 
 -- those of each branch of a lake, with other repositories and another next token
-abbrev AreBelowIn : ℕ → ByteMap RepositoryValue → Type 0
-AreBelowIn next repositories = (repo : List ℕ) (r : RepositoryValue) (name : List ℕ) (b : BranchValue)
+abbrev AreBelowIn : ℕ → ByteMap RepositoryStateValue → Type 0
+AreBelowIn next repositories = (repo : List ℕ) (r : RepositoryStateValue) (name : List ℕ) (b : BranchStateValue)
     → get repositories repo ≡ Some r → get r.branches name ≡ Some b → HasTokensBelow next b
 
-module _ (l : LakeValue) (below : AreTokensBelow l) (next : ℕ) (later : (b : BranchValue) → HasTokensBelow l.next_token b → HasTokensBelow next b) (repo : List ℕ) where
+module _ (l : LakeStateValue) (below : AreTokensBelow l) (next : ℕ) (later : (b : BranchStateValue) → HasTokensBelow l.next_token b → HasTokensBelow next b) (repo : List ℕ) where
   -- a repository is changed
-  repository_below : (change : RepositoryValue → RepositoryValue)
-      → ((r : RepositoryValue) → AreBelow l.next_token r.branches → AreBelow next (change r).branches)
+  repository_below : (change : RepositoryStateValue → RepositoryStateValue)
+      → ((r : RepositoryStateValue) → AreBelow l.next_token r.branches → AreBelow next (change r).branches)
       → AreBelowIn next (in_repository repo change l).repositories
   repository_below change changed = λ q r name b is there.
       all_changed (λ q r. AreBelow next r.branches) l.repositories repo change
@@ -120,8 +120,8 @@ module _ (l : LakeValue) (below : AreTokensBelow l) (next : ℕ) (later : (b : B
       q r is name b there
 
   -- a branch is changed
-  branch_below : (name : List ℕ) (change : BranchValue → BranchValue)
-      → ((b : BranchValue) → HasTokensBelow l.next_token b → HasTokensBelow next (change b))
+  branch_below : (name : List ℕ) (change : BranchStateValue → BranchStateValue)
+      → ((b : BranchStateValue) → HasTokensBelow l.next_token b → HasTokensBelow next (change b))
       → AreBelowIn next (in_branch repo name change l).repositories
   branch_below name change changed =
       repository_below (λ r. record r { branches = changed_at name change r.branches })
@@ -129,19 +129,19 @@ module _ (l : LakeValue) (below : AreTokensBelow l) (next : ℕ) (later : (b : B
       (λ n b tie is. changed b (each n b is)) (λ n b apart is. later b (each n b is)))
 
   -- a branch is made
-  pub made_below : (name : List ℕ) (b : BranchValue) → HasTokensBelow next b
+  pub made_below : (name : List ℕ) (b : BranchStateValue) → HasTokensBelow next b
       → AreBelowIn next (in_repository repo (λ r. record r { branches = insert r.branches name b }) l).repositories
   made_below name b new =
       repository_below (λ r. record r { branches = insert r.branches name b })
       (λ r each. all_inserted (λ n b. HasTokensBelow next b) r.branches name b (λ n tie. new) (λ n x apart is. later x (each n x is)))
 
-module _ (l : LakeValue) (below : AreTokensBelow l) (repo : List ℕ) where
+module _ (l : LakeStateValue) (below : AreTokensBelow l) (repo : List ℕ) where
   -- branches of a repository stay
-  pub others_below : (change : RepositoryValue → RepositoryValue) → ((r : RepositoryValue) → (change r).branches ≡ r.branches)
+  pub others_below : (change : RepositoryStateValue → RepositoryStateValue) → ((r : RepositoryStateValue) → (change r).branches ≡ r.branches)
       → AreBelowIn l.next_token (in_repository repo change l).repositories
   others_below change same =
       repository_below l below l.next_token (λ b h. h) repo change
-      (λ r each name b is. each name b (ap (λ (branches : ByteMap BranchValue). get branches name) (sym (same r)) ∙ is))
+      (λ r each name b is. each name b (ap (λ (branches : ByteMap BranchStateValue). get branches name) (sym (same r)) ∙ is))
 
   -- a branch goes
   pub gone_below : (name : List ℕ) → AreBelowIn l.next_token (in_repository repo (λ r. record r { branches = remove r.branches name }) l).repositories
@@ -165,7 +165,7 @@ module _ (l : LakeValue) (below : AreTokensBelow l) (repo : List ℕ) where
       branch_below l below (l.next_token + 1) (below_later l.next_token) repo name (branch_after (Seal l.next_token version)) (λ b h. sealed_below l.next_token b h version)
 
 -- a change is staged, and the ticket of its number goes
-pub ticketed_below : (l : LakeValue) (repo name path : List ℕ) (change : Change) (number : Option ℕ) → AreTokensBelow l
+pub ticketed_below : (l : LakeStateValue) (repo name path : List ℕ) (change : Change) (number : Option ℕ) → AreTokensBelow l
     → AreTokensBelow (with_entry (in_branch repo name (branch_after (Stage path change)) (option_map_or (λ n. without_ticket n l) number l)))
 ticketed_below l repo name path change None below = stage_below l below repo name path change
 ticketed_below l repo name path change (Some number) below = stage_below (without_ticket number l) below repo name path change

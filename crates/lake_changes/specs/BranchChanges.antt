@@ -1,33 +1,28 @@
 -- What is done to a branch that stays.
-use Rattle.std.specs.Prelude.{◌≡◌, ◌≤◌, false, ◌∷◌, ℕ, if◌then◌else◌}
+use Rattle.std.specs.Prelude.{◌≡◌, ◌≤◌, false, ℕ}
 use Rattle.std.specs.FinMap.{contains_key}
 use Rattle.lake_values.specs.Reset.{changes_after_reset}
 use Rattle.branch_record.specs.Record.{is_among}
 use Rattle.branch_record.specs.Tokens.{with_change, with_each}
 use Rattle.lake_state.specs.declared.branch.BranchState.{BranchState}
-use Rattle.lake_state.specs.Branches.{BranchValue, tokens_of}
+use Rattle.lake_state.specs.Branches.{BranchStateValue, tokens_of, with_fresh}
 use Rattle.lake_changes.specs.declared.branch.BranchChange.{BranchChange}
 use Rattle.lake_changes.specs.declared.branch.BranchChange.TheVariants.{Stage, Reset, Seal}
 
--- a fresh staging token, and the old one first of the sealed ones; one without changes stays in place
-abbrev pub with_fresh : ℕ → BranchValue → BranchValue
-with_fresh fresh b =
-    if contains_key b.tokens b.staging then record b { staging = fresh; sealed = b.staging ∷ b.sealed } else b
-
 -- a branch after a change of it
-abbrev pub branch_after : BranchChange → BranchValue → BranchValue
+abbrev pub branch_after : BranchChange → BranchStateValue → BranchStateValue
 branch_after (Stage path change) b = record b { tokens = with_change b.tokens b.staging path change }
 branch_after (Reset what version) b =
     record b { version = version; tokens = with_each (tokens_of b) (changes_after_reset what) b.tokens }
 branch_after (Seal fresh version) b = record (with_fresh fresh b) { version = version }
 
 -- a token that a branch doesn't name, and under which nothing stands
-pub record IsUnused (b : BranchValue) (token : ℕ) : Type 0 where
+pub record IsUnused (b : BranchStateValue) (token : ℕ) : Type 0 where
   pub unnamed : is_among (tokens_of b) token ≡ false
   pub empty : contains_key b.tokens token ≡ false
 
 -- a seal takes an unused token
-abbrev pub IsPossible : BranchChange → BranchValue → Type 0
+abbrev pub IsPossible : BranchChange → BranchStateValue → Type 0
 IsPossible (Stage path change) b = Unit {0}
 IsPossible (Reset what version) b = Unit {0}
 IsPossible (Seal fresh version) b = IsUnused b fresh

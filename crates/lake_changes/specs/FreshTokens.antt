@@ -2,17 +2,17 @@
 use Rattle.std.specs.Prelude.{◌≡◌, ◌<◌, true, ℕ, List, Some}
 use Rattle.std.specs.FinMap.{contains_key, get}
 use Rattle.branch_record.specs.Record.{AreDistinct, is_among}
-use Rattle.lake_state.specs.Branches.{BranchValue, tokens_of}
-use Rattle.lake_state.specs.Repositories.{RepositoryValue}
-use Rattle.lake_state.specs.Lakes.{LakeValue}
+use Rattle.lake_state.specs.Branches.{BranchStateValue, tokens_of}
+use Rattle.lake_state.specs.Repositories.{RepositoryStateValue}
+use Rattle.lake_state.specs.Lakes.{LakeStateValue}
 
 -- the tokens of a branch differ, and are below one: those that it names, and those under which something stands
-pub record HasTokensBelow (next : ℕ) (b : BranchValue) : Type 0 where
+pub record HasTokensBelow (next : ℕ) (b : BranchStateValue) : Type 0 where
   pub distinct : AreDistinct (tokens_of b)
   pub named : (token : ℕ) → is_among (tokens_of b) token ≡ true → token < next
   pub used : (token : ℕ) → contains_key b.tokens token ≡ true → token < next
 
 -- every token of the lake is below the next one
-abbrev pub AreTokensBelow : LakeValue → Type 0
-AreTokensBelow l = (repo : List ℕ) (r : RepositoryValue) (branch : List ℕ) (b : BranchValue)
+abbrev pub AreTokensBelow : LakeStateValue → Type 0
+AreTokensBelow l = (repo : List ℕ) (r : RepositoryStateValue) (branch : List ℕ) (b : BranchStateValue)
     → get l.repositories repo ≡ Some r → get r.branches branch ≡ Some b → HasTokensBelow l.next_token b

@@ -13,94 +13,94 @@ use Rattle.lake_model.specs.NoteChanges.{notes_after}
 use Rattle.lake_model.specs.Parts.{changed_at}
 use Rattle.lake_model.specs.Uncommitted.{put_number}
 use Rattle.lake_changes.specs.declared.branch.BranchChange.TheVariants as branch
-use Rattle.lake_state.specs.Branches.{BranchValue, new_branch}
-use Rattle.lake_state.specs.Repositories.{RepositoryValue}
-use Rattle.lake_state.specs.Lakes.{LakeValue}
+use Rattle.lake_state.specs.Branches.{BranchStateValue, new_branch}
+use Rattle.lake_state.specs.Repositories.{RepositoryStateValue}
+use Rattle.lake_state.specs.Lakes.{LakeStateValue}
 use Rattle.lake_changes.specs.BranchChanges.{branch_after}
 
 -- a repository is changed, where it is there
-abbrev pub in_repository : List ℕ → (RepositoryValue → RepositoryValue) → LakeValue → LakeValue
+abbrev pub in_repository : List ℕ → (RepositoryStateValue → RepositoryStateValue) → LakeStateValue → LakeStateValue
 in_repository repo change l = record l { repositories = changed_at repo change l.repositories }
 
 -- a branch is changed, where it is there
-abbrev pub in_branch : List ℕ → List ℕ → (BranchValue → BranchValue) → LakeValue → LakeValue
+abbrev pub in_branch : List ℕ → List ℕ → (BranchStateValue → BranchStateValue) → LakeStateValue → LakeStateValue
 in_branch repo name change = in_repository repo (λ r. record r { branches = changed_at name change r.branches })
 
 -- the history has one entry more
-abbrev pub with_entry : LakeValue → LakeValue
+abbrev pub with_entry : LakeStateValue → LakeStateValue
 with_entry l = record l { entries = l.entries + 1 }
 
 -- the next version was given
-abbrev pub with_version : LakeValue → LakeValue
+abbrev pub with_version : LakeStateValue → LakeStateValue
 with_version l = record l { next_version = l.next_version + 1 }
 
 -- the next token was given
-abbrev pub with_token : LakeValue → LakeValue
+abbrev pub with_token : LakeStateValue → LakeStateValue
 with_token l = record l { next_token = l.next_token + 1 }
 
 -- references changed
-abbrev pub with_references : LakeValue → LakeValue
+abbrev pub with_references : LakeStateValue → LakeStateValue
 with_references l = record l { references = l.references + 1 }
 
 -- the ticket of a number goes
-abbrev pub without_ticket : ℕ → LakeValue → LakeValue
+abbrev pub without_ticket : ℕ → LakeStateValue → LakeStateValue
 without_ticket number l = record l { tickets = remove l.tickets number }
 
 -- a number is given out
-abbrev pub after_ticket_take : ℕ → LakeValue → LakeValue
+abbrev pub after_ticket_take : ℕ → LakeStateValue → LakeStateValue
 after_ticket_take seat l =
     with_entry (record l { tickets = insert l.tickets l.next_number seat; next_number = l.next_number + 1 })
 
 -- an upload is given up
-abbrev pub after_ticket_drop : ℕ → LakeValue → LakeValue
+abbrev pub after_ticket_drop : ℕ → LakeStateValue → LakeStateValue
 after_ticket_drop number l = with_entry (without_ticket number l)
 
 -- a change is staged, and the ticket of its number goes
-abbrev pub after_stage : List ℕ → List ℕ → List ℕ → Change → LakeValue → LakeValue
+abbrev pub after_stage : List ℕ → List ℕ → List ℕ → Change → LakeStateValue → LakeStateValue
 after_stage repo name path change l =
     with_entry (in_branch repo name (branch_after (branch.Stage path change))
     (option_map_or (λ number. without_ticket number l) (put_number change) l))
 
 -- an entry is copied: it is staged, and no ticket goes
-abbrev pub after_copy : List ℕ → List ℕ → List ℕ → EntryValue → LakeValue → LakeValue
+abbrev pub after_copy : List ℕ → List ℕ → List ℕ → EntryValue → LakeStateValue → LakeStateValue
 after_copy repo name path entry l = with_entry (in_branch repo name (branch_after (branch.Stage path (Put entry))) l)
 
 -- changes are dropped
-abbrev pub after_reset : List ℕ → List ℕ → ResetWhat → LakeValue → LakeValue
+abbrev pub after_reset : List ℕ → List ℕ → ResetWhat → LakeStateValue → LakeStateValue
 after_reset repo name what l =
     with_entry (with_version (in_branch repo name (branch_after (branch.Reset what l.next_version)) l))
 
 -- staged changes are sealed
-abbrev pub after_seal : List ℕ → List ℕ → LakeValue → LakeValue
+abbrev pub after_seal : List ℕ → List ℕ → LakeStateValue → LakeStateValue
 after_seal repo name l =
     with_entry (with_token (with_version (in_branch repo name (branch_after (branch.Seal l.next_token l.next_version)) l)))
 
 -- a branch is made
-abbrev pub after_branch_create : List ℕ → List ℕ → Digest → LakeValue → LakeValue
+abbrev pub after_branch_create : List ℕ → List ℕ → Digest → LakeStateValue → LakeStateValue
 after_branch_create repo name commit l =
     with_entry (with_references (with_token (with_version (in_repository repo
     (λ r. record r { branches = insert r.branches name (new_branch l.next_version commit l.next_token) }) l))))
 
 -- a branch goes
-abbrev pub after_branch_delete : List ℕ → List ℕ → LakeValue → LakeValue
+abbrev pub after_branch_delete : List ℕ → List ℕ → LakeStateValue → LakeStateValue
 after_branch_delete repo name l =
     with_entry (with_references (in_repository repo (λ r. record r { branches = remove r.branches name }) l))
 
 -- a tag names a commit
-abbrev pub after_tag_create : List ℕ → List ℕ → Digest → LakeValue → LakeValue
+abbrev pub after_tag_create : List ℕ → List ℕ → Digest → LakeStateValue → LakeStateValue
 after_tag_create repo name commit l =
     with_entry (with_references (in_repository repo (λ r. record r { tags = insert r.tags name commit }) l))
 
 -- a tag goes
-abbrev pub after_tag_delete : List ℕ → List ℕ → LakeValue → LakeValue
+abbrev pub after_tag_delete : List ℕ → List ℕ → LakeStateValue → LakeStateValue
 after_tag_delete repo name l =
     with_entry (with_references (in_repository repo (λ r. record r { tags = remove r.tags name }) l))
 
 -- a setting is set, or deleted where no new one is given
-abbrev pub after_note_set : List ℕ → NoteName → Option Note → LakeValue → LakeValue
+abbrev pub after_note_set : List ℕ → NoteName → Option Note → LakeStateValue → LakeStateValue
 after_note_set repo name note l = with_entry (with_references (with_version (in_repository repo
     (λ r. record r { settings = l.next_version; notes = notes_after name note r.notes }) l)))
 
 -- the store failed
-abbrev pub after_fault : LakeValue → LakeValue
+abbrev pub after_fault : LakeStateValue → LakeStateValue
 after_fault l = with_entry (record l { stopped = true })

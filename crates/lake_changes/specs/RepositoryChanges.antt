@@ -5,8 +5,8 @@ use Rattle.lake_model.specs.NoteChanges.{notes_after}
 use Rattle.lake_model.specs.Parts.{changed_at}
 use Rattle.lake_state.specs.declared.branch.BranchState.{BranchState}
 use Rattle.lake_state.specs.declared.repository.RepositoryState.{RepositoryState}
-use Rattle.lake_state.specs.Branches.{BranchValue, branch_value}
-use Rattle.lake_state.specs.Repositories.{RepositoryValue}
+use Rattle.lake_state.specs.Branches.{BranchStateValue, branch_value}
+use Rattle.lake_state.specs.Repositories.{RepositoryStateValue}
 use Rattle.lake_changes.specs.declared.repository.RepositoryChange.{RepositoryChange}
 use Rattle.lake_changes.specs.declared.repository.RepositoryChange.TheVariants.{PutBranch, DropBranch, PutTag, DropTag, SetNote, InBranch}
 use Rattle.lake_changes.specs.declared.repository.Room.{Room}
@@ -14,7 +14,7 @@ use Rattle.lake_changes.specs.declared.repository.Room.TheVariants as room
 use Rattle.lake_changes.specs.BranchChanges.{HasRoom, IsPossible, branch_after}
 
 -- a repository after a change of it
-abbrev pub repository_after : RepositoryChange → RepositoryValue → RepositoryValue
+abbrev pub repository_after : RepositoryChange → RepositoryStateValue → RepositoryStateValue
 repository_after (PutBranch name branch) r =
     record r { branches = insert r.branches name.now (branch_value branch) }
 repository_after (DropBranch name) r = record r { branches = remove r.branches name.now }
@@ -26,8 +26,8 @@ repository_after (InBranch name change) r =
     record r { branches = changed_at name.now (branch_after change) r.branches }
 
 -- what a change asks of the repository: that a change of a branch is possible there
-abbrev pub IsPossibleIn : RepositoryChange → RepositoryValue → Type 0
-IsPossibleIn (InBranch name change) r = (b : BranchValue) → get r.branches name.now ≡ Some b → IsPossible change b
+abbrev pub IsPossibleIn : RepositoryChange → RepositoryStateValue → Type 0
+IsPossibleIn (InBranch name change) r = (b : BranchStateValue) → get r.branches name.now ≡ Some b → IsPossible change b
 IsPossibleIn _ r = Unit {0}
 
 -- there is room for a new branch of a name, for a new tag, for a change of the branch of a name

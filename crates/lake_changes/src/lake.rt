@@ -8,11 +8,12 @@ ghost use Rattle.lake_model.specs.Parts.{changed_at};
 ghost use Rattle.lake_model.specs.Uncommitted.{put_number};
 ghost use Rattle.lake_changes.specs.declared.repository.Room.TheVariants as room;
 ghost use Rattle.lake_state.specs.declared.repository.RepositoryState.{RepositoryState as AnyRepository};
-ghost use Rattle.lake_state.specs.Repositories.{RepositoryValue, repository_value};
+ghost use Rattle.lake_state.specs.Repositories.{RepositoryStateValue, repository_value};
+ghost use Rattle.lake_state.specs.Counts.{AreFew};
 ghost use Rattle.lake_state.specs.Lakes.{lake_value, tickets_of};
 ghost use Rattle.lake_changes.specs.RepositoryChanges.{HasRoomFor, HasRoomIn, IsPossibleIn, repository_after};
 ghost use Rattle.lake_changes.specs.FreshTokens.{AreTokensBelow};
-ghost use Rattle.lake_changes.specs.LakeRoom.{HasRoomAt, HasTicketRoom, AreFew};
+ghost use Rattle.lake_changes.specs.LakeRoom.{HasRoomAt, HasTicketRoom};
 ghost use Rattle.lake_changes.specs.LakeChanges.{after_branch_create, after_branch_delete, after_copy, after_fault, after_note_set, after_reset, after_seal, after_stage, after_tag_create, after_tag_delete, after_ticket_drop, after_ticket_take};
 
 use crate::branch::{BranchChange, branch_at};
@@ -25,6 +26,7 @@ use std::alloc::Global;
 use std::collections::BTreeMap;
 
 /// Makes room in a repository, where it is there. It changes nothing else.
+#[tactic(auto, unfolding(lake_state::specs::Lakes::lake_value))]
 pub fn make_room_at(
     alloc: Global,
     lake: &mut LakeState,
@@ -56,6 +58,7 @@ fn make_room_here(
 }
 
 /// Makes room for the next ticket. It changes nothing else.
+#[tactic(auto, unfolding(lake_state::specs::Lakes::lake_value))]
 pub fn make_ticket_room(lake: &mut LakeState) -> Result<(), NoMemory>
     ensures same { lake_value lake.new ≡ lake_value lake.old }
     ensures room { OnOk result (HasTicketRoom lake.new) }
@@ -75,7 +78,7 @@ fn change_at(
     change: RepositoryChange<'_>,
 )
     requires room { (r : AnyRepository) → get repositories.old repo.now ≡ Some (Some r) → HasRoomFor change r }
-    requires possible { (r : RepositoryValue)
+    requires possible { (r : RepositoryStateValue)
         → get (some_values (option_map repository_value) repositories.old) repo.now ≡ Some r
         → IsPossibleIn change r }
     ensures { some_values (option_map repository_value) repositories.new
@@ -100,6 +103,7 @@ fn change_here(place: &mut Option<RepositoryState>, change: RepositoryChange<'_>
 }
 
 /// A number is given out to a seat: there is room for its ticket. It takes no memory.
+#[tactic(auto, unfolding(lake_state::specs::Lakes::lake_value))]
 pub fn take_ticket(lake: &mut LakeState, seat: u32)
     requires room { HasTicketRoom lake.old }
     requires few { AreFew (lake_value lake.old) }
@@ -111,6 +115,7 @@ pub fn take_ticket(lake: &mut LakeState, seat: u32)
 }
 
 /// An upload is given up. It takes no memory.
+#[tactic(auto, unfolding(lake_state::specs::Lakes::lake_value))]
 pub fn drop_ticket(lake: &mut LakeState, number: u64)
     requires few { AreFew (lake_value lake.old) }
     ensures { lake_value lake.new ≡ after_ticket_drop number (lake_value lake.old) }
@@ -120,6 +125,7 @@ pub fn drop_ticket(lake: &mut LakeState, number: u64)
 }
 
 /// A change is staged, for which there is room, and the ticket of its number goes. It takes no memory.
+#[tactic(auto, unfolding(lake_state::specs::Lakes::lake_value))]
 pub fn stage(lake: &mut LakeState, repo: &RepoName, branch: &RefName, path: Path, change: Change)
     requires room { HasRoomAt (room.Change branch) repo.now lake.old }
     requires few { AreFew (lake_value lake.old) }
@@ -141,6 +147,7 @@ pub fn stage(lake: &mut LakeState, repo: &RepoName, branch: &RefName, path: Path
 }
 
 /// An entry is copied to a path, for which there is room. It takes no memory.
+#[tactic(auto, unfolding(lake_state::specs::Lakes::lake_value))]
 pub fn copy(lake: &mut LakeState, repo: &RepoName, branch: &RefName, path: Path, entry: Entry)
     requires room { HasRoomAt (room.Change branch) repo.now lake.old }
     requires few { AreFew (lake_value lake.old) }
@@ -162,6 +169,7 @@ pub fn copy(lake: &mut LakeState, repo: &RepoName, branch: &RefName, path: Path,
 }
 
 /// Changes are dropped. It needs no memory.
+#[tactic(auto, unfolding(lake_state::specs::Lakes::lake_value))]
 pub fn reset(lake: &mut LakeState, repo: &RepoName, branch: &RefName, what: ResetWhat)
     requires room { HasRoomAt (room.Change branch) repo.now lake.old }
     requires few { AreFew (lake_value lake.old) }
@@ -184,6 +192,7 @@ pub fn reset(lake: &mut LakeState, repo: &RepoName, branch: &RefName, what: Rese
 }
 
 /// Staged changes are sealed: there is room for that. It takes no memory.
+#[tactic(auto, unfolding(lake_state::specs::Lakes::lake_value))]
 pub fn seal(lake: &mut LakeState, repo: &RepoName, branch: &RefName)
     requires room { HasRoomAt (room.Change branch) repo.now lake.old }
     requires few { AreFew (lake_value lake.old) }
@@ -208,6 +217,7 @@ pub fn seal(lake: &mut LakeState, repo: &RepoName, branch: &RefName)
 }
 
 /// A branch is made at a commit: there is room for it. It takes no memory.
+#[tactic(auto, unfolding(lake_state::specs::Lakes::lake_value))]
 pub fn create_branch(
     alloc: Global,
     lake: &mut LakeState,
@@ -232,6 +242,7 @@ pub fn create_branch(
 }
 
 /// A branch goes. It takes no memory.
+#[tactic(auto, unfolding(lake_state::specs::Lakes::lake_value))]
 pub fn delete_branch(lake: &mut LakeState, repo: &RepoName, name: &RefName)
     requires few { AreFew (lake_value lake.old) }
     ensures { lake_value lake.new ≡ after_branch_delete repo.now name.now (lake_value lake.old) }
@@ -246,6 +257,7 @@ pub fn delete_branch(lake: &mut LakeState, repo: &RepoName, name: &RefName)
 }
 
 /// A tag names a commit: there is room for it. It takes no memory.
+#[tactic(auto, unfolding(lake_state::specs::Lakes::lake_value))]
 pub fn create_tag(lake: &mut LakeState, repo: &RepoName, name: &RefName, commit: CommitId)
     requires room { HasRoomAt (room.Tag name) repo.now lake.old }
     requires few { AreFew (lake_value lake.old) }
@@ -261,6 +273,7 @@ pub fn create_tag(lake: &mut LakeState, repo: &RepoName, name: &RefName, commit:
 }
 
 /// A tag goes. It takes no memory.
+#[tactic(auto, unfolding(lake_state::specs::Lakes::lake_value))]
 pub fn delete_tag(lake: &mut LakeState, repo: &RepoName, name: &RefName)
     requires few { AreFew (lake_value lake.old) }
     ensures { lake_value lake.new ≡ after_tag_delete repo.now name.now (lake_value lake.old) }
@@ -275,6 +288,7 @@ pub fn delete_tag(lake: &mut LakeState, repo: &RepoName, name: &RefName)
 }
 
 /// A setting is set, or deleted where no new one is given. It takes no memory.
+#[tactic(auto, unfolding(lake_state::specs::Lakes::lake_value))]
 pub fn set_note(lake: &mut LakeState, repo: &RepoName, name: NoteName, note: Option<Note>)
     requires few { AreFew (lake_value lake.old) }
     ensures { lake_value lake.new ≡ after_note_set repo.now name note (lake_value lake.old) }
@@ -290,7 +304,8 @@ pub fn set_note(lake: &mut LakeState, repo: &RepoName, name: NoteName, note: Opt
     lake.entries += 1;
 }
 
-/// The store failed: nothing else changes from then on. It takes no memory.
+/// The store failed: the lake is stopped. It takes no memory.
+#[tactic(auto, unfolding(lake_state::specs::Lakes::lake_value))]
 pub fn stop(lake: &mut LakeState)
     requires few { AreFew (lake_value lake.old) }
     ensures { lake_value lake.new ≡ after_fault (lake_value lake.old) }

@@ -3,7 +3,7 @@
 //! - `branch`, `repository`: what is done to a branch and to a repository that stay, and the room made for it.
 //! - `lake`: what each operation makes of a lake.
 //! - `laws`: of the state that a lake stands for a change makes what the operation does; versions stay those counted
-//!   over the history, and fresh tokens are unused.
+//!   over the history, counts stay small, and fresh tokens are unused.
 //!
 //! The promise to the layer above: a change for which room was made needs no memory and can't be refused.
 #![tactic(auto)]
@@ -15,4 +15,4 @@ pub mod repository;
 #[cfg(test)]
 mod tests;
 
-pub use laws::{laws_of_counts, laws_of_states, laws_of_tokens};
+pub use laws::{laws_of_counts, laws_of_few, laws_of_states, laws_of_tokens};

@@ -5,7 +5,7 @@ ghost use Rattle.byte_map.specs.Values.{some_values};
 ghost use Rattle.lake_model.specs.NoteChanges.{notes_after, without_note};
 ghost use Rattle.lake_model.specs.Parts.{changed_at};
 ghost use Rattle.lake_state.specs.declared.branch.BranchState.{BranchState as AnyBranch};
-ghost use Rattle.lake_state.specs.Branches.{BranchValue, branch_value};
+ghost use Rattle.lake_state.specs.Branches.{BranchStateValue, branch_value};
 ghost use Rattle.lake_state.specs.Repositories.{repository_value};
 ghost use Rattle.lake_changes.specs.BranchChanges.{HasRoom, IsPossible, branch_after};
 ghost use Rattle.lake_changes.specs.RepositoryChanges.{HasRoomFor, HasRoomIn, IsPossibleIn, repository_after};
@@ -196,7 +196,7 @@ fn change_branch_at(
     change: BranchChange,
 )
     requires room { (b : AnyBranch) → get branches.old name.now ≡ Some (Some b) → HasRoom b }
-    requires possible { (b : BranchValue)
+    requires possible { (b : BranchStateValue)
         → get (some_values (option_map branch_value) branches.old) name.now ≡ Some b → IsPossible change b }
     ensures { some_values (option_map branch_value) branches.new
         ≡ changed_at name.now (branch_after change) (some_values (option_map branch_value) branches.old) }

@@ -5,7 +5,7 @@ ghost use Rattle.lake_state.specs.Branches.{new_branch};
 ghost use Rattle.lake_state.specs.Repositories.{repository_value};
 ghost use Rattle.lake_state.specs.Lakes.{lake_value};
 ghost use Rattle.lake_changes.specs.FreshTokens.{AreTokensBelow};
-ghost use Rattle.lake_changes.specs.LakeRoom.{AreFew};
+ghost use Rattle.lake_state.specs.Counts.{AreFew};
 
 use crate::branch::branch_at;
 use crate::repository::Room;
@@ -116,12 +116,13 @@ fn a_lake(alloc: Global, names: &Names) -> Result<LakeState, NoMemory>
 }
 
 // Whether what was given out and what happened are few enough to count one more.
+#[tactic(auto, unfolding(lake_state::specs::Lakes::lake_value))]
 fn are_few(lake: &LakeState) -> bool
     ensures { IsTrue result → AreFew (lake_value lake.now) }
 {
     let most = u64::MAX / 2;
-    lake.entries <= most
-        && lake.references <= most
+    lake.entries < 4_194_304
+        && lake.references <= lake.entries
         && lake.next_number <= most
         && lake.next_version <= most
         && lake.next_token <= most

@@ -1,9 +1,9 @@
 -- The puts by which each change of a lake is kept, made of what the lake is before it. Where a branch or a repository
 -- isn't there, there are none.
-use Rattle.std.specs.Prelude.{◌+◌, ℕ, List, [], ◌∷◌, ◌++◌, map, filter, Option, Some, None, option_and_then, if◌then◌else◌}
+use Rattle.std.specs.Prelude.{◌+◌, ℕ, List, [], ◌∷◌, ◌++◌, map, filter, Option, Some, None, option_and_then}
 use Rattle.std.specs.Option.{option_map_or}
 use Rattle.std.specs.List.{flat_map}
-use Rattle.std.specs.FinMap.{contains_key, get, keys}
+use Rattle.std.specs.FinMap.{get, keys}
 use Rattle.lake_base.specs.declared.digest.Digest.{Digest}
 use Rattle.lake_values.specs.Reset.{drops_path}
 use Rattle.lake_values.specs.declared.commit.ResetWhat.{ResetWhat}
@@ -20,9 +20,9 @@ use Rattle.pair_format.specs.declared.stored.Stored.{Stored}
 use Rattle.pair_format.specs.declared.stored.Stored.TheVariants as stored
 use Rattle.pair_format.specs.Spelling.{key_of, key_spelling, value_spelling}
 use Rattle.keeper.specs.declared.put.Put.{Put}
-use Rattle.lake_state.specs.Branches.{BranchValue, new_branch, tokens_of}
-use Rattle.lake_state.specs.Repositories.{RepositoryValue}
-use Rattle.lake_state.specs.Lakes.{LakeValue}
+use Rattle.lake_state.specs.Branches.{BranchStateValue, new_branch, tokens_of, with_fresh}
+use Rattle.lake_state.specs.Repositories.{RepositoryStateValue}
+use Rattle.lake_state.specs.Lakes.{LakeStateValue}
 
 -- ---- puts
 
@@ -35,29 +35,29 @@ unfoldable pub removed_put : OwnedKey → Put
 removed_put k = record { key = key_spelling k; value = None }
 
 -- of the counts of a lake
-abbrev pub counts_put : LakeValue → Put
+abbrev pub counts_put : LakeStateValue → Put
 counts_put l = spelled_put (stored.Counts l.next_number l.next_version l.next_token)
 
 -- of a branch
-abbrev pub branch_put : List ℕ → List ℕ → BranchValue → Put
+abbrev pub branch_put : List ℕ → List ℕ → BranchStateValue → Put
 branch_put repo name b = spelled_put (stored.Branch repo name b.version b.head b.staging b.sealed)
 
 -- of a repository
-abbrev pub repository_put : List ℕ → RepositoryValue → Put
+abbrev pub repository_put : List ℕ → RepositoryStateValue → Put
 repository_put repo r = spelled_put (stored.Repository repo r.created r.default_branch r.settings)
 
 -- ---- numbers, and the changes of a branch
 
 -- the branch of a name, where it is there
-abbrev pub branch_at : List ℕ → List ℕ → LakeValue → Option BranchValue
+abbrev pub branch_at : List ℕ → List ℕ → LakeStateValue → Option BranchStateValue
 branch_at repo name l = option_and_then (λ r. get r.branches name) (get l.repositories repo)
 
 -- a number is given out
-abbrev pub ticket_puts : LakeValue → List Put
+abbrev pub ticket_puts : LakeStateValue → List Put
 ticket_puts l = counts_put (record l { next_number = l.next_number + 1 }) ∷ []
 
 -- a change is staged
-abbrev pub stage_puts : List ℕ → List ℕ → List ℕ → Change → LakeValue → List Put
+abbrev pub stage_puts : List ℕ → List ℕ → List ℕ → Change → LakeStateValue → List Put
 stage_puts repo name path change l =
     option_map_or (λ b. spelled_put (stored.Staged b.staging path change) ∷ []) (branch_at repo name l) []
 
@@ -70,22 +70,17 @@ abbrev pub removals_under : ResetWhat → TokenMap → ℕ → List Put
 removals_under what tokens token = removals_at what token (keys (changes_under tokens token))
 
 -- the same of each token of a branch: the staging token, then the sealed ones, newest first
-abbrev pub removals_of : ResetWhat → BranchValue → List Put
+abbrev pub removals_of : ResetWhat → BranchStateValue → List Put
 removals_of what b = flat_map (removals_under what b.tokens) (tokens_of b)
 
 -- changes are dropped
-abbrev pub reset_puts : List ℕ → List ℕ → ResetWhat → LakeValue → List Put
+abbrev pub reset_puts : List ℕ → List ℕ → ResetWhat → LakeStateValue → List Put
 reset_puts repo name what l =
     option_map_or (λ b. removals_of what b ++ branch_put repo name (record b { version = l.next_version })
     ∷ counts_put (record l { next_version = l.next_version + 1 }) ∷ []) (branch_at repo name l) []
 
--- a fresh staging token, and the old one first of the sealed ones; one without changes stays in place
-abbrev pub with_fresh : ℕ → BranchValue → BranchValue
-with_fresh fresh b =
-    if contains_key b.tokens b.staging then record b { staging = fresh; sealed = b.staging ∷ b.sealed } else b
-
 -- staged changes are sealed
-abbrev pub seal_puts : List ℕ → List ℕ → LakeValue → List Put
+abbrev pub seal_puts : List ℕ → List ℕ → LakeStateValue → List Put
 seal_puts repo name l =
     option_map_or (λ b. branch_put repo name (record (with_fresh l.next_token b) { version = l.next_version })
     ∷ counts_put (record l { next_version = l.next_version + 1; next_token = l.next_token + 1 }) ∷ [])
@@ -94,13 +89,13 @@ seal_puts repo name l =
 -- ---- names
 
 -- a branch is made
-abbrev pub create_branch_puts : List ℕ → List ℕ → Digest → LakeValue → List Put
+abbrev pub create_branch_puts : List ℕ → List ℕ → Digest → LakeStateValue → List Put
 create_branch_puts repo name commit l =
     branch_put repo name (new_branch l.next_version commit l.next_token)
     ∷ counts_put (record l { next_version = l.next_version + 1; next_token = l.next_token + 1 }) ∷ []
 
 -- a branch goes
-abbrev pub delete_branch_puts : List ℕ → List ℕ → LakeValue → List Put
+abbrev pub delete_branch_puts : List ℕ → List ℕ → LakeStateValue → List Put
 delete_branch_puts repo name l =
     option_map_or (λ b. removed_put (key.Branch repo name) ∷ removals_of All b) (branch_at repo name l) []
 
@@ -132,7 +127,7 @@ note_put repo name None = removed_put (key.Note repo name)
 note_put repo name (Some note) = spelled_put (stored.Note repo name (note_text note))
 
 -- a setting is set, or deleted where no new one is given
-abbrev pub set_note_puts : List ℕ → NoteName → Option Note → LakeValue → List Put
+abbrev pub set_note_puts : List ℕ → NoteName → Option Note → LakeStateValue → List Put
 set_note_puts repo name note l =
     option_map_or (λ r. note_put repo name note ∷ repository_put repo (record r { settings = l.next_version })
     ∷ counts_put (record l { next_version = l.next_version + 1 }) ∷ []) (get l.repositories repo) []

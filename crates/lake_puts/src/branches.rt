@@ -1,6 +1,7 @@
 //! Branches that are reset, sealed, made and deleted.
-ghost use Rattle.std.specs.Prelude.{◌≡◌, ◌<◌, ◌^◌, false, IfOk};
+ghost use Rattle.std.specs.Prelude.{◌≡◌, false, IfOk};
 ghost use Rattle.lake_base.specs.Names.{is_like_id};
+ghost use Rattle.lake_state.specs.Counts.{AreFew};
 ghost use Rattle.lake_state.specs.Lakes.{lake_value};
 ghost use Rattle.lake_puts.specs.Puts.{create_branch_puts, delete_branch_puts, reset_puts, seal_puts};
 
@@ -15,6 +16,7 @@ use pair_format::StoredKey;
 use std::alloc::Global;
 
 /// The puts of a reset of a branch: none, where it isn't there. 2^32 sealed tokens and more are out of memory.
+#[tactic(auto, unfolding(lake_state::specs::Lakes::lake_value))]
 pub fn reset_puts(
     alloc: Global,
     lake: &LakeState,
@@ -23,7 +25,7 @@ pub fn reset_puts(
     what: &ResetWhat,
 ) -> Result<Vec<Put>, NoMemory>
     requires plain { is_like_id name.now ≡ false }
-    requires version { lake.now.next_version < 2 ^ 63 }
+    requires few { AreFew (lake_value lake.now) }
     ensures { IfOk result (λ puts. puts.items
         ≡ reset_puts repo.now name.now what.now (lake_value lake.now)) }
 {
@@ -45,6 +47,7 @@ pub fn reset_puts(
 }
 
 /// The puts of a seal of a branch: none, where it isn't there. 2^32 sealed tokens and more are out of memory.
+#[tactic(auto, unfolding(lake_state::specs::Lakes::lake_value))]
 pub fn seal_puts(
     alloc: Global,
     lake: &LakeState,
@@ -52,8 +55,7 @@ pub fn seal_puts(
     name: &RefName,
 ) -> Result<Vec<Put>, NoMemory>
     requires plain { is_like_id name.now ≡ false }
-    requires version { lake.now.next_version < 2 ^ 63 }
-    requires token { lake.now.next_token < 2 ^ 63 }
+    requires few { AreFew (lake_value lake.now) }
     ensures { IfOk result (λ puts. puts.items ≡ seal_puts repo.now name.now (lake_value lake.now)) }
 {
     let mut puts = Vec::new(alloc);
@@ -73,6 +75,7 @@ pub fn seal_puts(
 }
 
 /// The puts of a branch that is made at a commit.
+#[tactic(auto, unfolding(lake_state::specs::Lakes::lake_value))]
 pub fn create_branch_puts(
     alloc: Global,
     lake: &LakeState,
@@ -81,8 +84,7 @@ pub fn create_branch_puts(
     commit: CommitId,
 ) -> Result<Vec<Put>, NoMemory>
     requires plain { is_like_id name.now ≡ false }
-    requires version { lake.now.next_version < 2 ^ 63 }
-    requires token { lake.now.next_token < 2 ^ 63 }
+    requires few { AreFew (lake_value lake.now) }
     ensures { IfOk result (λ puts. puts.items
         ≡ create_branch_puts repo.now name.now commit (lake_value lake.now)) }
 {

@@ -18,6 +18,8 @@ pub mod paths;
 mod pushing;
 mod removing;
 pub mod tags;
+#[cfg(test)]
+mod tests;
 
 pub use branches::{create_branch_puts, delete_branch_puts, reset_puts, seal_puts};
 pub use notes::set_note_puts;

@@ -1,10 +1,12 @@
 //! Settings.
-ghost use Rattle.std.specs.Prelude.{◌≡◌, ◌++◌, ◌∷◌, ◌<◌, ◌^◌, [], false, IfOk, IfSome, OnOk, option_copied};
+ghost use Rattle.std.specs.Prelude.{◌≡◌, ◌++◌, ◌∷◌, [], false, IfOk, IfSome, OnOk, option_copied};
 ghost use Rattle.std.specs.Option.{ForSome};
 ghost use Rattle.std.specs.FinMap.{get};
 ghost use Rattle.lake_base.specs.Names.{is_like_id};
+ghost use Rattle.lake_values.specs.NoteNames.{note_name};
 ghost use Rattle.pair_format.specs.declared.stored.Stored.TheVariants as stored;
 ghost use Rattle.lake_state.specs.Repositories.{repository_value};
+ghost use Rattle.lake_state.specs.Counts.{AreFew};
 ghost use Rattle.lake_state.specs.Lakes.{lake_value};
 ghost use Rattle.lake_puts.specs.Puts.{HasText, note_put, note_text, repository_put, set_note_puts};
 
@@ -19,6 +21,7 @@ use std::alloc::Global;
 
 /// The puts of a setting that is set, or deleted where no new one is given: none, where the repository isn't there.
 /// Retention has no text yet, so it can't be set.
+#[tactic(auto, unfolding(lake_state::specs::Lakes::lake_value))]
 pub fn set_note_puts(
     alloc: Global,
     lake: &LakeState,
@@ -26,10 +29,11 @@ pub fn set_note_puts(
     name: NoteName,
     note: Option<&Note>,
 ) -> Result<Vec<Put>, NoMemory>
+    requires name { IfSome (option_copied note) (λ n. note_name n ≡ name) }
     requires text { IfSome (option_copied note) HasText }
     requires plain { ForSome (get (lake_value lake.now).repositories repo.now)
         (λ r. is_like_id r.default_branch ≡ false) }
-    requires version { lake.now.next_version < 2 ^ 63 }
+    requires few { AreFew (lake_value lake.now) }
     ensures { IfOk result (λ puts. puts.items
         ≡ set_note_puts repo.now name (option_copied note.entry) (lake_value lake.now)) }
 {

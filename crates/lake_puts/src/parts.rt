@@ -1,10 +1,10 @@
 //! What is put of a branch.
-ghost use Rattle.std.specs.Prelude.{◌≡◌, ◌++◌, ◌∷◌, ◌<◌, ◌^◌, [], false, length, IfOk, OnOk, option_copied, option_map};
+ghost use Rattle.std.specs.Prelude.{◌≡◌, ◌++◌, ◌∷◌, [], false, IfOk, OnOk, option_copied, option_map};
 ghost use Rattle.lake_base.specs.Names.{is_like_id};
-ghost use Rattle.lake_state.specs.Branches.{branch_value, tokens_of};
+ghost use Rattle.lake_state.specs.Branches.{branch_value, tokens_of, with_fresh};
 ghost use Rattle.lake_state.specs.Lakes.{lake_value};
 ghost use Rattle.pair_format.specs.declared.stored.Stored.TheVariants as stored;
-ghost use Rattle.lake_puts.specs.Puts.{branch_at, spelled_put, with_fresh};
+ghost use Rattle.lake_puts.specs.Puts.{branch_at, spelled_put};
 ghost use Rattle.lake_puts.specs.Parts.{parts_of};
 
 use crate::pushing::push_spelled;

@@ -1,7 +1,8 @@
 //! Numbers of uploads, and changes that are staged.
-ghost use Rattle.std.specs.Prelude.{◌≡◌, ◌∷◌, ◌<◌, ◌^◌, [], IfOk};
+ghost use Rattle.std.specs.Prelude.{◌≡◌, ◌∷◌, [], IfOk};
 ghost use Rattle.lake_values.specs.declared.entry.Change.TheVariants.{Put as put};
 ghost use Rattle.pair_format.specs.declared.stored.Stored.TheVariants as stored;
+ghost use Rattle.lake_state.specs.Counts.{AreFew};
 ghost use Rattle.lake_state.specs.Lakes.{lake_value};
 ghost use Rattle.lake_puts.specs.Puts.{spelled_put, stage_puts, ticket_puts};
 
@@ -15,8 +16,9 @@ use pair_format::Stored;
 use std::alloc::Global;
 
 /// The puts of a number that is given out. A ticket isn't kept: for one that goes there is nothing to put.
+#[tactic(auto, unfolding(lake_state::specs::Lakes::lake_value))]
 pub fn ticket_puts(alloc: Global, lake: &LakeState) -> Result<Vec<Put>, NoMemory>
-    requires { lake.now.next_number < 2 ^ 63 }
+    requires few { AreFew (lake_value lake.now) }
     ensures { IfOk result (λ puts. puts.items ≡ ticket_puts (lake_value lake.now)) }
 {
     let mut puts = Vec::new(alloc);

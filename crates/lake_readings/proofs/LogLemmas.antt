@@ -11,12 +11,12 @@ use Rattle.lake_model.specs.Readings.{LogReply, ◌then◌, known_commit, log_an
 use Rattle.lake_model.specs.Resolving.{expression_target, moved_target, name_target}
 use Rattle.lake_model.specs.State.{Repository}
 use Rattle.lake_state.specs.declared.repository.RepositoryState.{RepositoryState}
-use Rattle.lake_state.specs.Lakes.{LakeValue, state_of}
+use Rattle.lake_state.specs.Lakes.{LakeStateValue, state_of}
 use Rattle.lake_state.specs.Repositories.{repository_value}
 use Rattle.lake_resolving.proofs.PlacesLemmas.{repository_at}
 use Rattle.lake_readings.proofs.ReplyLemmas.{in_some, then_ok, then_err}
 
-module _ (l : LakeValue) (repo : List ℕ) (e : RefExprValue) (after : Option Digest) (since : Option ℕ) (amount : ℕ)
+module _ (l : LakeStateValue) (repo : List ℕ) (e : RefExprValue) (after : Option Digest) (since : Option ℕ) (amount : ℕ)
     (r : RepositoryState) (there : Some (repository_value r) ≡ get l.repositories repo) where
   abbrev page_of : Repository → Option Digest → Digest → LogReply
   page_of q other id = log_answer (state_of l) q (log_page q.commits id other since amount)

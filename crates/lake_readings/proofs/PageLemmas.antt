@@ -1,7 +1,6 @@
 -- Which map a page is one of.
-use Rattle.std.proofs.Common.{◌≡◌, ◌∙◌, ℕ, false, List, Some, None, Option, ap}
-use Rattle.std.specs.Option.{unwrap_or}
-use Rattle.std.specs.FinMap.{empty, entries, get}
+use Rattle.std.proofs.Common.{◌≡◌, ◌∙◌, ℕ, false, List, ap}
+use Rattle.std.specs.FinMap.{entries}
 use Rattle.lake_base.specs.declared.digest.Digest.{Digest}
 use Rattle.lake_values.specs.Entry.{EntryValue}
 use Rattle.lake_values.specs.KeyMap.{ChangesValue, KeyMapValue, apply}
@@ -10,12 +9,6 @@ use Rattle.branch_record.specs.Overlay.{overlay_of, staged_changes, sealed_chang
 use Rattle.lake_model.specs.State.{Repository, map_of, now_map}
 use Rattle.lake_state.specs.declared.branch.BranchState.{BranchState}
 use Rattle.lake_resolving.proofs.PlacesLemmas.{branch_at}
-
-pub map_there : (r : Repository) (id : Digest) (map : KeyMapValue) → Some map ≡ get r.maps id.0 → map ≡ map_of r id
-map_there r id map is = ap (λ (o : Option KeyMapValue). unwrap_or o empty) is
-
-pub map_missing : (r : Repository) (id : Digest) → None ≡ get r.maps id.0 → empty ≡ map_of r id
-map_missing r id is = ap (λ (o : Option KeyMapValue). unwrap_or o empty) is
 
 -- rows of the changes of a branch as one, over its head's map, are those of what is read on it now
 pub rows_now : (r : Repository) (b : BranchState) (changes : ChangesValue) (head : Digest) (map : KeyMapValue) (rows : List (List ℕ × EntryValue))

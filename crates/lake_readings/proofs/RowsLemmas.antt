@@ -100,4 +100,5 @@ heads_told r after = sym (changed_told after branch_value branch_of (λ b. (b.0,
 
 pub infos_told : (l : LakeState) (after : List ℕ) → rows_above (λ name r. repository_info (name, repository_at r)) after (entries l.repositories)
     ≡ map repository_info (above after (state_of (lake_value l)).repositories)
+unfolding lake_value
 infos_told l after = sym (changed_told after repository_value repository_of repository_info l.repositories)

@@ -16,12 +16,12 @@ use Rattle.lake_state.specs.declared.branch.BranchState.{BranchState}
 use Rattle.lake_state.specs.declared.repository.RepositoryState.{RepositoryState}
 use Rattle.lake_state.specs.Branches.{branch_value}
 use Rattle.lake_state.specs.Counts.{HasVersions}
-use Rattle.lake_state.specs.Lakes.{LakeValue, state_of}
+use Rattle.lake_state.specs.Lakes.{LakeStateValue, state_of}
 use Rattle.lake_state.specs.Repositories.{repository_value}
 use Rattle.lake_resolving.proofs.PlacesLemmas.{found_branch, repository_at}
 use Rattle.lake_readings.proofs.ReplyLemmas.{in_some}
 
-module _ (l : LakeValue) (given : VersionsGiven) (has : HasVersions given l) (repo : List ℕ) (r : RepositoryState) (there : Some (repository_value r) ≡ get l.repositories repo) where
+module _ (l : LakeStateValue) (given : VersionsGiven) (has : HasVersions given l) (repo : List ℕ) (r : RepositoryState) (there : Some (repository_value r) ≡ get l.repositories repo) where
   abbrev versions_in : List ℕ → Repository → Result Versions StepFault
   versions_in branch q = cond (contains_key q.branches branch) (Ok (versions_at l.entries given repo branch)) (Err NoRef)
 

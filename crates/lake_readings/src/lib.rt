@@ -17,6 +17,8 @@ pub mod pages;
 pub mod points;
 mod rows;
 pub mod settings;
+#[cfg(test)]
+mod tests;
 
 pub use logs::log;
 pub use naming::{find, names, repositories};

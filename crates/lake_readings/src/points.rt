@@ -35,6 +35,7 @@ pub fn resolve(
 }
 
 // What is told of a commit that an expression leads to.
+#[tactic(auto, unfolding(lake_state::specs::Lakes::lake_value))]
 fn point_at(
     alloc: Global,
     lake: &LakeState,

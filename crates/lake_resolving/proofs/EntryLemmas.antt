@@ -1,8 +1,8 @@
 -- What stands at a path of a commit's map and of a branch, and which of the two an expression leads to.
 use Rattle.std.proofs.Common.{◌≡◌, ℕ, Bool, true, false, cond, List, Some, None, Option, refl, sym, ap, ◌∙◌}
-use Rattle.std.specs.Option.{unwrap_or, option_map_or}
+use Rattle.std.specs.Option.{unwrap_or, option_map, option_map_or}
 use Rattle.std.specs.FinMap.{get, empty}
-use Rattle.byte_map.proofs.ByteMapLemmas.{get_empty}
+use Rattle.byte_map.proofs.ValuesLemmas.{get_map_values}
 use Rattle.lake_base.specs.declared.digest.Digest.{Digest}
 use Rattle.lake_values.specs.KeyMap.{KeyMapValue, value_after}
 use Rattle.lake_values.proofs.KeyMapLemmas.{get_apply, apply_over}
@@ -13,12 +13,23 @@ use Rattle.commit_graph.specs.Expressions.{RefExprValue}
 use Rattle.lake_model.specs.Readings.{map_at}
 use Rattle.lake_model.specs.Resolving.{is_plain_branch}
 use Rattle.lake_model.specs.State.{Branch, Repository, map_of, now_map}
+use Rattle.meta_range.specs.Ranges.{TreeValue}
 use Rattle.lake_state.specs.declared.branch.BranchState.{BranchState}
+use Rattle.lake_state.specs.Repositories.{RepositoryStateValue, repository_of}
 use Rattle.lake_resolving.proofs.PlacesLemmas.{branch_at}
 
--- nothing stands in the map of a commit that has none
-pub get_unmapped : (r : Repository) (id : Digest) (path : List ℕ) → None ≡ get r.maps id.0 → None ≡ get (map_of r id) path
-get_unmapped r id path none = sym (ap (λ (o : Option KeyMapValue). get (unwrap_or o empty) path) (sym none) ∙ get_empty path)
+-- ---- the map of a commit: its tree's, and the empty one where it has no tree
+module _ (r : RepositoryStateValue) (id : Digest) where
+  of_tree : (o : Option TreeValue) → o ≡ get r.trees id.0 → unwrap_or (option_map (λ tree. tree.map) o) empty ≡ map_of (repository_of r) id
+  of_tree o is =
+      ap (λ (m : Option KeyMapValue). unwrap_or m empty)
+      (ap (option_map (λ (tree : TreeValue). tree.map)) is ∙ sym (get_map_values (λ (tree : TreeValue). tree.map) r.trees id.0))
+
+  pub map_there : (tree : TreeValue) → Some tree ≡ get r.trees id.0 → tree.map ≡ map_of (repository_of r) id
+  map_there tree is = of_tree (Some tree) is
+
+  pub map_missing : None ≡ get r.trees id.0 → empty ≡ map_of (repository_of r) id
+  map_missing is = of_tree None is
 
 -- what stands at a path of a branch: what its changes say of it, and else what its head's map has
 pub get_now : (r : Repository) (b : BranchState) (path : List ℕ)

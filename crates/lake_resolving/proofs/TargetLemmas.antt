@@ -13,7 +13,7 @@ use Rattle.lake_model.specs.State.{Branch, Repository, HasCommit}
 use Rattle.lake_model.specs.Resolving.{commit_named, is_plain_branch, is_unmoved, name_target}
 use Rattle.lake_state.specs.declared.branch.BranchState.{BranchState}
 use Rattle.lake_state.specs.Branches.{branch_value}
-use Rattle.lake_state.specs.Repositories.{HasTargets, RepositoryValue, repository_of}
+use Rattle.lake_state.specs.Repositories.{HasTargets, RepositoryStateValue, repository_of}
 use Rattle.lake_resolving.proofs.NamedLemmas.{find_within}
 use Rattle.lake_resolving.proofs.PlacesLemmas.{branch_at, found_branch}
 
@@ -43,7 +43,7 @@ some_branch None = refl
 some_branch (Some x) = refl
 
 -- an expression without `@` and without moves is a plain branch where one is found
-pub plain_if_found : (r : RepositoryValue) (e : RefExprValue) (o : Option (Bor BranchState)) → option_map branch_value (option_copied o) ≡ get r.branches e.name
+pub plain_if_found : (r : RepositoryStateValue) (e : RefExprValue) (o : Option (Bor BranchState)) → option_map branch_value (option_copied o) ≡ get r.branches e.name
     → e.at ≡ false → (length e.moves == 0) ≡ true → is_some o ≡ is_plain_branch (repository_of r) e
 plain_if_found r e o is at none =
     some_branch o ∙ ap is_some (sym (found_branch r e.name (option_copied o) is))

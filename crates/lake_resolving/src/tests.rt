@@ -5,7 +5,7 @@ ghost use Rattle.std.specs.FinMap.{get};
 ghost use Rattle.byte_map.specs.Values.{some_values};
 ghost use Rattle.lake_base.specs.declared.digest.Digest.{Digest as Id};
 ghost use Rattle.lake_values.specs.Ancestry.{commit_of};
-ghost use Rattle.lake_state.specs.Branches.{BranchValue, branch_value};
+ghost use Rattle.lake_state.specs.Branches.{BranchStateValue, branch_value};
 ghost use Rattle.lake_state.specs.Repositories.{HasTargets, repository_of, repository_value};
 
 use crate::{commit_named, entry_at, is_plain_branch, target};
@@ -70,7 +70,7 @@ fn branch(alloc: Global, head: CommitId) -> Result<BranchState, Fail>
 
 // The branch `main`.
 fn branches(alloc: Global, head: CommitId) -> Result<ByteMap<RefName, Option<BranchState>>, Fail>
-    ensures { IfOk result (λ branches. (name : List ℕ) (b : BranchValue)
+    ensures { IfOk result (λ branches. (name : List ℕ) (b : BranchStateValue)
         → get (some_values (option_map branch_value) branches) name ≡ Some b → b.head ≡ head) }
 {
     let mut branches = ByteMap::new(alloc);

@@ -1,1 +1,2 @@
 pub mod PlacesLemmas
+mod VersionLemmas

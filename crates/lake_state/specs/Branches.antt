@@ -1,6 +1,6 @@
 -- A branch in memory: what its record and the changes under its tokens say.
-use Rattle.std.specs.Prelude.{ℕ, List, [], ◌∷◌}
-use Rattle.std.specs.FinMap.{empty}
+use Rattle.std.specs.Prelude.{ℕ, List, [], ◌∷◌, if◌then◌else◌}
+use Rattle.std.specs.FinMap.{contains_key, empty}
 use Rattle.lake_base.specs.declared.digest.Digest.{Digest}
 use Rattle.branch_record.specs.Overlay.{layers_of}
 use Rattle.branch_record.specs.Tokens.{TokenMap, changes_under}
@@ -9,7 +9,7 @@ use Rattle.lake_state.specs.declared.branch.BranchState.{BranchState}
 
 -- a branch in memory: its version and head, the token under which changes are staged, the sealed tokens, newest first,
 -- and the changes under each token
-pub record BranchValue : Type 0 where
+pub record BranchStateValue : Type 0 where
   pub version : ℕ
   pub head : Digest
   pub staging : ℕ
@@ -17,7 +17,7 @@ pub record BranchValue : Type 0 where
   pub tokens : TokenMap
 
 -- what a branch in memory says, without the room that it has for what may come
-abbrev pub branch_value : BranchState → BranchValue
+abbrev pub branch_value : BranchState → BranchStateValue
 branch_value b = record {
   version = b.record.version;
   head = b.record.head;
@@ -27,15 +27,20 @@ branch_value b = record {
 }
 
 -- the branch that it stands for: staged is what stands under the staging token, sealed what the sealed tokens say
-abbrev pub branch_of : BranchValue → Branch
+abbrev pub branch_of : BranchStateValue → Branch
 branch_of b =
     record { head = b.head; sealed = layers_of b.tokens b.sealed; staged = changes_under b.tokens b.staging }
 
 -- a branch without changes
-abbrev pub new_branch : ℕ → Digest → ℕ → BranchValue
+abbrev pub new_branch : ℕ → Digest → ℕ → BranchStateValue
 new_branch version head staging =
     record { version = version; head = head; staging = staging; sealed = []; tokens = empty }
 
 -- the tokens that a branch names
-abbrev pub tokens_of : BranchValue → List ℕ
+abbrev pub tokens_of : BranchStateValue → List ℕ
 tokens_of b = b.staging ∷ b.sealed
+
+-- a fresh staging token, and the old one first of the sealed ones; one without changes stays in place
+abbrev pub with_fresh : ℕ → BranchStateValue → BranchStateValue
+with_fresh fresh b =
+    if contains_key b.tokens b.staging then record b { staging = fresh; sealed = b.staging ∷ b.sealed } else b

@@ -7,12 +7,12 @@ use Rattle.lake_format.specs.declared.cut.Cut.{Cut}
 use Rattle.byte_map.specs.Values.{map_values, some_values}
 use Rattle.lake_model.specs.State.{State}
 use Rattle.lake_state.specs.declared.lake.LakeState.{LakeState}
-use Rattle.lake_state.specs.Repositories.{RepositoryValue, repository_of, repository_value}
+use Rattle.lake_state.specs.Repositories.{RepositoryStateValue, repository_of, repository_value}
 
 -- a lake in memory
-pub record LakeValue : Type 0 where
+pub record LakeStateValue : Type 0 where
   pub cut : Cut
-  pub repositories : ByteMap RepositoryValue
+  pub repositories : ByteMap RepositoryStateValue
   -- the seat of each upload that isn't finished
   pub tickets : FinMap nat_cmp ℕ
   pub gone : FinMap nat_cmp (Unit {0})
@@ -33,7 +33,7 @@ tickets_of ((number, Some seat) ∷ rows) = insert (tickets_of rows) number seat
 tickets_of ((number, None) ∷ rows) = tickets_of rows
 
 -- what a lake in memory says, without the room that it has for what may come
-abbrev pub lake_value : LakeState → LakeValue
+unfoldable pub lake_value : LakeState → LakeStateValue
 lake_value l = record {
   cut = l.cut;
   repositories = some_values (option_map repository_value) l.repositories;
@@ -48,7 +48,7 @@ lake_value l = record {
 }
 
 -- the state that it stands for
-abbrev pub state_of : LakeValue → State
+abbrev pub state_of : LakeStateValue → State
 state_of l = record {
   cut = l.cut;
   repositories = map_values repository_of l.repositories;

@@ -57,8 +57,8 @@ impl RepositoryState {
 
     /// The tree of a commit. It takes no memory.
     pub fn tree(&self, id: &CommitId) -> Option<&Arc<Tree, Global>>
-        ensures { option_map (λ tree. tree.value.map) (option_copied result)
-            ≡ get (repository_value self.now).maps id.now.0 }
+        ensures { option_map (λ tree. tree.value) (option_copied result)
+            ≡ get (repository_value self.now).trees id.now.0 }
     {
         self.trees.get(id)
     }

@@ -165,8 +165,8 @@ fn trees_of(
     commits: &Commits,
     tree: Tree,
 ) -> Result<ByteMap<CommitId, Arc<Tree, Global>>, Fail>
-    ensures { IfOk result (λ trees. map_values (λ tree. tree.value.map) trees
-        ≡ insert (insert empty commits.now.first.0 tree.map) commits.now.second.0 tree.map) }
+    ensures { IfOk result (λ trees. map_values (λ tree. tree.value) trees
+        ≡ insert (insert empty commits.now.first.0 tree) commits.now.second.0 tree) }
 {
     let tree = Arc::new(alloc, tree)?;
     let mut trees = ByteMap::new(alloc);

@@ -1,16 +1,17 @@
 use Rattle.std.proofs.Common.{ap}
 use Rattle.std.proofs.lemmas.Result.{on_ok_weaker}
 use Rattle.lake_base.specs.Maps.{ByteMap}
-use Rattle.lake_state.specs.Repositories.{RepositoryValue, repository_value}
+use Rattle.lake_state.specs.Repositories.{RepositoryStateValue, repository_value}
 use Rattle.lake_state.specs.Lakes.{lake_value}
 use Rattle.lake_changes.specs.RepositoryChanges.{HasRoomIn}
 use Rattle.lake_changes.proofs.PlacesLemmas.{same_place, holds_there}
 use Rattle.lake_changes.proofs.lake.make_room_at.Goals as goal
 
 pub returns-in-Some-clause-same : goal.returns-in-Some-clause-same
+unfolding lake_value
 returns-in-Some-clause-same c =
     let l = lake_value c.args.lake.now in
-    ap (λ (m : ByteMap RepositoryValue). record l { repositories = m })
+    ap (λ (m : ByteMap RepositoryStateValue). record l { repositories = m })
     (same_place repository_value c.args.lake.now.repositories c.args.repo.now c.in-Some.place.now c.make_room_here.new.place c.in-Some.ensures.value c.make_room_here.ensures.same)
 
 pub returns-in-Some-clause-room : goal.returns-in-Some-clause-room

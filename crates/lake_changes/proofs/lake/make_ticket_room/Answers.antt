@@ -6,6 +6,7 @@ use Rattle.lake_changes.proofs.TicketsLemmas.{tickets_same}
 use Rattle.lake_changes.proofs.lake.make_ticket_room.Goals as goal
 
 pub returns-clause-same : goal.returns-clause-same
+unfolding lake_value
 returns-clause-same c =
     let l = lake_value c.args.lake.now in
     let done = c.in_ok-insert.ensures in

@@ -4,17 +4,17 @@ use Rattle.lake_base.specs.declared.digest.Digest.{Digest}
 use Rattle.lake_base.specs.Maps.{ByteMap}
 use Rattle.byte_map.specs.Values.{some_values}
 use Rattle.byte_map.proofs.ValuesLemmas.{some_values_insert, some_values_remove}
-use Rattle.lake_state.specs.Branches.{BranchValue, branch_value}
-use Rattle.lake_state.specs.Repositories.{RepositoryValue, repository_value}
+use Rattle.lake_state.specs.Branches.{BranchStateValue, branch_value}
+use Rattle.lake_state.specs.Repositories.{RepositoryStateValue, repository_value}
 use Rattle.lake_changes.specs.declared.repository.RepositoryChange.{RepositoryChange}
 use Rattle.lake_changes.specs.RepositoryChanges.{repository_after}
 use Rattle.lake_changes.proofs.repository.change_repository.Goals as goal
 
 -- with other branches, with other tags
-abbrev with_branches : RepositoryValue → ByteMap BranchValue → RepositoryValue
+abbrev with_branches : RepositoryStateValue → ByteMap BranchStateValue → RepositoryStateValue
 with_branches r branches = record r { branches = branches }
 
-abbrev with_tags : RepositoryValue → ByteMap Digest → RepositoryValue
+abbrev with_tags : RepositoryStateValue → ByteMap Digest → RepositoryStateValue
 with_tags r tags = record r { tags = tags }
 
 pub returns-in-PutBranch : goal.returns-in-PutBranch

@@ -44,6 +44,7 @@ returns-in_err-from c =
     c.in_ok-test_commit.ensures _ c.in_err-from.ensures.target))
 
 pub returns : goal.returns
+unfolding lake_value
 returns c =
     let r = c.in-Some.repository.now in
     let page = c.page.view_is ∙ c.in_ok-page.ensures in

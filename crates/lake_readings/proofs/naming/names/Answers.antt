@@ -8,6 +8,7 @@ pub returns-in_default : goal.returns-in_default
 returns-in_default c = in_none (lake_value c.args.lake.now) c.args.repo.now _ c.in_default.ensures
 
 pub returns : goal.returns
+unfolding lake_value
 returns c =
     let l = lake_value c.args.lake.now in
     (λ i. Ok (record { at = l.entries; values = c.in_ok-found.ensures.names i; more = c.in_ok-found.ensures.more i }))

@@ -5,6 +5,7 @@ use Rattle.lake_readings.proofs.RowsLemmas.{infos_told}
 use Rattle.lake_readings.proofs.naming.repositories.Goals as goal
 
 pub returns : goal.returns
+unfolding lake_value
 returns c =
     let l = lake_value c.args.lake.now in
     (λ i. Ok (record { at = l.entries; values = c.in_ok-found.ensures.rows i; more = c.in_ok-found.ensures.more i }))

@@ -10,6 +10,7 @@ use Rattle.lake_readings.proofs.PointLemmas.{contains_rows}
 use Rattle.lake_readings.proofs.objects.is_gone.Goals as goal
 
 pub returns-in-Own : goal.returns-in-Own
+unfolding lake_value
 returns-in-Own c =
     let state = state_of (lake_value c.args.lake.now) in
     c.contains_key.ensures ∙ contains_rows c.args.lake.now.gone.entries c.in-Own.number

@@ -22,6 +22,7 @@ returns-in_err-commit c =
     _ c.in_err-commit.ensures.target))
 
 pub returns : goal.returns
+unfolding lake_value
 returns c =
     let l = lake_value c.args.lake.now in
     (λ i. Ok (record {

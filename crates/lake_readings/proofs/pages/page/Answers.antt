@@ -23,6 +23,7 @@ returns-in_err-commit c =
     _ c.in_err-commit.ensures.target))
 
 pub returns : goal.returns
+unfolding lake_value
 returns c =
     let l = lake_value c.args.lake.now in
     (λ i. Ok (record { at = l.entries; items = c.in_ok-page.ensures.items i; more = c.in_ok-page.ensures.more i }))

@@ -4,8 +4,10 @@ use Rattle.std.specs.FinMap.{empty, entries}
 use Rattle.lake_values.specs.Entry.{EntryValue}
 use Rattle.lake_pages.specs.Listing.{items_left}
 use Rattle.meta_range.specs.declared.tree.Tree.{Tree}
+use Rattle.lake_state.specs.Repositories.{repository_value}
+use Rattle.lake_resolving.proofs.EntryLemmas.{map_there, map_missing}
 use Rattle.lake_resolving.proofs.PlacesLemmas.{repository_at}
-use Rattle.lake_readings.proofs.PageLemmas.{map_there, map_missing, rows_now}
+use Rattle.lake_readings.proofs.PageLemmas.{rows_now}
 use Rattle.lake_readings.proofs.pages.page_on.Goals as goal
 
 pub returns-in-Some-clause-items : goal.returns-in-Some-clause-items
@@ -13,7 +15,7 @@ returns-in-Some-clause-items c =
     let r = repository_at c.args.repository.now in
     let map = c.in-Some.tree.now.value.map in
     let rows = rows_now r c.args.branch.now c.in_ok-changes.changes c.head.result map c.new.result c.in_ok-changes.ensures c.head.ensures
-    (map_there r c.head.result map c.in-Some.ensures)
+    (map_there (repository_value c.args.repository.now) c.head.result c.in-Some.tree.now.value c.in-Some.ensures)
     (c.new.ensures.of_map map (c.seek.ensures ∙ ap (λ (tree : Tree). entries tree.map) c.deref.ensures)) in
     subst (λ (l : List (List ℕ × EntryValue)). IfOk c.page_over.result (λ page. page.items ≡ take c.args.query.now.amount (items_left c.args.query.now l))) rows
     c.page_over.ensures.items
@@ -23,7 +25,7 @@ returns-in-Some-clause-more c =
     let r = repository_at c.args.repository.now in
     let map = c.in-Some.tree.now.value.map in
     let rows = rows_now r c.args.branch.now c.in_ok-changes.changes c.head.result map c.new.result c.in_ok-changes.ensures c.head.ensures
-    (map_there r c.head.result map c.in-Some.ensures)
+    (map_there (repository_value c.args.repository.now) c.head.result c.in-Some.tree.now.value c.in-Some.ensures)
     (c.new.ensures.of_map map (c.seek.ensures ∙ ap (λ (tree : Tree). entries tree.map) c.deref.ensures)) in
     subst (λ (l : List (List ℕ × EntryValue)). IfOk c.page_over.result (λ page. page.has_more ≡ nat_lt c.args.query.now.amount (length (items_left c.args.query.now l)))) rows
     c.page_over.ensures.more
@@ -32,7 +34,7 @@ pub returns-clause-items : goal.returns-clause-items
 returns-clause-items c =
     let r = repository_at c.args.repository.now in
     let rows = rows_now r c.args.branch.now c.in_ok-changes.changes c.head.result empty c.new-in-None.result c.in_ok-changes.ensures c.head.ensures
-    (map_missing r c.head.result c.in-None.ensures)
+    (map_missing (repository_value c.args.repository.now) c.head.result c.in-None.ensures)
     (c.new-in-None.ensures.of_map empty (c.cursor.ensures ∙ ap entries c.new-none.ensures)) in
     subst (λ (l : List (List ℕ × EntryValue)). IfOk c.page_over-in-None.result (λ page. page.items ≡ take c.args.query.now.amount (items_left c.args.query.now l))) rows
     c.page_over-in-None.ensures.items
@@ -41,7 +43,7 @@ pub returns-clause-more : goal.returns-clause-more
 returns-clause-more c =
     let r = repository_at c.args.repository.now in
     let rows = rows_now r c.args.branch.now c.in_ok-changes.changes c.head.result empty c.new-in-None.result c.in_ok-changes.ensures c.head.ensures
-    (map_missing r c.head.result c.in-None.ensures)
+    (map_missing (repository_value c.args.repository.now) c.head.result c.in-None.ensures)
     (c.new-in-None.ensures.of_map empty (c.cursor.ensures ∙ ap entries c.new-none.ensures)) in
     subst (λ (l : List (List ℕ × EntryValue)). IfOk c.page_over-in-None.result (λ page. page.has_more ≡ nat_lt c.args.query.now.amount (length (items_left c.args.query.now l)))) rows
     c.page_over-in-None.ensures.more

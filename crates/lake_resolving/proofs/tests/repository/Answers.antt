@@ -7,14 +7,14 @@ use Rattle.lake_values.specs.Ancestry.{Graph, commit_of}
 use Rattle.byte_map.specs.Values.{map_values}
 use Rattle.byte_map.proofs.ValuesLemmas.{get_map_values}
 use Rattle.lake_model.specs.State.{Branch, Repository, HasCommit}
-use Rattle.lake_state.specs.Branches.{BranchValue, branch_of}
+use Rattle.lake_state.specs.Branches.{BranchStateValue, branch_of}
 use Rattle.lake_state.specs.Repositories.{HasTargets}
 use Rattle.lake_resolving.proofs.TargetLemmas.{map_cases}
 use Rattle.lake_resolving.proofs.tests.repository.Goals as goal
 
 -- each branch and each tag names the one commit
-all_at : (r : Repository) (branches : ByteMap BranchValue) (id : Digest) → r.branches ≡ map_values branch_of branches → HasCommit r id
-    → ((name : List ℕ) (b : BranchValue) → get branches name ≡ Some b → b.head ≡ id)
+all_at : (r : Repository) (branches : ByteMap BranchStateValue) (id : Digest) → r.branches ≡ map_values branch_of branches → HasCommit r id
+    → ((name : List ℕ) (b : BranchStateValue) → get branches name ≡ Some b → b.head ≡ id)
     → ((name : List ℕ) (q : Digest) → get r.tags name ≡ Some q → q ≡ id)
     → HasTargets r
 all_at r branches id are there heads tags = record {

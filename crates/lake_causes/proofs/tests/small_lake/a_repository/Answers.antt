@@ -1,12 +1,11 @@
 use Rattle.std.proofs.Common.{refl, ap, ◌∙◌}
 use Rattle.std.specs.Prelude.{codes, option_map}
-use Rattle.std.specs.FinMap.{empty, insert}
 use Rattle.byte_map.specs.Values.{map_values, some_values}
 use Rattle.lake_format.specs.Cutting.{files, tree_id}
 use Rattle.lake_format.specs.Spelling.{file_name}
 use Rattle.meta_range.specs.Ranges.{first_file}
 use Rattle.lake_state.specs.Branches.{branch_of, branch_value}
-use Rattle.lake_causes.proofs.SmallLakeLemmas.{small_both}
+use Rattle.lake_causes.proofs.SmallLakeLemmas.{small_both, two_mapped}
 use Rattle.lake_causes.proofs.tests.small_lake.a_repository.Goals as goal
 
 pub returns : goal.returns
@@ -24,8 +23,7 @@ returns c =
       commits = made.1.1;
       graph = c.in_ok-commits.ensures.sound;
       maps =
-          ap (map_values (λ tree. tree.value.map)) c.trees.view_is ∙ c.in_ok-trees.ensures
-          ∙ (λ i. insert (insert empty first.0 (map i)) second.0 (map i));
+          two_mapped _ (λ tree. tree.map) first.0 second.0 _ _ _ (ap (map_values (λ tree. tree.value)) c.trees.view_is ∙ c.in_ok-trees.ensures) map map;
       expired = c.expired.view_is ∙ c.in_ok-expired.ensures;
       apart = c.in_ok-commits.ensures.apart;
       tree_of_one = made.1.2 ∙ id;

@@ -3,12 +3,13 @@ use Rattle.std.specs.Prelude.{option_map}
 use Rattle.std.specs.FinMap.{empty, from_entries, insert}
 use Rattle.byte_map.specs.Values.{map_values, some_values}
 use Rattle.byte_map.proofs.ValuesLemmas.{map_values_empty, map_values_insert, some_values_empty, some_values_insert}
-use Rattle.lake_state.specs.Lakes.{tickets_of}
+use Rattle.lake_state.specs.Lakes.{lake_value, tickets_of}
 use Rattle.lake_state.specs.Repositories.{repository_of, repository_value}
 use Rattle.lake_causes.proofs.SmallLakeLemmas.{lake_sound}
 use Rattle.lake_causes.proofs.tests.small_lake.small_lake.Goals as goal
 
 pub returns : goal.returns
+unfolding lake_value
 returns c =
     let name = c.in_ok-read.field-0 in
     let r = c.in_ok-repository.repository in

@@ -9,7 +9,6 @@ returns c =
     let second = c.args.commits.now.second.0 in
     let tree = c.in_ok-tree.tree in
     let copy = c.in_ok-clone.field-0 in
-    let map = ap (λ t. t.map) c.in_ok-tree.ensures.ok in
-    two_mapped c.insert-2.new.self (λ t. t.value.map) first second copy tree c.args.tree.map
+    two_mapped c.insert-2.new.self (λ t. t.value) first second copy tree c.args.tree
     (c.in_ok-insert-2.ensures.inserted ∙ ap (λ m. insert m second tree) (c.in_ok-insert.ensures.inserted ∙ ap (λ m. insert m first copy) c.new-trees.ensures))
-    (ap (λ t. t.map) c.in_ok-clone.ensures.cases ∙ map) map
+    (c.in_ok-clone.ensures.cases ∙ c.in_ok-tree.ensures.ok) c.in_ok-tree.ensures.ok

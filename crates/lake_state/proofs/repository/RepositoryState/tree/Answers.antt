@@ -4,4 +4,4 @@ use Rattle.byte_map.proofs.ValuesLemmas.{get_map_values}
 use Rattle.lake_state.proofs.repository.RepositoryState.tree.Goals as goal
 
 pub returns : goal.returns
-returns c = ap (option_map (λ tree. tree.value.map)) c.get.ensures ∙ sym (get_map_values (λ tree. tree.value.map) c.args.self.now.trees c.args.id.now.0)
+returns c = ap (option_map (λ tree. tree.value)) c.get.ensures ∙ sym (get_map_values (λ tree. tree.value) c.args.self.now.trees c.args.id.now.0)
