@@ -1,0 +1,2 @@
+pub mod FoundingLemmas
+pub mod PutsLemmas

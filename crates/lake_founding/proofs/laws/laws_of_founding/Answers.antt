@@ -1,0 +1,14 @@
+use Rattle.lake_founding.proofs.FoundingLemmas.{founded_seen, fresh_below, fresh_has, fresh_seen}
+use Rattle.lake_founding.proofs.laws.laws_of_founding.Goals as goal
+
+pub returns-clause-repository : goal.returns-clause-repository
+returns-clause-repository c = founded_seen
+
+pub returns-clause-state : goal.returns-clause-state
+returns-clause-state c = fresh_seen
+
+pub returns-clause-versions : goal.returns-clause-versions
+returns-clause-versions c = fresh_has
+
+pub returns-clause-tokens : goal.returns-clause-tokens
+returns-clause-tokens c = fresh_below
