@@ -1,0 +1,4 @@
+pub mod StandingLemmas
+pub mod MakingLemmas
+pub mod PresentLemmas
+pub mod PlainLemmas

@@ -1,0 +1,28 @@
+-- What holds of a lake that stands for its history.
+use Rattle.std.proofs.Common.{◌≡◌, ℕ, List, refl, sym, subst, ◌∙◌}
+use Rattle.std.specs.Prelude.{Option, Some, None, IsSome, option_map}
+use Rattle.std.specs.FinMap.{get}
+use Rattle.byte_map.proofs.ValuesLemmas.{get_map_values}
+use Rattle.lake_model.specs.declared.history.HistoryEntry.{HistoryEntry}
+use Rattle.lake_model.specs.State.{Repository, State}
+use Rattle.lake_model.specs.History.{IsLegal, replay}
+use Rattle.lake_model.specs.Soundness.{IsSound}
+use Rattle.lake_state.specs.Repositories.{repository_of}
+use Rattle.lake_state.specs.Lakes.{LakeStateValue, state_of}
+use Rattle.lake_standing.specs.Standing.{Stands}
+
+-- what follows a sound state by a legal history is sound, so the present state is
+pub present_sound : ((state : State) (entries : List HistoryEntry) → IsSound state → IsLegal state entries → IsSound (replay state entries))
+    → (opened : LakeStateValue) (history : List HistoryEntry) (present : LakeStateValue)
+    → Stands opened history present → IsSound (state_of present)
+present_sound stays opened history present stands =
+    subst IsSound stands.replayed (stays (state_of opened) history stands.sound stands.legal)
+
+some_before : {X Y : Type 0} (f : X → Y) (o : Option X) (y : Y) → option_map f o ≡ Some y → IsSome o
+some_before f (Some x) y is = refl
+some_before f None y is = absurd cc
+
+-- a repository that the state has is there
+pub is_there : (l : LakeStateValue) (repo : List ℕ) (r : Repository) → get (state_of l).repositories repo ≡ Some r → IsSome (get l.repositories repo)
+is_there l repo r is =
+    some_before repository_of (get l.repositories repo) r (sym (get_map_values repository_of l.repositories repo) ∙ is)

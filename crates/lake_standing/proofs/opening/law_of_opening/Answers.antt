@@ -1,0 +1,12 @@
+use Rattle.std.proofs.Common.{refl}
+use Rattle.lake_standing.proofs.opening.law_of_opening.Goals as goal
+
+pub returns : goal.returns
+returns c l sound tokens counted = record {
+  sound = sound;
+  legal = tt;
+  replayed = refl;
+  versions = c.law_of_versions.ensures l;
+  tokens = tokens;
+  counted = counted;
+}

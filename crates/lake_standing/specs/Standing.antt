@@ -1,0 +1,34 @@
+-- A lake in memory stands for its history.
+use Rattle.std.specs.Prelude.{◌≡◌, ◌++◌, ◌∷◌, [], List}
+use Rattle.lake_model.specs.declared.history.By.{By}
+use Rattle.lake_model.specs.declared.history.HistoryEntry.{HistoryEntry}
+use Rattle.lake_model.specs.declared.history.Operation.{Operation}
+use Rattle.lake_model.specs.History.{IsLegal, accepted_entry, faulted_entry, replay}
+use Rattle.lake_model.specs.Soundness.{IsSound}
+use Rattle.lake_model.specs.Versions.{VersionsGiven, count_versions}
+use Rattle.lake_state.specs.Counts.{AreCounted, AreFew, HasVersions, versions_of}
+use Rattle.lake_state.specs.Lakes.{LakeStateValue, state_of}
+use Rattle.lake_changes.specs.FreshTokens.{AreTokensBelow}
+use Rattle.lake_changes.specs.LakeChanges.{after_fault}
+
+-- the versions given up to the end of a history, in a lake that was opened as this
+abbrev pub versions_at : LakeStateValue → List HistoryEntry → VersionsGiven
+versions_at opened history = count_versions (versions_of opened) history
+
+-- A lake in memory stands for the replay of a legal history from the sound state that it was opened as. Its versions
+-- are those that were given over the history, its tokens are fresh, and its counts are small.
+pub record Stands (opened : LakeStateValue) (history : List HistoryEntry) (present : LakeStateValue) : Type 0 where
+  pub sound : IsSound (state_of opened)
+  pub legal : IsLegal (state_of opened) history
+  pub replayed : replay (state_of opened) history ≡ state_of present
+  pub versions : HasVersions (versions_at opened history) present
+  pub tokens : AreTokensBelow present
+  pub counted : AreCounted present
+
+-- An operation may be made of a lake that stands for its history: there is room to count it, and the lake stands for the
+-- history with its entry after it was made, and for the history with its fault after the store failed.
+pub record MayMake (opened : LakeStateValue) (history : List HistoryEntry) (present : LakeStateValue) (by : By) (operation : Operation)
+    (after : LakeStateValue → LakeStateValue) : Type 0 where
+  pub few : AreFew present
+  pub accepted : Stands opened (history ++ accepted_entry by operation ∷ []) (after present)
+  pub faulted : Stands opened (history ++ faulted_entry by operation ∷ []) (after_fault present)

@@ -1,0 +1,16 @@
+//! What holds of a lake that stands for its history.
+ghost use Rattle.std.specs.Prelude.{List};
+ghost use Rattle.lake_model.specs.declared.history.HistoryEntry.{HistoryEntry};
+ghost use Rattle.lake_model.specs.Soundness.{IsSound};
+ghost use Rattle.lake_state.specs.Lakes.{LakeStateValue, state_of};
+ghost use Rattle.lake_standing.specs.Standing.{Stands};
+
+use lake_laws::soundness::law_of_soundness;
+
+/// The state of a lake that stands for its history is sound.
+pub fn law_of_present()
+    ensures { (opened : LakeStateValue) (history : List HistoryEntry) (present : LakeStateValue)
+        → Stands opened history present → IsSound (state_of present) }
+{
+    law_of_soundness();
+}
