@@ -1,0 +1,302 @@
+-- What each change leaves: the lake stands for its history, and the answer is the reply.
+use Rattle.std.proofs.Common.{◌≡◌, ◌++◌, ◌∷◌, [], ◌+◌, ℕ, List, refl, sym, ap, ◌∙◌, subst}
+use Rattle.std.specs.Prelude.{Option, Some, None, IfSome, Result, Ok, Err, IsErrAnd, IsOk, IsSomeAnd}
+use Rattle.std.specs.FinMap.{get}
+use Rattle.std.specs.Option.{option_map_or}
+use Rattle.keeper.specs.Keepers.{MayHaveMade, pairs_after}
+use Rattle.keeper.specs.declared.put.Put.{Put}
+use Rattle.lake_values.specs.declared.entry.Change.{Change}
+use Rattle.lake_model.specs.declared.fault.StepFault.{StepFault}
+use Rattle.lake_model.specs.declared.fault.StepFault.TheVariants.{Stopped, HistoryFull, NoRepo, NoRef, NoParent, NoNote, Exists, DefaultBranch, Protected, Changed, NoPath, Expired, NameClash, StoreFault, NoMemory}
+use Rattle.lake_model.specs.declared.history.By.{By}
+use Rattle.lake_model.specs.declared.history.HistoryEntry.{HistoryEntry}
+use Rattle.lake_model.specs.declared.history.Operation.{Operation}
+use Rattle.lake_model.specs.State.{State}
+use Rattle.lake_model.specs.History.{accepted_entry, faulted_entry}
+use Rattle.lake_model.specs.Refusals.{Causes, GivesOrFails, IsRefusal, first_cause, unless_refused}
+use Rattle.lake_model.specs.Steps.{IsReplyOf}
+use Rattle.lake_model.specs.Uncommitted.{put_number}
+use Rattle.lake_model.specs.Versions.{VersionsGiven, settings_version}
+use Rattle.lake_state.specs.Counts.{HasVersions}
+use Rattle.lake_state.specs.Repositories.{RepositoryStateValue}
+use Rattle.lake_state.specs.declared.lake.LakeState.{LakeState}
+use Rattle.lake_state.specs.Lakes.{LakeStateValue, lake_value}
+use Rattle.lake_changes.specs.LakeChanges.{after_fault, after_stage, without_ticket}
+use Rattle.lake_standing.specs.Standing.{MayMake, Stands}
+use Rattle.lake_core.specs.Lakes.{LakeValue, state, versions}
+use Rattle.lake_core.specs.Steps.{IsMade, KeeperView, Leaves, Making}
+use Rattle.lake_core.specs.Keeping.{AreKept, Keeps, Parts}
+
+module _ {opened : LakeStateValue} {history : List HistoryEntry} {l : LakeStateValue} {by : By} {operation : Operation}
+    {make : LakeStateValue → LakeStateValue} (may : MayMake opened history l by operation make) where
+  -- an operation was made, and its entry stands
+  pub made_stands : (made : Operation) (new : List HistoryEntry) (next : LakeStateValue)
+      → made ≡ operation → new ≡ history ++ accepted_entry by made ∷ [] → next ≡ make l → Stands opened new next
+  made_stands made new next is entries makes =
+      subst (λ n. Stands opened n next) (sym (entries ∙ ap (λ o. history ++ accepted_entry by o ∷ []) is))
+      (subst (λ n. Stands opened (history ++ accepted_entry by operation ∷ []) n) (sym makes) may.accepted)
+
+  -- it wasn't made, and its fault stands, where the store failed
+  pub refused_stands : {K : Type 0} (view : KeeperView K) (made : Operation) (puts : List Put) (old new : Parts K) (fault : StepFault)
+      → Stands opened history l → made ≡ operation → old.history ≡ history → lake_value old.present ≡ l
+      → Keeps {X = Unit {0}} view by made puts (Err fault) old new → Stands opened new.history (lake_value new.present)
+  refused_stands view made puts old new StoreFault stands is entries same keeps =
+      subst (λ n. Stands opened n (lake_value new.present)) (sym (keeps.history
+      ∙ ap (λ h. h ++ faulted_entry by made ∷ []) entries ∙ ap (λ o. history ++ faulted_entry by o ∷ []) is))
+      (subst (λ n. Stands opened (history ++ faulted_entry by operation ∷ []) n) (sym (keeps.present ∙ ap after_fault same)) may.faulted)
+  refused_stands view made puts old new NoMemory stands is entries same keeps =
+      subst (λ n. Stands opened n (lake_value new.present)) (sym (keeps.history ∙ entries))
+      (subst (λ n. Stands opened history n) (sym (ap lake_value keeps.present ∙ same)) stands)
+  refused_stands view made puts old new Stopped stands is entries same keeps = absurd keeps
+  refused_stands view made puts old new HistoryFull stands is entries same keeps = absurd keeps
+  refused_stands view made puts old new NoRepo stands is entries same keeps = absurd keeps
+  refused_stands view made puts old new NoRef stands is entries same keeps = absurd keeps
+  refused_stands view made puts old new (NoParent number) stands is entries same keeps = absurd keeps
+  refused_stands view made puts old new NoNote stands is entries same keeps = absurd keeps
+  refused_stands view made puts old new Exists stands is entries same keeps = absurd keeps
+  refused_stands view made puts old new DefaultBranch stands is entries same keeps = absurd keeps
+  refused_stands view made puts old new (Protected pattern) stands is entries same keeps = absurd keeps
+  refused_stands view made puts old new (Changed version settings) stands is entries same keeps = absurd keeps
+  refused_stands view made puts old new NoPath stands is entries same keeps = absurd keeps
+  refused_stands view made puts old new (Expired id) stands is entries same keeps = absurd keeps
+  refused_stands view made puts old new (NameClash name kept other) stands is entries same keeps = absurd keeps
+
+-- an answer that nothing refuses
+pub accepted : {X : Type 0} {cause : Option StepFault} {answer reply : X} → cause ≡ None → answer ≡ reply → Ok answer ≡ unless_refused cause reply
+accepted {X} {cause} {answer} {reply} none same = ap Ok same ∙ ap (λ c. unless_refused c reply) (sym none)
+
+-- a staged change is one entry
+one_more : (l : LakeStateValue) (number : Option ℕ) → (option_map_or (λ n. without_ticket n l) number l).entries ≡ l.entries
+one_more l None = refl
+one_more l (Some number) = refl
+
+pub staged_entries : (repo branch path : List ℕ) (change : Change) (l : LakeStateValue)
+    → (after_stage repo branch path change l).entries ≡ l.entries + 1
+staged_entries repo branch path change l = ap (λ n. n + 1) (one_more l (put_number change))
+
+-- the version of the settings of a repository, where it is there, is the one given
+pub settings_at : (given : VersionsGiven) (l : LakeStateValue) → HasVersions given l → (repo : List ℕ)
+    → (o : Option RepositoryStateValue) → get l.repositories repo ≡ o
+    → option_map_or (λ r. r.settings) o 0 ≡ settings_version given repo
+settings_at given l has repo (Some r) is = sym (has.settings repo r is)
+settings_at given l has repo None is = sym (has.unset repo is)
+
+-- what is told of the state and the versions now is told of the lake
+pub at_present : {K X : Type 0} (f : State → VersionsGiven → X) {v w : LakeValue K} {s : State}
+    → w ≡ v → state w ≡ s → f s (versions w) ≡ f (state v) (versions v)
+at_present f {v} {w} is replayed = ap (λ s. f s (versions w)) (sym replayed) ∙ ap (λ v. f (state v) (versions v)) is
+
+-- what holds of the state and the versions now holds of the lake, and the other way round
+pub holds_now : {K : Type 0} (P : State → VersionsGiven → Type 0) {v w : LakeValue K} {s : State}
+    → w ≡ v → state w ≡ s → P s (versions w) → P (state v) (versions v)
+holds_now P {v} {w} is replayed holds = subst (λ v. P (state v) (versions v)) is (subst (λ s. P s (versions w)) (sym replayed) holds)
+
+pub held_then : {K : Type 0} (P : State → VersionsGiven → Type 0) {v w : LakeValue K} {s : State}
+    → w ≡ v → state w ≡ s → P (state v) (versions v) → P s (versions w)
+held_then P {v} {w} is replayed holds = subst (λ s. P s (versions w)) replayed (subst (λ v. P (state v) (versions v)) (sym is) holds)
+
+-- ---- answers that are faults
+
+-- the reply is the cause that holds
+module _ {X : Type 0} (cause : Option StepFault) (reply : X) (each : (fault : StepFault) → cause ≡ Some fault → IsRefusal fault) where
+  told : (fault : StepFault) → cause ≡ Some fault → Err fault ≡ unless_refused cause reply
+  told fault is = sym (ap (λ c. unless_refused c reply) is)
+
+  cause_told : (fault : StepFault) → cause ≡ Some fault → GivesOrFails {X = X} (Err fault) (unless_refused cause reply)
+  cause_told NoMemory is = tt
+  cause_told StoreFault is = absurd (each StoreFault is)
+  cause_told Stopped is = told Stopped is
+  cause_told HistoryFull is = told HistoryFull is
+  cause_told NoRepo is = told NoRepo is
+  cause_told NoRef is = told NoRef is
+  cause_told (NoParent number) is = told (NoParent number) is
+  cause_told NoNote is = told NoNote is
+  cause_told Exists is = told Exists is
+  cause_told DefaultBranch is = told DefaultBranch is
+  cause_told (Protected pattern) is = told (Protected pattern) is
+  cause_told (Changed version settings) is = told (Changed version settings) is
+  cause_told NoPath is = told NoPath is
+  cause_told (Expired id) is = told (Expired id) is
+  cause_told (NameClash name kept other) is = told (NameClash name kept other) is
+
+  -- a test was refused
+  pub refused_reply : (answer : Result X StepFault) (fault : StepFault) → IsErrAnd answer (λ e. e ≡ fault) → cause ≡ Some fault
+      → GivesOrFails answer (unless_refused cause reply)
+  refused_reply (Err e) fault same is = cause_told e (is ∙ ap Some (sym same))
+  refused_reply (Ok x) fault same is = absurd same
+
+-- of a change that nothing refuses
+module _ {K X : Type 0} (view : KeeperView K) (by : By) (made : Operation) (puts : List Put) (before after : Parts K)
+    (cause : Option StepFault) (reply : X) (none : cause ≡ None) where
+  none_told : (fault : StepFault) → Keeps {X = Unit {0}} view by made puts (Err fault) before after
+      → GivesOrFails {X = X} (Err fault) (unless_refused cause reply)
+  none_told NoMemory keeps = tt
+  none_told StoreFault keeps = subst (λ c. IsOk (unless_refused c reply)) (sym none) refl
+  none_told Stopped keeps = absurd keeps
+  none_told HistoryFull keeps = absurd keeps
+  none_told NoRepo keeps = absurd keeps
+  none_told NoRef keeps = absurd keeps
+  none_told (NoParent number) keeps = absurd keeps
+  none_told NoNote keeps = absurd keeps
+  none_told Exists keeps = absurd keeps
+  none_told DefaultBranch keeps = absurd keeps
+  none_told (Protected pattern) keeps = absurd keeps
+  none_told (Changed version settings) keeps = absurd keeps
+  none_told NoPath keeps = absurd keeps
+  none_told (Expired id) keeps = absurd keeps
+  none_told (NameClash name kept other) keeps = absurd keeps
+
+  -- the keeper refused it
+  pub unkept_reply : (answer : Result X StepFault) (fault : StepFault)
+      → IsErrAnd answer (λ e. e ≡ fault) → Keeps {X = Unit {0}} view by made puts (Err fault) before after
+      → GivesOrFails answer (unless_refused cause reply)
+  unkept_reply (Err e) fault same keeps =
+      none_told e (subst (λ f. Keeps {X = Unit {0}} view by made puts (Err f) before after) (sym same) keeps)
+  unkept_reply (Ok x) fault same keeps = absurd same
+
+-- ---- answers of changes that hand out what was found
+
+module _ {X : Type 0} (state : State) (c : Causes) (value : Option X)
+    (each : (fault : StepFault) → first_cause c ≡ Some fault → IsRefusal fault) where
+  found_told : (fault : StepFault) → first_cause c ≡ Some fault → IsReplyOf state c value (Err fault)
+  found_told NoMemory is = tt
+  found_told StoreFault is = absurd (each StoreFault is)
+  found_told Stopped is = is
+  found_told HistoryFull is = is
+  found_told NoRepo is = is
+  found_told NoRef is = is
+  found_told (NoParent number) is = is
+  found_told NoNote is = is
+  found_told Exists is = is
+  found_told DefaultBranch is = is
+  found_told (Protected pattern) is = is
+  found_told (Changed version settings) is = is
+  found_told NoPath is = is
+  found_told (Expired id) is = is
+  found_told (NameClash name kept other) is = is
+
+  -- a test was refused
+  pub refused_found : (answer : Result (ℕ × X) StepFault) (fault : StepFault) → IsErrAnd answer (λ e. e ≡ fault) → first_cause c ≡ Some fault
+      → IsReplyOf state c value answer
+  refused_found (Err e) fault same is = found_told e (is ∙ ap Some (sym same))
+  refused_found (Ok x) fault same is = absurd same
+
+module _ {K X : Type 0} (view : KeeperView K) (by : By) (made : Operation) (puts : List Put) (before after : Parts K)
+    (state : State) (c : Causes) (value : Option X) (none : first_cause c ≡ None) where
+  found_none : (fault : StepFault) → Keeps {X = Unit {0}} view by made puts (Err fault) before after → IsReplyOf state c value (Err fault)
+  found_none NoMemory keeps = tt
+  found_none StoreFault keeps = none
+  found_none Stopped keeps = absurd keeps
+  found_none HistoryFull keeps = absurd keeps
+  found_none NoRepo keeps = absurd keeps
+  found_none NoRef keeps = absurd keeps
+  found_none (NoParent number) keeps = absurd keeps
+  found_none NoNote keeps = absurd keeps
+  found_none Exists keeps = absurd keeps
+  found_none DefaultBranch keeps = absurd keeps
+  found_none (Protected pattern) keeps = absurd keeps
+  found_none (Changed version settings) keeps = absurd keeps
+  found_none NoPath keeps = absurd keeps
+  found_none (Expired id) keeps = absurd keeps
+  found_none (NameClash name kept other) keeps = absurd keeps
+
+  -- the keeper refused it
+  pub unkept_found : (answer : Result (ℕ × X) StepFault) (fault : StepFault) → IsErrAnd answer (λ e. e ≡ fault)
+      → Keeps {X = Unit {0}} view by made puts (Err fault) before after → IsReplyOf state c value answer
+  unkept_found (Err e) fault same keeps =
+      found_none e (subst (λ f. Keeps {X = Unit {0}} view by made puts (Err f) before after) (sym same) keeps)
+  unkept_found (Ok x) fault same keeps = absurd same
+
+-- ---- what is left of the lake
+
+-- of a change that a test refused
+module _ {K : Type 0} (view : KeeperView K) (by : By) (made : Option Making) (old new : LakeValue K) (same : new ≡ old) where
+  same_left : (X : Type 0) (fault : StepFault) → IsRefusal fault → Leaves {X = X} view by made (Err fault) old new
+  same_left X NoMemory is = absurd is
+  same_left X StoreFault is = absurd is
+  same_left X Stopped is = same
+  same_left X HistoryFull is = same
+  same_left X NoRepo is = same
+  same_left X NoRef is = same
+  same_left X (NoParent number) is = same
+  same_left X NoNote is = same
+  same_left X Exists is = same
+  same_left X DefaultBranch is = same
+  same_left X (Protected pattern) is = same
+  same_left X (Changed version settings) is = same
+  same_left X NoPath is = same
+  same_left X (Expired id) is = same
+  same_left X (NameClash name kept other) is = same
+
+  pub refused_leaves : {X : Type 0} (answer : Result X StepFault) (fault : StepFault) → IsErrAnd answer (λ e. e ≡ fault)
+      → IsRefusal fault → Leaves view by made answer old new
+  refused_leaves {X} (Err e) fault eq is = same_left X e (subst IsRefusal (sym eq) is)
+  refused_leaves (Ok x) fault eq is = absurd eq
+
+module _ {K : Type 0} (view : KeeperView K) (by : By) (make : LakeState → Option Making) (making : Making) (made : Operation) (puts : List Put)
+    (is : made ≡ making.operation) (are : puts ≡ making.puts)
+    (opened present ready : LakeState) (history : List HistoryEntry) (keeper : K) (after : Parts K)
+    (same : lake_value ready ≡ lake_value present) (makes : make present ≡ Some making) (lake : LakeValue K)
+    (was : record { opened = opened; history = history; present = present; keeper = keeper } ≡ lake) where
+  refusal_leaves : (X : Type 0) (fault : StepFault)
+      → Keeps {X = Unit {0}} view by made puts (Err fault) (record { keeper = keeper; history = history; present = ready }) after
+      → Leaves {X = X} view by (Some making) (Err fault)
+      (record { opened = opened; history = history; present = present; keeper = keeper })
+      (record { opened = opened; history = after.history; present = after.present; keeper = after.keeper })
+  refusal_leaves X NoMemory keeps = record {
+    opened = refl;
+    history = keeps.history;
+    present = ap lake_value keeps.present ∙ same;
+    kept = keeps.kept;
+  }
+  refusal_leaves X StoreFault keeps = record {
+    opened = refl;
+    history = keeps.history ∙ ap (λ o. history ++ faulted_entry by o ∷ []) is;
+    present = keeps.present ∙ ap after_fault same;
+    kept = subst (λ ps. IfSome (view.kept keeper) (λ b. IfSome (view.kept after.keeper) (MayHaveMade ps b))) are keeps.kept;
+    rose = keeps.rose;
+  }
+  refusal_leaves X Stopped keeps = absurd keeps
+  refusal_leaves X HistoryFull keeps = absurd keeps
+  refusal_leaves X NoRepo keeps = absurd keeps
+  refusal_leaves X NoRef keeps = absurd keeps
+  refusal_leaves X (NoParent number) keeps = absurd keeps
+  refusal_leaves X NoNote keeps = absurd keeps
+  refusal_leaves X Exists keeps = absurd keeps
+  refusal_leaves X DefaultBranch keeps = absurd keeps
+  refusal_leaves X (Protected pattern) keeps = absurd keeps
+  refusal_leaves X (Changed version settings) keeps = absurd keeps
+  refusal_leaves X NoPath keeps = absurd keeps
+  refusal_leaves X (Expired id) keeps = absurd keeps
+  refusal_leaves X (NameClash name kept other) keeps = absurd keeps
+
+  -- the keeper refused it
+  pub unkept_leaves : {X : Type 0} (answer : Result X StepFault) (fault : StepFault) → IsErrAnd answer (λ e. e ≡ fault)
+      → Keeps {X = Unit {0}} view by made puts (Err fault) (record { keeper = keeper; history = history; present = ready }) after
+      → Leaves view by (make lake.present) answer lake
+      (record { opened = opened; history = after.history; present = after.present; keeper = after.keeper })
+  unkept_leaves {X} (Err e) fault eq keeps =
+      subst (λ v. Leaves {X = X} view by (make v.present) (Err e) v
+      (record { opened = opened; history = after.history; present = after.present; keeper = after.keeper })) was
+      (subst (λ o. Leaves {X = X} view by o (Err e) (record { opened = opened; history = history; present = present; keeper = keeper })
+      (record { opened = opened; history = after.history; present = after.present; keeper = after.keeper })) (sym makes)
+      (refusal_leaves X e (subst (λ f. Keeps {X = Unit {0}} view by made puts (Err f)
+      (record { keeper = keeper; history = history; present = ready }) after) (sym eq) keeps)))
+  unkept_leaves (Ok x) fault eq keeps = absurd eq
+
+  -- it was made
+  pub made_leaves : (next : LakeState)
+      → AreKept view by made puts (record { keeper = keeper; history = history; present = ready }) after
+      → lake_value next ≡ making.after (lake_value present)
+      → IsSomeAnd (make lake.present) (λ m. IsMade view by m lake
+      (record { opened = opened; history = after.history; present = next; keeper = after.keeper }))
+  made_leaves next kept changed =
+      subst (λ v. IsSomeAnd (make v.present) (λ m. IsMade view by m v
+      (record { opened = opened; history = after.history; present = next; keeper = after.keeper }))) was
+      (subst (λ o. IsSomeAnd o (λ m. IsMade view by m (record { opened = opened; history = history; present = present; keeper = keeper })
+      (record { opened = opened; history = after.history; present = next; keeper = after.keeper }))) (sym makes) (record {
+        opened = refl;
+        history = kept.history ∙ ap (λ o. history ++ accepted_entry by o ∷ []) is;
+        present = changed;
+        kept = subst (λ ps. IfSome (view.kept keeper) (λ b. view.kept after.keeper ≡ Some (pairs_after ps b))) are kept.kept;
+      }))

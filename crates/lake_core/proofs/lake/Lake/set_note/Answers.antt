@@ -1,0 +1,71 @@
+use Rattle.std.proofs.Common.{ℕ, ◌+◌, ap, refl, ◌∙◌, subst, sym}
+use Rattle.std.specs.Prelude.{Some}
+use Rattle.lake_model.specs.Refusals.{GivesOrFails, first_cause}
+use Rattle.lake_model.specs.Steps.{set_note_reply, set_note_causes}
+use Rattle.lake_state.specs.Counts.{AreFew}
+use Rattle.lake_state.specs.Lakes.{lake_value, state_of}
+use Rattle.lake_standing.specs.Standing.{versions_at}
+use Rattle.lake_changes.specs.LakeChanges.{after_note_set}
+use Rattle.lake_core.specs.Makings.{set_note}
+use Rattle.lake_core.proofs.StepLemmas.{accepted, at_present, holds_now, made_leaves, made_stands, refused_reply, refused_stands, unkept_leaves, unkept_reply}
+use Rattle.lake_core.proofs.lake.Lake.set_note.Goals as goal
+
+pub returns-in_err-test_set_note-clause-reply : goal.returns-in_err-test_set_note-clause-reply
+returns-in_err-test_set_note-clause-reply g c =
+    holds_now (λ s given. GivesOrFails c.from_residual.result (set_note_reply s given c.args.repo.now c.args.expected c.args.name c.args.note)) c.self.view_is c.self.invariant.replayed
+    (refused_reply (first_cause (set_note_causes (state_of (lake_value c.self.inside.present)) (versions_at (lake_value c.self.inside.opened.value) c.self.inside.history.items) c.args.repo.now c.args.expected c.args.name c.args.note)) ((lake_value c.self.inside.present).entries + 1) (c.laws_of_causes.ensures.set_note (state_of (lake_value c.self.inside.present)) (versions_at (lake_value c.self.inside.opened.value) c.self.inside.history.items) c.args.repo.now c.args.expected c.args.name c.args.note) _ _ c.from_residual.ensures.1
+    (c.in_err-test_set_note.ensures _ c.self.invariant.versions))
+
+pub keep-requires : goal.keep-requires
+keep-requires g c =
+    let none = c.in_ok-test_set_note.ensures _ c.self.invariant.versions in
+    let may = c.law_of_settings.ensures _ _ _ c.args.by c.args.repo.now c.args.expected c.args.name c.args.note c.self.invariant none c.requires.name in
+    record { few = may.few }
+
+pub invariant_of-self : goal.invariant_of-self
+invariant_of-self g c =
+    let none = c.in_ok-test_set_note.ensures _ c.self.invariant.versions in
+    let may = c.law_of_settings.ensures _ _ _ c.args.by c.args.repo.now c.args.expected c.args.name c.args.note c.self.invariant none c.requires.name in
+    refused_stands may _ _ _ _ _ _ c.self.invariant c.in_ok-operation.ensures.operation refl refl c.in_err-keep.ensures
+
+pub returns-in_err-keep-clause-reply : goal.returns-in_err-keep-clause-reply
+returns-in_err-keep-clause-reply g c =
+    holds_now (λ s given. GivesOrFails c.from_residual-in_err-keep.result (set_note_reply s given c.args.repo.now c.args.expected c.args.name c.args.note)) c.self.view_is c.self.invariant.replayed
+    (unkept_reply _ _ _ _ _ _ (first_cause (set_note_causes (state_of (lake_value c.self.inside.present)) (versions_at (lake_value c.self.inside.opened.value) c.self.inside.history.items) c.args.repo.now c.args.expected c.args.name c.args.note)) ((lake_value c.self.inside.present).entries + 1) (c.in_ok-test_set_note.ensures _ c.self.invariant.versions) _ _ c.from_residual-in_err-keep.ensures.1 c.in_err-keep.ensures)
+
+pub returns-in_err-keep-clause-leaves : goal.returns-in_err-keep-clause-leaves
+returns-in_err-keep-clause-leaves g c =
+    unkept_leaves _ _ (λ p. Some (set_note c.args.repo.now c.args.name c.args.note (lake_value p)))
+    ((set_note c.args.repo.now c.args.name c.args.note (lake_value c.self.inside.present))) _ _ c.in_ok-operation.ensures.operation c.in_ok-operation.ensures.puts
+    _ _ _ _ _ (record { keeper = c.keep.new.keeper; history = c.keep.new.history.items; present = c.keep.new.present }) refl (refl) _ c.self.view_is _ _ c.from_residual-in_err-keep.ensures.1 c.in_err-keep.ensures
+
+pub invariant_of-self-2 : goal.invariant_of-self-2
+invariant_of-self-2 g c =
+    let none = c.in_ok-test_set_note.ensures _ c.self.invariant.versions in
+    let may = c.law_of_settings.ensures _ _ _ c.args.by c.args.repo.now c.args.expected c.args.name c.args.note c.self.invariant none c.requires.name in
+    made_stands may _ _ _ c.in_ok-operation.ensures.operation c.in_ok-keep.ensures.history
+    (c.set_note.ensures ∙ ap (after_note_set c.args.repo.now c.args.name c.args.note) (ap lake_value c.in_ok-keep.ensures.present))
+
+pub returns-clause-reply : goal.returns-clause-reply
+returns-clause-reply g c =
+    accepted {X = ℕ} (c.in_ok-test_set_note.ensures _ c.self.invariant.versions) (c.place.ensures ∙ ap (λ l. l.entries) (c.set_note.ensures ∙ ap (after_note_set c.args.repo.now c.args.name c.args.note) (ap lake_value c.in_ok-keep.ensures.present)))
+    ∙ at_present (λ s given. set_note_reply s given c.args.repo.now c.args.expected c.args.name c.args.note) c.self.view_is c.self.invariant.replayed
+
+pub returns-clause-leaves : goal.returns-clause-leaves
+returns-clause-leaves g c =
+    made_leaves _ _ (λ p. Some (set_note c.args.repo.now c.args.name c.args.note (lake_value p)))
+    ((set_note c.args.repo.now c.args.name c.args.note (lake_value c.self.inside.present))) _ _ c.in_ok-operation.ensures.operation c.in_ok-operation.ensures.puts
+    _ _ _ _ _ (record { keeper = c.keep.new.keeper; history = c.keep.new.history.items; present = c.keep.new.present }) refl (refl) _ c.self.view_is _ c.in_ok-keep.ensures
+    (c.set_note.ensures ∙ ap (after_note_set c.args.repo.now c.args.name c.args.note) (ap lake_value c.in_ok-keep.ensures.present))
+
+pub ready_note-requires : goal.ready_note-requires
+ready_note-requires g c =
+    let none = c.in_ok-test_set_note.ensures _ c.self.invariant.versions in
+    let may = c.law_of_settings.ensures _ _ _ c.args.by c.args.repo.now c.args.expected c.args.name c.args.note c.self.invariant none c.requires.name in
+    record { name = c.requires.name; text = c.requires.text; plain = c.laws_of_plain_names.ensures.default_branch _ _ _ c.args.repo.now c.self.invariant; few = may.few }
+
+pub set_note-requires : goal.set_note-requires
+set_note-requires g c =
+    let none = c.in_ok-test_set_note.ensures _ c.self.invariant.versions in
+    let may = c.law_of_settings.ensures _ _ _ c.args.by c.args.repo.now c.args.expected c.args.name c.args.note c.self.invariant none c.requires.name in
+    record { few = subst AreFew (sym (ap lake_value c.in_ok-keep.ensures.present)) may.few }

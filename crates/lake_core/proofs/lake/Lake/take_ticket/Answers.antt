@@ -1,0 +1,71 @@
+use Rattle.std.proofs.Common.{ℕ, ◌+◌, ap, refl, ◌∙◌, subst, sym}
+use Rattle.std.specs.Prelude.{Some}
+use Rattle.lake_model.specs.Refusals.{GivesOrFails, first_cause}
+use Rattle.lake_model.specs.Steps.{take_ticket_reply, write_causes}
+use Rattle.lake_state.specs.Counts.{AreFew}
+use Rattle.lake_state.specs.Lakes.{lake_value, state_of}
+use Rattle.lake_changes.specs.LakeChanges.{after_ticket_take}
+use Rattle.lake_core.specs.Makings.{ticket_take}
+use Rattle.lake_core.proofs.StepLemmas.{accepted, at_present, holds_now, made_leaves, made_stands, refused_reply, refused_stands, unkept_leaves, unkept_reply}
+use Rattle.lake_core.proofs.lake.Lake.take_ticket.Goals as goal
+
+pub returns-in_err-test_write-clause-reply : goal.returns-in_err-test_write-clause-reply
+returns-in_err-test_write-clause-reply g c =
+    holds_now (λ s given. GivesOrFails c.from_residual.result (take_ticket_reply s c.args.repo.now c.args.branch.now)) c.self.view_is c.self.invariant.replayed
+    (refused_reply (first_cause (write_causes (state_of (lake_value c.self.inside.present)) c.args.repo.now c.args.branch.now)) ((lake_value c.self.inside.present).entries + 1, (lake_value c.self.inside.present).next_number) (c.laws_of_causes.ensures.write (state_of (lake_value c.self.inside.present)) c.args.repo.now c.args.branch.now) _ _ c.from_residual.ensures.1
+    c.in_err-test_write.ensures)
+
+pub keep-requires : goal.keep-requires
+keep-requires g c =
+    let none = c.in_ok-test_write.ensures in
+    let may = c.laws_of_tickets.ensures.take _ _ _ c.args.by c.args.repo.now c.args.branch.now c.self.invariant none in
+    record { few = subst AreFew (sym c.in_ok-operation.ensures.same) may.few }
+
+pub invariant_of-self-in_err-keep : goal.invariant_of-self-in_err-keep
+invariant_of-self-in_err-keep g c =
+    let none = c.in_ok-test_write.ensures in
+    let may = c.laws_of_tickets.ensures.take _ _ _ c.args.by c.args.repo.now c.args.branch.now c.self.invariant none in
+    refused_stands may _ _ _ _ _ _ c.self.invariant c.in_ok-operation.ensures.ready.operation refl c.in_ok-operation.ensures.same c.in_err-keep.ensures
+
+pub returns-in_err-keep-clause-reply : goal.returns-in_err-keep-clause-reply
+returns-in_err-keep-clause-reply g c =
+    holds_now (λ s given. GivesOrFails c.from_residual-in_err-keep.result (take_ticket_reply s c.args.repo.now c.args.branch.now)) c.self.view_is c.self.invariant.replayed
+    (unkept_reply _ _ _ _ _ _ (first_cause (write_causes (state_of (lake_value c.self.inside.present)) c.args.repo.now c.args.branch.now)) ((lake_value c.self.inside.present).entries + 1, (lake_value c.self.inside.present).next_number) (c.in_ok-test_write.ensures) _ _ c.from_residual-in_err-keep.ensures.1 c.in_err-keep.ensures)
+
+pub returns-in_err-keep-clause-leaves : goal.returns-in_err-keep-clause-leaves
+returns-in_err-keep-clause-leaves g c =
+    unkept_leaves _ _ (λ p. Some (ticket_take c.args.by.seat c.args.repo.now c.args.branch.now (lake_value p)))
+    ((ticket_take c.args.by.seat c.args.repo.now c.args.branch.now (lake_value c.self.inside.present))) _ _ c.in_ok-operation.ensures.ready.operation c.in_ok-operation.ensures.ready.puts
+    _ _ _ _ _ (record { keeper = c.keep.new.keeper; history = c.keep.new.history.items; present = c.keep.new.present }) c.in_ok-operation.ensures.same (refl) _ c.self.view_is _ _ c.from_residual-in_err-keep.ensures.1 c.in_err-keep.ensures
+
+pub invariant_of-self-2 : goal.invariant_of-self-2
+invariant_of-self-2 g c =
+    let none = c.in_ok-test_write.ensures in
+    let may = c.laws_of_tickets.ensures.take _ _ _ c.args.by c.args.repo.now c.args.branch.now c.self.invariant none in
+    made_stands may _ _ _ c.in_ok-operation.ensures.ready.operation c.in_ok-keep.ensures.history
+    (c.take_ticket.ensures ∙ ap (after_ticket_take c.args.by.seat) (ap lake_value c.in_ok-keep.ensures.present ∙ c.in_ok-operation.ensures.same))
+
+pub returns-clause-reply : goal.returns-clause-reply
+unfolding lake_value
+returns-clause-reply g c =
+    accepted {X = (ℕ × ℕ)} (c.in_ok-test_write.ensures) (ap (λ at. (at, c.self.inside.present.next_number)) (c.place.ensures ∙ ap (λ l. l.entries) (c.take_ticket.ensures ∙ ap (after_ticket_take c.args.by.seat) (ap lake_value c.in_ok-keep.ensures.present ∙ c.in_ok-operation.ensures.same))))
+    ∙ at_present (λ s given. take_ticket_reply s c.args.repo.now c.args.branch.now) c.self.view_is c.self.invariant.replayed
+
+pub returns-clause-leaves : goal.returns-clause-leaves
+returns-clause-leaves g c =
+    made_leaves _ _ (λ p. Some (ticket_take c.args.by.seat c.args.repo.now c.args.branch.now (lake_value p)))
+    ((ticket_take c.args.by.seat c.args.repo.now c.args.branch.now (lake_value c.self.inside.present))) _ _ c.in_ok-operation.ensures.ready.operation c.in_ok-operation.ensures.ready.puts
+    _ _ _ _ _ (record { keeper = c.keep.new.keeper; history = c.keep.new.history.items; present = c.keep.new.present }) c.in_ok-operation.ensures.same (refl) _ c.self.view_is _ c.in_ok-keep.ensures
+    (c.take_ticket.ensures ∙ ap (after_ticket_take c.args.by.seat) (ap lake_value c.in_ok-keep.ensures.present ∙ c.in_ok-operation.ensures.same))
+
+pub ready_ticket-requires : goal.ready_ticket-requires
+ready_ticket-requires g c =
+    let none = c.in_ok-test_write.ensures in
+    let may = c.laws_of_tickets.ensures.take _ _ _ c.args.by c.args.repo.now c.args.branch.now c.self.invariant none in
+    record { few = may.few }
+
+pub take_ticket-requires-clause-few : goal.take_ticket-requires-clause-few
+take_ticket-requires-clause-few g c =
+    let none = c.in_ok-test_write.ensures in
+    let may = c.laws_of_tickets.ensures.take _ _ _ c.args.by c.args.repo.now c.args.branch.now c.self.invariant none in
+    subst AreFew (sym (ap lake_value c.in_ok-keep.ensures.present ∙ c.in_ok-operation.ensures.same)) may.few

@@ -1,0 +1,24 @@
+-- What a lake is.
+use Rattle.std.specs.Prelude.{List}
+use Rattle.lake_model.specs.declared.history.HistoryEntry.{HistoryEntry}
+use Rattle.lake_model.specs.State.{State}
+use Rattle.lake_model.specs.History.{replay}
+use Rattle.lake_model.specs.Versions.{VersionsGiven}
+use Rattle.lake_state.specs.declared.lake.LakeState.{LakeState}
+use Rattle.lake_state.specs.Lakes.{lake_value, state_of}
+use Rattle.lake_standing.specs.Standing.{versions_at}
+
+-- a lake: what it was opened as, the entries since, what it is in memory now, and the keeper of its pairs
+pub record LakeValue (K : Type 0) : Type 0 where
+  pub opened : LakeState
+  pub history : List HistoryEntry
+  pub present : LakeState
+  pub keeper : K
+
+-- its state: the replay of its history from the state that it was opened as
+abbrev pub state : {K : Type 0} → LakeValue K → State
+state l = replay (state_of (lake_value l.opened)) l.history
+
+-- the versions given up to now
+abbrev pub versions : {K : Type 0} → LakeValue K → VersionsGiven
+versions l = versions_at (lake_value l.opened) l.history

@@ -1,0 +1,30 @@
+//! The lake: one step at a time, on a value that stands for its history.
+//!
+//! - `lake`: the lake, and its keeper; `opening`: a lake that is opened, by `filling` a keeper without pairs.
+//! - `keeping`: what each change does to its keeper and its history; `ready`: what it has ready before that.
+//! - `tickets`, `paths`, `branches`, `tags`, `notes`: the changes.
+//! - `readings`: the readings.
+//!
+//! Each change has four blocks: it tests what may refuse it, in the one order; takes its memory; keeps its puts and its
+//! entry by one call of the keeper; and changes the lake in memory, which can't be refused any more.
+//!
+//! The promise to the layer above: each step answers what the one-thread lake answers at the state that the history
+//! leads to; an accepted change adds exactly its entry and makes its puts; a refusal leaves the lake as it was; and after
+//! a fault of the store every change is refused.
+#![tactic(auto)]
+
+pub mod branches;
+mod filling;
+mod keeping;
+pub mod lake;
+pub mod notes;
+mod open_fault;
+pub mod opening;
+pub mod paths;
+pub mod readings;
+mod ready;
+pub mod tags;
+pub mod tickets;
+
+pub use lake::Lake;
+pub use open_fault::OpenFault;

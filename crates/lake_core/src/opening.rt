@@ -1,0 +1,41 @@
+//! A lake that is opened.
+ghost use Rattle.std.specs.Prelude.{◌≡◌, MatchResult};
+ghost use Rattle.lake_core.specs.Opening.{IsOpened, IsUnopened};
+
+use crate::filling::fill;
+use crate::lake::Lake;
+use crate::open_fault::OpenFault;
+use keeper::Keeper;
+use lake_format::Cut;
+use lake_founding::laws_of_founding;
+use lake_laws::soundness::law_of_soundness;
+use lake_standing::law_of_opening;
+use std::alloc::Global;
+use std::snapshot::Snapshot;
+
+impl<K: Keeper> Lake<K> {
+    /// A fresh lake of a cut over a keeper without pairs, whose pairs it puts by one call. A refusal hands the keeper
+    /// back. StoreFault, only where the keeper's count of faults rose; BadPair(0) where it has pairs; NoMemory.
+    pub fn opened(alloc: Global, keeper: K, cut: Cut) -> Result<Lake<K>, (OpenFault, K)>
+        ensures { MatchResult result
+            (λ lake. IsOpened (record { kept = K.kept; faults = K.faults }) cut keeper lake)
+            (λ refusal. IsUnopened (record { kept = K.kept; faults = K.faults }) cut keeper refusal.0 refusal.1) }
+    {
+        let mut keeper = keeper;
+        match fill(alloc, &mut keeper, cut) {
+            Ok(present) => {
+                laws_of_founding();
+                law_of_soundness();
+                law_of_opening();
+                Ok(Lake {
+                    alloc,
+                    keeper,
+                    opened: Snapshot::of(&present),
+                    history: Vec::new(alloc),
+                    present,
+                })
+            }
+            Err(fault) => Err((fault, keeper)),
+        }
+    }
+}

@@ -1,0 +1,215 @@
+//! What stands at paths of a branch.
+ghost use Rattle.std.specs.Prelude.{◌≡◌, Some, IfOk, IfSome, OnOk};
+ghost use Rattle.lake_model.specs.declared.history.Operation.TheVariants as operation;
+ghost use Rattle.lake_model.specs.Refusals.{GivesOrFails};
+ghost use Rattle.lake_model.specs.Steps.{IsCopyReply, stage_reply};
+ghost use Rattle.lake_model.specs.Uncommitted.{HasTicket, put_number};
+ghost use Rattle.lake_values.specs.declared.entry.Change.TheVariants.{Put as put};
+ghost use Rattle.lake_causes.specs.Finding.{source_of};
+ghost use Rattle.lake_changes.specs.LakeRoom.{HasRoomAt};
+ghost use Rattle.lake_changes.specs.declared.repository.Room.TheVariants as room;
+ghost use Rattle.lake_state.specs.Lakes.{lake_value};
+ghost use Rattle.lake_puts.specs.Puts.{stage_puts};
+ghost use Rattle.lake_core.specs.Lakes.{state, versions};
+ghost use Rattle.lake_core.specs.Makings.{copy, stage};
+ghost use Rattle.lake_core.specs.Ready.{IsReady};
+ghost use Rattle.lake_core.specs.Steps.{Leaves};
+
+use crate::keeping::{keep, place};
+use crate::lake::Lake;
+use crate::ready::Ready;
+use commit_graph::RefExpr;
+use keeper::{Keeper, Put};
+use lake_base::{NoMemory, Path, RefName, RepoName, TryCopy};
+use lake_causes::{Copied, test_copy, test_stage};
+use lake_changes::lake as change;
+use lake_changes::repository::Room;
+use lake_model::{By, CopySource, Operation, StepFault};
+use lake_puts::{copy_puts, stage_puts};
+use lake_standing::{law_of_present, laws_of_writes};
+use lake_state::LakeState;
+use lake_values::{Change, CommitId, Entry};
+use std::alloc::Global;
+use step_laws::causes::laws_of_causes;
+
+impl<K: Keeper> Lake<K> {
+    /// Stages a change on a branch of this version: the place of the entry. The ticket of an own object's number goes,
+    /// which is one of the seat. Stopped, HistoryFull, NoRepo, NoRef, Protected, Changed.
+    pub fn stage(
+        &mut self,
+        by: By,
+        repo: &RepoName,
+        branch: &RefName,
+        version: u64,
+        path: Path,
+        change: Change,
+    ) -> Result<u64, StepFault>
+        requires { IfSome (put_number change) (HasTicket (state self.old) by.seat) }
+        ensures reply { GivesOrFails result
+            (stage_reply (state self.old) (versions self.old) repo.now branch.now version) }
+        ensures leaves { Leaves (record { kept = K.kept; faults = K.faults }) by
+            (Some (stage repo.now branch.now path change (lake_value self.old.present))) result self.old self.new }
+    {
+        // Test.
+        laws_of_causes();
+        test_stage(&self.present, repo, branch, version)?;
+        laws_of_writes();
+
+        // Take memory.
+        let Ready { operation, puts } = ready_stage(
+            self.alloc,
+            &mut self.present,
+            repo,
+            branch,
+            &path,
+            &change,
+        )?;
+
+        // Keep.
+        keep(
+            &mut self.keeper,
+            &mut self.history,
+            &mut self.present,
+            by,
+            operation,
+            puts,
+        )?;
+
+        // Change.
+        change::stage(&mut self.present, repo, branch, path, change);
+        Ok(place(&self.present))
+    }
+
+    /// Stages the entry that an expression has at a path at another path of a branch of this version: the place of the
+    /// history's entry, and what was copied. Stopped, HistoryFull, NoRepo, NoRef, NoParent, Protected, Changed, NoPath,
+    /// Expired.
+    pub fn copy(
+        &mut self,
+        by: By,
+        repo: &RepoName,
+        branch: &RefName,
+        version: u64,
+        path: Path,
+        e: &RefExpr,
+        from: &Path,
+    ) -> Result<(u64, Entry), StepFault>
+        ensures reply { IsCopyReply (state self.old) (versions self.old) repo.now branch.now version
+            e.now from.now result }
+        ensures leaves { Leaves (record { kept = K.kept; faults = K.faults }) by
+            (copy repo.now branch.now path e.now from.now (lake_value self.old.present)) result self.old self.new }
+    {
+        // Test.
+        laws_of_causes();
+        law_of_present();
+        let copied = test_copy(&self.present, repo, branch, version, e, from)?;
+        laws_of_writes();
+
+        // Take memory.
+        let (operation, entry, answer) = copy_parts(
+            self.alloc, repo, branch, &path, &e.name, from, copied,
+        )?;
+        let puts = ready_copy(self.alloc, &mut self.present, repo, branch, &path, &entry)?;
+
+        // Keep.
+        keep(
+            &mut self.keeper,
+            &mut self.history,
+            &mut self.present,
+            by,
+            operation,
+            puts,
+        )?;
+
+        // Change.
+        change::copy(&mut self.present, repo, branch, path, entry);
+        Ok((place(&self.present), answer))
+    }
+}
+
+// A change that is to be staged. It changes nothing that the lake says.
+fn ready_stage(
+    alloc: Global,
+    lake: &mut LakeState,
+    repo: &RepoName,
+    branch: &RefName,
+    path: &Path,
+    change: &Change,
+) -> Result<Ready, NoMemory>
+    ensures same { lake_value lake.new ≡ lake_value lake.old }
+    ensures room { OnOk result (HasRoomAt (room.Change branch.entry) repo.now lake.new) }
+    ensures ready { IfOk result (IsReady (operation.Stage repo.now branch.now path.now change.now)
+        (stage_puts repo.now branch.now path.now change.now (lake_value lake.old))) }
+{
+    let operation = Operation::Stage {
+        repo: repo.copy(alloc)?,
+        branch: branch.copy(alloc)?,
+        path: path.copy(alloc)?,
+        change: change.copy(alloc)?,
+    };
+    let puts = stage_puts(alloc, lake, repo, branch, path, change)?;
+    change::make_room_at(alloc, lake, repo, Room::Change(branch))?;
+    Ok(Ready { operation, puts })
+}
+
+// The puts of an entry that is to be copied, and room for it. It changes nothing that the lake says.
+fn ready_copy(
+    alloc: Global,
+    lake: &mut LakeState,
+    repo: &RepoName,
+    branch: &RefName,
+    path: &Path,
+    entry: &Entry,
+) -> Result<Vec<Put>, NoMemory>
+    ensures same { lake_value lake.new ≡ lake_value lake.old }
+    ensures room { OnOk result (HasRoomAt (room.Change branch.entry) repo.now lake.new) }
+    ensures puts { IfOk result (λ puts. puts.items
+        ≡ stage_puts repo.now branch.now path.now (put entry.now) (lake_value lake.old)) }
+{
+    let puts = copy_puts(alloc, lake, repo, branch, path, entry)?;
+    change::make_room_at(alloc, lake, repo, Room::Change(branch))?;
+    Ok(puts)
+}
+
+// What is copied from: this commit, or else the branch of a name.
+fn copy_source(
+    alloc: Global,
+    name: &RefName,
+    commit: Option<CommitId>,
+) -> Result<CopySource, NoMemory>
+    ensures { IfOk result (λ source. source ≡ source_of name.now commit) }
+{
+    match commit {
+        Some(id) => Ok(CopySource::Commit(id)),
+        None => Ok(CopySource::Branch(name.copy(alloc)?)),
+    }
+}
+
+// The operation of a copy, and its entry twice: for the lake, and for the answer.
+fn copy_parts(
+    alloc: Global,
+    repo: &RepoName,
+    branch: &RefName,
+    path: &Path,
+    name: &RefName,
+    from: &Path,
+    copied: Copied<'_>,
+) -> Result<(Operation, Entry, Entry), NoMemory>
+    ensures operation { IfOk result (λ parts. parts.0 ≡ operation.Copy repo.now branch.now path.now
+        (source_of name.now copied.entry.commit) from.now copied.entry.entry.now) }
+    ensures entry { IfOk result (λ parts. parts.1 ≡ copied.entry.entry.now) }
+    ensures answer { IfOk result (λ parts. parts.2 ≡ copied.entry.entry.now) }
+{
+    let operation = Operation::Copy {
+        repo: repo.copy(alloc)?,
+        branch: branch.copy(alloc)?,
+        path: path.copy(alloc)?,
+        from: copy_source(alloc, name, copied.commit)?,
+        from_path: from.copy(alloc)?,
+        entry: copied.entry.copy(alloc)?,
+    };
+    Ok((
+        operation,
+        copied.entry.copy(alloc)?,
+        copied.entry.copy(alloc)?,
+    ))
+}

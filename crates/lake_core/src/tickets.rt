@@ -1,0 +1,130 @@
+//! Tickets of uploads.
+ghost use Rattle.std.specs.Prelude.{◌≡◌, [], Some, IfOk, OnOk};
+ghost use Rattle.lake_model.specs.declared.history.Operation.TheVariants.{TicketDrop, TicketTake};
+ghost use Rattle.lake_model.specs.Refusals.{GivesOrFails};
+ghost use Rattle.lake_model.specs.Steps.{drop_ticket_reply, take_ticket_reply};
+ghost use Rattle.lake_model.specs.Uncommitted.{HasTicket};
+ghost use Rattle.lake_changes.specs.LakeRoom.{HasTicketRoom};
+ghost use Rattle.lake_state.specs.Counts.{AreFew};
+ghost use Rattle.lake_state.specs.Lakes.{lake_value};
+ghost use Rattle.lake_puts.specs.Puts.{ticket_puts};
+ghost use Rattle.lake_core.specs.Lakes.{state};
+ghost use Rattle.lake_core.specs.Makings.{ticket_drop, ticket_take};
+ghost use Rattle.lake_core.specs.Ready.{IsReady};
+ghost use Rattle.lake_core.specs.Steps.{Leaves};
+
+use crate::keeping::{keep, place};
+use crate::lake::Lake;
+use crate::ready::Ready;
+use keeper::Keeper;
+use lake_base::{NoMemory, RefName, RepoName, TryCopy};
+use lake_causes::{test_change, test_write};
+use lake_changes::lake as change;
+use lake_model::{By, Operation, StepFault};
+use lake_puts::ticket_puts;
+use lake_standing::laws_of_tickets;
+use lake_state::LakeState;
+use std::alloc::Global;
+use step_laws::causes::laws_of_causes;
+
+impl<K: Keeper> Lake<K> {
+    /// Gives out a number for an upload to a branch, on a ticket of the seat: the place of the entry, and the number,
+    /// which was never given out before. Stopped, HistoryFull, NoRepo, NoRef, Protected.
+    pub fn take_ticket(
+        &mut self,
+        by: By,
+        repo: &RepoName,
+        branch: &RefName,
+    ) -> Result<(u64, u64), StepFault>
+        ensures reply { GivesOrFails result (take_ticket_reply (state self.old) repo.now branch.now) }
+        ensures leaves { Leaves (record { kept = K.kept; faults = K.faults }) by
+            (Some (ticket_take by.seat repo.now branch.now (lake_value self.old.present))) result self.old self.new }
+    {
+        // Test.
+        laws_of_causes();
+        test_write(&self.present, repo, branch)?;
+        laws_of_tickets();
+
+        // Take memory.
+        let number = self.present.next_number;
+        let Ready { operation, puts } = ready_ticket(self.alloc, &mut self.present, repo, branch)?;
+
+        // Keep.
+        keep(
+            &mut self.keeper,
+            &mut self.history,
+            &mut self.present,
+            by,
+            operation,
+            puts,
+        )?;
+
+        // Change.
+        change::take_ticket(&mut self.present, by.seat);
+        Ok((place(&self.present), number))
+    }
+
+    /// Gives up the upload of a number, which is on a ticket of the seat: the place of the entry. Stopped, HistoryFull.
+    pub fn drop_ticket(&mut self, by: By, number: u64) -> Result<u64, StepFault>
+        requires { HasTicket (state self.old) by.seat number }
+        ensures reply { GivesOrFails result (drop_ticket_reply (state self.old)) }
+        ensures leaves { Leaves (record { kept = K.kept; faults = K.faults }) by
+            (Some (ticket_drop number)) result self.old self.new }
+    {
+        // Test.
+        laws_of_causes();
+        test_change(&self.present)?;
+        laws_of_tickets();
+
+        // Take memory: none, since a ticket isn't kept.
+        let Ready { operation, puts } = ready_drop(self.alloc, number);
+
+        // Keep.
+        keep(
+            &mut self.keeper,
+            &mut self.history,
+            &mut self.present,
+            by,
+            operation,
+            puts,
+        )?;
+
+        // Change.
+        change::drop_ticket(&mut self.present, number);
+        Ok(place(&self.present))
+    }
+}
+
+// A number that is to be given out. It changes nothing that the lake says.
+#[tactic(auto, unfolding(lake_state::specs::Lakes::lake_value))]
+fn ready_ticket(
+    alloc: Global,
+    lake: &mut LakeState,
+    repo: &RepoName,
+    branch: &RefName,
+) -> Result<Ready, NoMemory>
+    requires few { AreFew (lake_value lake.old) }
+    ensures same { lake_value lake.new ≡ lake_value lake.old }
+    ensures room { OnOk result (HasTicketRoom lake.new) }
+    ensures ready { IfOk result (IsReady (TicketTake repo.now branch.now (lake_value lake.old).next_number)
+        (ticket_puts (lake_value lake.old))) }
+{
+    let operation = Operation::TicketTake {
+        repo: repo.copy(alloc)?,
+        branch: branch.copy(alloc)?,
+        number: lake.next_number,
+    };
+    let puts = ticket_puts(alloc, lake)?;
+    change::make_ticket_room(lake)?;
+    Ok(Ready { operation, puts })
+}
+
+// An upload that is to be given up: there is nothing to put.
+fn ready_drop(alloc: Global, number: u64) -> Ready
+    ensures { IsReady (TicketDrop number) [] result }
+{
+    Ready {
+        operation: Operation::TicketDrop { number },
+        puts: Vec::new(alloc),
+    }
+}
