@@ -12,8 +12,8 @@ use crate::command::Command;
 use crate::text::{lost_text, no_path_text, refusal_text, upload_text};
 use block_store::{Blocks, SureBlocks};
 use lake_base::{Digest, NameFault, NoMemory, Path, RefName, RepoName, Text, Trouble};
-use plain_lake::PlainLake;
 use lake_values::{Change, Entry, Pairs, Place};
+use plain_lake::PlainLake;
 use plain_model::{By, FIRST_BRANCH, FIRST_REPO, StepFault};
 use std::alloc::Global;
 

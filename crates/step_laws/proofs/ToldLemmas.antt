@@ -158,45 +158,188 @@ module _ (state : State) where
 
       pub copy_refused : (e : RefExprValue) (from : List ℕ) (fault : StepFault)
           → first_cause (copy_causes state given repo branch version e from) ≡ Some fault → IsRefusal fault
-      copy_refused e from = refusal (copy_causes state given repo branch version e from)
-          (stopped, (full, (there, (or_told (cause_if (not (is_some (branch_of state repo branch))) NoRef)
-          (cause_if (holds_in state repo (λ r. is_none (name_target r e.name))) NoRef) (found branch) (named e), (moved e,
-          (tt, (tt, (tt, (guarded branch, (changed, (if_told (is_none (copied_entry state repo e from)) NoPath tt,
-          (in_there (λ r. source_fault r e) (source_told e), (tt, tt)))))))))))))
+      copy_refused e from = refusal (copy_causes state given repo branch version e from) (
+        stopped,
+        (
+          full,
+          (
+            there,
+            (
+              or_told (cause_if (not (is_some (branch_of state repo branch))) NoRef)
+                  (cause_if (holds_in state repo (λ r. is_none (name_target r e.name))) NoRef) (found branch) (named e),
+              (
+                moved e,
+                (
+                  tt,
+                  (
+                    tt,
+                    (
+                      tt,
+                      (
+                        guarded branch,
+                        (
+                          changed,
+                          (
+                            if_told (is_none (copied_entry state repo e from)) NoPath tt,
+                            (in_there (λ r. source_fault r e) (source_told e), (tt, tt)),
+                          ),
+                        ),
+                      ),
+                    ),
+                  ),
+                ),
+              ),
+            ),
+          ),
+        ),
+      )
 
     pub create_branch_refused : (name : List ℕ) (e : RefExprValue) (fault : StepFault)
         → first_cause (create_branch_causes state repo name e) ≡ Some fault → IsRefusal fault
-    create_branch_refused name e = refusal (create_branch_causes state repo name e)
-        (stopped, (full, (there, (named e, (moved e, (tt, (if_told (is_some (branch_of state repo name)) Exists tt,
-        (tt, (tt, (tt, (tt, (live e, (tt, tt)))))))))))))
+    create_branch_refused name e = refusal (create_branch_causes state repo name e) (
+      stopped,
+      (
+        full,
+        (
+          there,
+          (
+            named e,
+            (
+              moved e,
+              (
+                tt,
+                (
+                  if_told (is_some (branch_of state repo name)) Exists tt,
+                  (tt, (tt, (tt, (tt, (live e, (tt, tt)))))),
+                ),
+              ),
+            ),
+          ),
+        ),
+      ),
+    )
 
     pub create_tag_refused : (name : List ℕ) (e : RefExprValue) (fault : StepFault)
         → first_cause (create_tag_causes state repo name e) ≡ Some fault → IsRefusal fault
-    create_tag_refused name e = refusal (create_tag_causes state repo name e)
-        (stopped, (full, (there, (named e, (moved e, (tt, (tests (λ r. contains_key r.tags name) Exists tt,
-        (tt, (tt, (tt, (tt, (live e, (tt, tt)))))))))))))
+    create_tag_refused name e = refusal (create_tag_causes state repo name e) (
+      stopped,
+      (
+        full,
+        (
+          there,
+          (
+            named e,
+            (
+              moved e,
+              (
+                tt,
+                (
+                  tests (λ r. contains_key r.tags name) Exists tt,
+                  (tt, (tt, (tt, (tt, (live e, (tt, tt)))))),
+                ),
+              ),
+            ),
+          ),
+        ),
+      ),
+    )
 
     pub delete_branch_refused : (name : List ℕ) (fault : StepFault)
         → first_cause (delete_branch_causes state repo name) ≡ Some fault → IsRefusal fault
-    delete_branch_refused name = refusal (delete_branch_causes state repo name)
-        (stopped, (full, (there, (found name, (tt, (tt, (tt, (tests (λ r. bytes_eq r.default_branch name) DefaultBranch tt,
-        (guarded name, (tt, (tt, (tt, (tt, tt)))))))))))))
+    delete_branch_refused name = refusal (delete_branch_causes state repo name) (
+      stopped,
+      (
+        full,
+        (
+          there,
+          (
+            found name,
+            (
+              tt,
+              (
+                tt,
+                (
+                  tt,
+                  (
+                    tests (λ r. bytes_eq r.default_branch name) DefaultBranch tt,
+                    (guarded name, (tt, (tt, (tt, (tt, tt))))),
+                  ),
+                ),
+              ),
+            ),
+          ),
+        ),
+      ),
+    )
 
     pub delete_tag_refused : (name : List ℕ) (fault : StepFault)
         → first_cause (delete_tag_causes state repo name) ≡ Some fault → IsRefusal fault
-    delete_tag_refused name = refusal (delete_tag_causes state repo name)
-        (stopped, (full, (there, (if_told (not (holds_in state repo (λ r. contains_key r.tags name))) NoRef tt,
-        (tt, (tt, (tt, (tt, (tt, (tt, (tt, (tt, (tt, tt)))))))))))))
+    delete_tag_refused name = refusal (delete_tag_causes state repo name) (
+      stopped,
+      (
+        full,
+        (
+          there,
+          (
+            if_told (not (holds_in state repo (λ r. contains_key r.tags name))) NoRef tt,
+            (tt, (tt, (tt, (tt, (tt, (tt, (tt, (tt, (tt, tt))))))))),
+          ),
+        ),
+      ),
+    )
 
     pub set_note_refused : (given : VersionsGiven) (expected : Option ℕ) (name : NoteName) (note : Option Note) (fault : StepFault)
         → first_cause (set_note_causes state given repo expected name note) ≡ Some fault → IsRefusal fault
-    set_note_refused given expected name note = refusal (set_note_causes state given repo expected name note)
-        (stopped, (full, (there, (tt, (tt,
-        (if_told (is_none note && is_none (in_it state repo (λ r. note_at name r.notes))) NoNote tt, (tt, (tt, (tt,
-        (if_told (not (is_expected given repo expected)) (Changed 0 (settings_version given repo)) tt, (tt, (tt, (tt, tt)))))))))))))
+    set_note_refused given expected name note = refusal (set_note_causes state given repo expected name note) (
+      stopped,
+      (
+        full,
+        (
+          there,
+          (
+            tt,
+            (
+              tt,
+              (
+                if_told (is_none note && is_none (in_it state repo (λ r. note_at name r.notes))) NoNote tt,
+                (
+                  tt,
+                  (
+                    tt,
+                    (
+                      tt,
+                      (if_told (not (is_expected given repo expected)) (Changed 0 (settings_version given repo)) tt, (tt, (tt, (tt, tt)))),
+                    ),
+                  ),
+                ),
+              ),
+            ),
+          ),
+        ),
+      ),
+    )
 
     pub create_repository_refused : (clash : Option Clash) (fault : StepFault)
         → first_cause (create_repository_causes state repo clash) ≡ Some fault → IsRefusal fault
-    create_repository_refused clash = refusal (create_repository_causes state repo clash)
-        (stopped, (full, (tt, (tt, (tt, (tt, (if_told (contains_key state.repositories repo) Exists tt,
-        (tt, (tt, (tt, (tt, (tt, (clash_told clash, tt)))))))))))))
+    create_repository_refused clash = refusal (create_repository_causes state repo clash) (
+      stopped,
+      (
+        full,
+        (
+          tt,
+          (
+            tt,
+            (
+              tt,
+              (
+                tt,
+                (
+                  if_told (contains_key state.repositories repo) Exists tt,
+                  (tt, (tt, (tt, (tt, (tt, (clash_told clash, tt)))))),
+                ),
+              ),
+            ),
+          ),
+        ),
+      ),
+    )
