@@ -1,13 +1,23 @@
 -- A lake that is opened over a keeper.
-use Rattle.std.proofs.Common.{◌≡◌, ℕ, zero, suc, List, [], ◌∷◌, length, refl, sym, ap, ◌∙◌, subst}
-use Rattle.std.specs.Prelude.{Option, Some, None, IfSome}
+use Rattle.std.proofs.Common.{arith, inl, inr, ◌≡◌, ◌≤◌, ◌<◌, ℕ, zero, suc, List, [], ◌∷◌, length, refl, sym, ap, ◌∙◌, subst}
+use Rattle.std.specs.Prelude.{◌⊎◌, Option, Some, None, IfSome, Result, Ok, Err, IsErrAnd, MatchResult}
 use Rattle.std.specs.FinMap.{empty, empty_of_len, entries, len, len-empty, len-entries}
-use Rattle.keeper.specs.Keepers.{KeptPairs, entries_of, pairs_after}
+use Rattle.keeper.specs.Keepers.{KeptPairs, MayHaveMade, entries_of, pairs_after}
 use Rattle.keeper.specs.declared.put.Put.{Put}
 use Rattle.lake_base.specs.Maps.{byte_order}
+use Rattle.lake_base.specs.Outside.{Rose}
+use Rattle.lake_base.specs.declared.outside.Trouble.{Trouble}
+use Rattle.lake_base.specs.declared.outside.Trouble.TheVariants.{Failed, NoMemory}
+use Rattle.lake_format.specs.declared.cut.Cut.{Cut}
+use Rattle.lake_founding.specs.Founding.{fresh_puts}
 use Rattle.pair_format.specs.declared.pair.Pair.{Pair}
 use Rattle.lake_model.specs.declared.history.HistoryEntry.{HistoryEntry}
+use Rattle.lake_state.specs.declared.lake.LakeState.{LakeState}
 use Rattle.lake_state.specs.Lakes.{LakeStateValue}
+use Rattle.lake_core.specs.declared.open_fault.OpenFault.{OpenFault}
+use Rattle.lake_core.specs.OpenFaults.{open_fault_of}
+use Rattle.lake_core.specs.Opening.{IsUnopened}
+use Rattle.lake_core.specs.Steps.{KeeperView}
 use Rattle.lake_standing.specs.Standing.{Stands}
 
 -- a number that isn't 0
@@ -42,3 +52,38 @@ pub stands_opened : (fresh opened present : LakeStateValue) (history : List Hist
 stands_opened fresh opened present history stands is none now =
     subst (λ l. Stands l history present) (sym is)
     (subst (λ h. Stands fresh h present) (sym none) (subst (λ l. Stands fresh [] l) (sym now) stands))
+
+-- a count that rose after another that didn't fall rose
+rises : (first next last : ℕ) → first ≤ next → next < last → first < last
+rises first next last later more = omega arith
+
+-- A keeper that had no pairs failed to make the puts, or memory ran out.
+module _ {K : Type 0} (view : KeeperView K) (cut : Cut) (old mid new : K) (made : List Put) (are : made ≡ fresh_puts cut)
+    (same : view.kept mid ≡ view.kept old) (none : IfSome (view.kept old) (λ before. before ≡ empty))
+    (later : view.faults old ≤ view.faults mid) where
+  which : (b : KeptPairs) → b ≡ empty → (after : Option KeptPairs) → IfSome after (MayHaveMade made b)
+      → IfSome after (λ a. (a ≡ b) ⊎ ((b ≡ empty) × (a ≡ pairs_after (fresh_puts cut) b)))
+  which b had None may = tt
+  which b had (Some a) (inl is) = inl is
+  which b had (Some a) (inr is) = inr (had, is ∙ ap (λ ps. pairs_after ps b) are)
+
+  landed : (before : Option KeptPairs) → IfSome before (λ b. b ≡ empty)
+      → IfSome before (λ b. IfSome (view.kept new) (MayHaveMade made b))
+      → IfSome before (λ b. IfSome (view.kept new) (λ after. (after ≡ b) ⊎ ((b ≡ empty) × (after ≡ pairs_after (fresh_puts cut) b))))
+  landed None had may = tt
+  landed (Some b) had may = which b had (view.kept new) may
+
+  pub put_failed : (P : LakeState → Type 0) (answer : Result LakeState OpenFault) (trouble : Trouble)
+      → IsErrAnd answer (λ e. e ≡ open_fault_of trouble)
+      → (trouble ≡ Failed → IfSome (view.kept mid) (λ b. IfSome (view.kept new) (MayHaveMade made b)))
+      → (trouble ≡ NoMemory → view.kept new ≡ view.kept mid)
+      → (trouble ≡ Failed → Rose (view.faults mid) (view.faults new))
+      → MatchResult answer P (λ fault. IsUnopened view cut old fault new)
+  put_failed P (Ok lake) trouble is failed no_memory rose = absurd is
+  put_failed P (Err e) Failed is failed no_memory rose =
+      subst (λ fault. IsUnopened view cut old fault new) (sym is) (
+        landed (view.kept old) none (subst (λ o. IfSome o (λ b. IfSome (view.kept new) (MayHaveMade made b))) same (failed refl)),
+        λ low. rises (view.faults old) (view.faults mid) (view.faults new) later (rose refl low),
+      )
+  put_failed P (Err e) NoMemory is failed no_memory rose =
+      subst (λ fault. IsUnopened view cut old fault new) (sym is) (no_memory refl ∙ same)

@@ -248,6 +248,7 @@ module _ {K : Type 0} (view : KeeperView K) (by : By) (make : LakeState → Opti
     history = keeps.history;
     present = ap lake_value keeps.present ∙ same;
     kept = keeps.kept;
+    keeper = keeps.keeper;
   }
   refusal_leaves X StoreFault keeps = record {
     opened = refl;
@@ -255,6 +256,7 @@ module _ {K : Type 0} (view : KeeperView K) (by : By) (make : LakeState → Opti
     present = keeps.present ∙ ap after_fault same;
     kept = subst (λ ps. IfSome (view.kept keeper) (λ b. IfSome (view.kept after.keeper) (MayHaveMade ps b))) are keeps.kept;
     rose = keeps.rose;
+    keeper = keeps.keeper;
   }
   refusal_leaves X Stopped keeps = absurd keeps
   refusal_leaves X HistoryFull keeps = absurd keeps
@@ -299,4 +301,5 @@ module _ {K : Type 0} (view : KeeperView K) (by : By) (make : LakeState → Opti
         history = kept.history ∙ ap (λ o. history ++ accepted_entry by o ∷ []) is;
         present = changed;
         kept = subst (λ ps. IfSome (view.kept keeper) (λ b. view.kept after.keeper ≡ Some (pairs_after ps b))) are kept.kept;
+        keeper = kept.keeper;
       }))

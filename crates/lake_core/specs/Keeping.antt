@@ -12,7 +12,7 @@ use Rattle.lake_model.specs.History.{accepted_entry, faulted_entry}
 use Rattle.lake_state.specs.declared.lake.LakeState.{LakeState}
 use Rattle.lake_state.specs.Lakes.{lake_value}
 use Rattle.lake_changes.specs.LakeChanges.{after_fault}
-use Rattle.lake_core.specs.Steps.{KeeperView}
+use Rattle.lake_core.specs.Steps.{IsLaterKeeper, KeeperView}
 
 -- the parts of a lake that keeping changes
 pub record Parts (K : Type 0) : Type 0 where
@@ -25,6 +25,7 @@ pub record AreKept {K : Type 0} (view : KeeperView K) (by : By) (operation : Ope
   pub history : new.history ≡ old.history ++ accepted_entry by operation ∷ []
   pub present : new.present ≡ old.present
   pub kept : IfSome (view.kept old.keeper) (λ before. view.kept new.keeper ≡ Some (pairs_after puts before))
+  pub keeper : IsLaterKeeper view old.keeper new.keeper
 
 -- the store failed, and its fault stands
 pub record AreFaulted {K : Type 0} (view : KeeperView K) (by : By) (operation : Operation) (puts : List Put) (old new : Parts K) : Type 0 where
@@ -32,12 +33,14 @@ pub record AreFaulted {K : Type 0} (view : KeeperView K) (by : By) (operation : 
   pub present : lake_value new.present ≡ after_fault (lake_value old.present)
   pub kept : IfSome (view.kept old.keeper) (λ before. IfSome (view.kept new.keeper) (MayHaveMade puts before))
   pub rose : Rose (view.faults old.keeper) (view.faults new.keeper)
+  pub keeper : IsLaterKeeper view old.keeper new.keeper
 
 -- memory ran out, and nothing changed
 pub record AreAsBefore {K : Type 0} (view : KeeperView K) (old new : Parts K) : Type 0 where
   pub history : new.history ≡ old.history
   pub present : new.present ≡ old.present
   pub kept : view.kept new.keeper ≡ view.kept old.keeper
+  pub keeper : IsLaterKeeper view old.keeper new.keeper
 
 -- what keeping leaves; it is refused for nothing else
 abbrev pub Keeps : {K X : Type 0} → KeeperView K → By → Operation → List Put → Result X StepFault → Parts K → Parts K → Type 0

@@ -18,16 +18,16 @@ use Rattle.lake_puts.specs.Puts.{create_branch_puts, create_tag_puts, delete_bra
 use Rattle.lake_core.specs.Steps.{Making}
 
 -- a number is given out to a seat
-abbrev pub ticket_take : ℕ → List ℕ → List ℕ → LakeStateValue → Making
-ticket_take seat repo branch l = record {
+abbrev pub take_ticket : ℕ → List ℕ → List ℕ → LakeStateValue → Making
+take_ticket seat repo branch l = record {
   operation = TicketTake repo branch l.next_number;
   after = after_ticket_take seat;
   puts = ticket_puts l;
 }
 
 -- an upload is given up; tickets aren't kept
-abbrev pub ticket_drop : ℕ → Making
-ticket_drop number = record { operation = TicketDrop number; after = after_ticket_drop number; puts = [] }
+abbrev pub drop_ticket : ℕ → Making
+drop_ticket number = record { operation = TicketDrop number; after = after_ticket_drop number; puts = [] }
 
 -- a change is staged
 abbrev pub stage : List ℕ → List ℕ → List ℕ → Change → LakeStateValue → Making
@@ -37,9 +37,9 @@ stage repo branch path change l = record {
   puts = stage_puts repo branch path change l;
 }
 
--- an entry is copied
-abbrev pub copied : List ℕ → List ℕ → List ℕ → CopySource → List ℕ → EntryValue → LakeStateValue → Making
-copied repo branch path source from entry l = record {
+-- an entry is copy_making
+abbrev pub copy_making : List ℕ → List ℕ → List ℕ → CopySource → List ℕ → EntryValue → LakeStateValue → Making
+copy_making repo branch path source from entry l = record {
   operation = Copy repo branch path source from entry;
   after = after_copy repo branch path entry;
   puts = stage_puts repo branch path (Put entry) l;
@@ -48,7 +48,7 @@ copied repo branch path source from entry l = record {
 -- so is the entry that an expression has at a path, from what the expression leads to, where both are there
 abbrev pub copy : List ℕ → List ℕ → List ℕ → RefExprValue → List ℕ → LakeStateValue → Option Making
 copy repo branch path e from l =
-    option_and_then (λ source. option_map (λ entry. copied repo branch path source from entry l)
+    option_and_then (λ source. option_map (λ entry. copy_making repo branch path source from entry l)
     (copied_entry (state_of l) repo e from)) (in_it (state_of l) repo (λ r. copy_source r e))
 
 -- changes are dropped
@@ -68,8 +68,8 @@ seal repo branch why l = record {
 }
 
 -- a branch is made at a commit
-abbrev pub branch_created : List ℕ → List ℕ → Digest → LakeStateValue → Making
-branch_created repo name commit l = record {
+abbrev pub branch_making : List ℕ → List ℕ → Digest → LakeStateValue → Making
+branch_making repo name commit l = record {
   operation = BranchCreate repo name commit;
   after = after_branch_create repo name commit;
   puts = create_branch_puts repo name commit l;
@@ -78,7 +78,7 @@ branch_created repo name commit l = record {
 -- it is that of an expression, where it leads to one
 abbrev pub create_branch : List ℕ → List ℕ → RefExprValue → LakeStateValue → Option Making
 create_branch repo name e l =
-    option_map (λ commit. branch_created repo name commit l) (in_it (state_of l) repo (λ r. target_in r e))
+    option_map (λ commit. branch_making repo name commit l) (in_it (state_of l) repo (λ r. target_in r e))
 
 -- a branch goes
 abbrev pub delete_branch : List ℕ → List ℕ → LakeStateValue → Making
@@ -89,8 +89,8 @@ delete_branch repo name l = record {
 }
 
 -- a tag names a commit
-abbrev pub tag_created : List ℕ → List ℕ → Digest → Making
-tag_created repo name commit = record {
+abbrev pub tag_making : List ℕ → List ℕ → Digest → Making
+tag_making repo name commit = record {
   operation = TagCreate repo name commit;
   after = after_tag_create repo name commit;
   puts = create_tag_puts repo name commit;
@@ -99,7 +99,7 @@ tag_created repo name commit = record {
 -- it is that of an expression, where it leads to one
 abbrev pub create_tag : List ℕ → List ℕ → RefExprValue → LakeStateValue → Option Making
 create_tag repo name e l =
-    option_map (tag_created repo name) (in_it (state_of l) repo (λ r. target_in r e))
+    option_map (tag_making repo name) (in_it (state_of l) repo (λ r. target_in r e))
 
 -- a tag goes
 abbrev pub delete_tag : List ℕ → List ℕ → Making

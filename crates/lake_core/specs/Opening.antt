@@ -1,20 +1,21 @@
 -- What the opening of a lake leaves.
-use Rattle.std.specs.Prelude.{◌≡◌, [], Some, IfSome}
+use Rattle.std.specs.Prelude.{◌≡◌, ◌⊎◌, [], Some, IfSome}
 use Rattle.std.specs.FinMap.{empty}
 use Rattle.lake_base.specs.Outside.{Rose}
-use Rattle.keeper.specs.Keepers.{MayHaveMade, pairs_after}
+use Rattle.keeper.specs.Keepers.{pairs_after}
 use Rattle.lake_format.specs.declared.cut.Cut.{Cut}
 use Rattle.lake_founding.specs.Founding.{fresh_lake, fresh_puts}
 use Rattle.lake_state.specs.Lakes.{lake_value}
 use Rattle.lake_core.specs.declared.open_fault.OpenFault.{OpenFault}
 use Rattle.lake_core.specs.declared.open_fault.OpenFault.TheVariants.{BadPair, NoMemory, StoreFault}
 use Rattle.lake_core.specs.Lakes.{LakeValue}
-use Rattle.lake_core.specs.Steps.{KeeperView}
+use Rattle.lake_core.specs.Steps.{IsLaterKeeper, KeeperView}
 
 -- a keeper had no pairs, where it tells, and made the fresh lake's puts
 pub record IsFilled {K : Type 0} (view : KeeperView K) (cut : Cut) (old new : K) : Type 0 where
   pub empty : IfSome (view.kept old) (λ before. before ≡ empty)
   pub kept : IfSome (view.kept old) (λ before. view.kept new ≡ Some (pairs_after (fresh_puts cut) before))
+  pub keeper : IsLaterKeeper view old new
 
 -- a fresh lake was opened: it has no entries, and its keeper its pairs
 pub record IsOpened {K : Type 0} (view : KeeperView K) (cut : Cut) (keeper : K) (lake : LakeValue K) : Type 0 where
@@ -23,11 +24,12 @@ pub record IsOpened {K : Type 0} (view : KeeperView K) (cut : Cut) (keeper : K) 
   pub present : lake.present ≡ lake.opened
   pub filled : IsFilled view cut keeper lake.keeper
 
--- It wasn't, for this fault, and the keeper is handed back. Where it has pairs these are as they were; a fault of the
--- store has made all puts or none; and where memory ran out nothing was put.
+-- It wasn't, for this fault, and the keeper is handed back. Its pairs are as they were, but that a keeper without pairs
+-- may have made the fresh lake's puts where the store failed.
 abbrev pub IsUnopened : {K : Type 0} → KeeperView K → Cut → K → OpenFault → K → Type 0
 IsUnopened view cut keeper StoreFault back =
-    IfSome (view.kept keeper) (λ before. IfSome (view.kept back) (MayHaveMade (fresh_puts cut) before))
+    IfSome (view.kept keeper) (λ before. IfSome (view.kept back)
+    (λ after. (after ≡ before) ⊎ ((before ≡ empty) × (after ≡ pairs_after (fresh_puts cut) before))))
     × Rose (view.faults keeper) (view.faults back)
 IsUnopened view cut keeper (BadPair number) back =
     (number ≡ 0) × IfSome (view.kept keeper) (λ before. before ≡ empty → ⊥) × (view.kept back ≡ view.kept keeper)

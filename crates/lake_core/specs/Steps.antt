@@ -1,5 +1,5 @@
 -- What a change leaves of a lake.
-use Rattle.std.specs.Prelude.{◌≡◌, ◌++◌, ◌∷◌, [], ℕ, List, Option, Some, Result, Ok, Err, IfSome, IsSomeAnd}
+use Rattle.std.specs.Prelude.{◌≡◌, ◌≤◌, ◌++◌, ◌∷◌, [], ℕ, List, Option, Some, is_some, Result, Ok, Err, IfSome, IsSomeAnd}
 use Rattle.lake_base.specs.Outside.{Rose}
 use Rattle.keeper.specs.Keepers.{KeptPairs, MayHaveMade, pairs_after}
 use Rattle.keeper.specs.declared.put.Put.{Put}
@@ -23,12 +23,18 @@ pub record KeeperView (K : Type 0) : Type 0 where
   pub kept : K → Option KeptPairs
   pub faults : K → ℕ
 
+-- a keeper later on: it tells its pairs where it did, and its count of faults didn't fall
+pub record IsLaterKeeper {K : Type 0} (view : KeeperView K) (old new : K) : Type 0 where
+  pub told : is_some (view.kept new) ≡ is_some (view.kept old)
+  pub later : view.faults old ≤ view.faults new
+
 -- It was made: the history has its one entry more, and the keeper made its puts.
 pub record IsMade {K : Type 0} (view : KeeperView K) (by : By) (made : Making) (old new : LakeValue K) : Type 0 where
   pub opened : new.opened ≡ old.opened
   pub history : new.history ≡ old.history ++ accepted_entry by made.operation ∷ []
   pub present : lake_value new.present ≡ made.after (lake_value old.present)
   pub kept : IfSome (view.kept old.keeper) (λ before. view.kept new.keeper ≡ Some (pairs_after made.puts before))
+  pub keeper : IsLaterKeeper view old.keeper new.keeper
 
 -- The store failed: the history has its fault, the lake is stopped, the keeper made all of the puts or none, and its
 -- count of faults rose.
@@ -38,6 +44,7 @@ pub record IsFaulted {K : Type 0} (view : KeeperView K) (by : By) (made : Making
   pub present : lake_value new.present ≡ after_fault (lake_value old.present)
   pub kept : IfSome (view.kept old.keeper) (λ before. IfSome (view.kept new.keeper) (MayHaveMade made.puts before))
   pub rose : Rose (view.faults old.keeper) (view.faults new.keeper)
+  pub keeper : IsLaterKeeper view old.keeper new.keeper
 
 -- Memory ran out: nothing changed.
 pub record IsAsBefore {K : Type 0} (view : KeeperView K) (old new : LakeValue K) : Type 0 where
@@ -45,6 +52,7 @@ pub record IsAsBefore {K : Type 0} (view : KeeperView K) (old new : LakeValue K)
   pub history : new.history ≡ old.history
   pub present : lake_value new.present ≡ lake_value old.present
   pub kept : view.kept new.keeper ≡ view.kept old.keeper
+  pub keeper : IsLaterKeeper view old.keeper new.keeper
 
 -- What a change leaves: where it was accepted it was made, once; where the store failed its fault stands; and where it
 -- was refused the lake is the same.

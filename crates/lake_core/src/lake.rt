@@ -45,7 +45,7 @@ impl<K: Keeper> Model for Lake<K> {
 impl<K: Keeper> Lake<K> {
     ghost use Rattle.lake_state.specs.Lakes.{lake_value};
 
-    /// How many entries there were since it was opened. It takes no memory.
+    /// How many entries its state counts: the place of the last one. It takes no memory.
     #[tactic(auto, unfolding(lake_state::specs::Lakes::lake_value))]
     pub fn entries(&self) -> u64
         ensures count { result ≡ (lake_value self.now.present).entries }

@@ -9,7 +9,7 @@ ghost use Rattle.lake_state.specs.Counts.{AreFew};
 ghost use Rattle.lake_state.specs.Lakes.{lake_value};
 ghost use Rattle.lake_puts.specs.Puts.{ticket_puts};
 ghost use Rattle.lake_core.specs.Lakes.{state};
-ghost use Rattle.lake_core.specs.Makings.{ticket_drop, ticket_take};
+ghost use Rattle.lake_core.specs.Makings.{drop_ticket, take_ticket};
 ghost use Rattle.lake_core.specs.Ready.{IsReady};
 ghost use Rattle.lake_core.specs.Steps.{Leaves};
 
@@ -29,7 +29,7 @@ use step_laws::causes::laws_of_causes;
 
 impl<K: Keeper> Lake<K> {
     /// Gives out a number for an upload to a branch, on a ticket of the seat: the place of the entry, and the number,
-    /// which was never given out before. Stopped, HistoryFull, NoRepo, NoRef, Protected.
+    /// which is the next one. Stopped, HistoryFull, NoRepo, NoRef, Protected.
     pub fn take_ticket(
         &mut self,
         by: By,
@@ -38,7 +38,7 @@ impl<K: Keeper> Lake<K> {
     ) -> Result<(u64, u64), StepFault>
         ensures reply { GivesOrFails result (take_ticket_reply (state self.old) repo.now branch.now) }
         ensures leaves { Leaves (record { kept = K.kept; faults = K.faults }) by
-            (Some (ticket_take by.seat repo.now branch.now (lake_value self.old.present))) result self.old self.new }
+            (Some (take_ticket by.seat repo.now branch.now (lake_value self.old.present))) result self.old self.new }
     {
         // Test.
         laws_of_causes();
@@ -69,7 +69,7 @@ impl<K: Keeper> Lake<K> {
         requires { HasTicket (state self.old) by.seat number }
         ensures reply { GivesOrFails result (drop_ticket_reply (state self.old)) }
         ensures leaves { Leaves (record { kept = K.kept; faults = K.faults }) by
-            (Some (ticket_drop number)) result self.old self.new }
+            (Some (drop_ticket number)) result self.old self.new }
     {
         // Test.
         laws_of_causes();

@@ -9,7 +9,7 @@ use Rattle.lake_state.specs.Lakes.{lake_value, state_of}
 use Rattle.lake_standing.specs.Standing.{versions_at}
 use Rattle.lake_changes.specs.LakeChanges.{after_copy}
 use Rattle.lake_puts.specs.Puts.{stage_puts}
-use Rattle.lake_core.specs.Makings.{copied, copy}
+use Rattle.lake_core.specs.Makings.{copy, copy_making}
 use Rattle.lake_core.proofs.StepLemmas.{holds_now, made_leaves, made_stands, refused_found, refused_leaves, refused_stands, unkept_found, unkept_leaves}
 use Rattle.lake_core.proofs.lake.Lake.copy.Goals as goal
 
@@ -54,9 +54,9 @@ pub returns-in_err-keep-clause-leaves : goal.returns-in_err-keep-clause-leaves
 returns-in_err-keep-clause-leaves g c =
     let found = c.in_ok-copied.ensures (versions_at (lake_value c.self.inside.opened.value) c.self.inside.history.items) c.self.invariant.versions in
     unkept_leaves _ _ (λ p. copy c.args.repo.now c.args.branch.now c.args.path c.args.e.now c.args.from.now (lake_value p))
-    (copied c.args.repo.now c.args.branch.now c.args.path (source_of c.args.e.now.name c.in_ok-copied.copied.commit) c.args.from.now c.in_ok-copied.copied.entry.now (lake_value c.self.inside.present)) _ _ (c.in_ok-operation.ensures.operation ∙ ap (λ v. operation.Copy c.args.repo.now c.args.branch.now c.args.path (source_of v.name c.in_ok-copied.copied.commit) c.args.from.now c.in_ok-copied.copied.entry.now) c.e.view_is) (c.in_ok-puts.ensures.puts ∙ ap (λ x. stage_puts c.args.repo.now c.args.branch.now c.args.path (Put x) (lake_value c.self.inside.present)) c.in_ok-operation.ensures.entry)
-    _ _ _ _ _ (record { keeper = c.keep.new.keeper; history = c.keep.new.history.items; present = c.keep.new.present }) c.in_ok-puts.ensures.same (ap (option_and_then (λ source. option_map (λ x. copied c.args.repo.now c.args.branch.now c.args.path source c.args.from.now x (lake_value c.self.inside.present)) (copied_entry (state_of (lake_value c.self.inside.present)) c.args.repo.now c.args.e.now c.args.from.now))) found.1.source
-    ∙ ap (option_map (λ x. copied c.args.repo.now c.args.branch.now c.args.path (source_of c.args.e.now.name c.in_ok-copied.copied.commit) c.args.from.now x (lake_value c.self.inside.present))) found.1.found) _ c.self.view_is _ _ c.from_residual-in_err-keep.ensures.1 c.in_err-keep.ensures
+    (copy_making c.args.repo.now c.args.branch.now c.args.path (source_of c.args.e.now.name c.in_ok-copied.copied.commit) c.args.from.now c.in_ok-copied.copied.entry.now (lake_value c.self.inside.present)) _ _ (c.in_ok-operation.ensures.operation ∙ ap (λ v. operation.Copy c.args.repo.now c.args.branch.now c.args.path (source_of v.name c.in_ok-copied.copied.commit) c.args.from.now c.in_ok-copied.copied.entry.now) c.e.view_is) (c.in_ok-puts.ensures.puts ∙ ap (λ x. stage_puts c.args.repo.now c.args.branch.now c.args.path (Put x) (lake_value c.self.inside.present)) c.in_ok-operation.ensures.entry)
+    _ _ _ _ _ (record { keeper = c.keep.new.keeper; history = c.keep.new.history.items; present = c.keep.new.present }) c.in_ok-puts.ensures.same (ap (option_and_then (λ source. option_map (λ x. copy_making c.args.repo.now c.args.branch.now c.args.path source c.args.from.now x (lake_value c.self.inside.present)) (copied_entry (state_of (lake_value c.self.inside.present)) c.args.repo.now c.args.e.now c.args.from.now))) found.1.source
+    ∙ ap (option_map (λ x. copy_making c.args.repo.now c.args.branch.now c.args.path (source_of c.args.e.now.name c.in_ok-copied.copied.commit) c.args.from.now x (lake_value c.self.inside.present))) found.1.found) _ c.self.view_is _ _ c.from_residual-in_err-keep.ensures.1 c.in_err-keep.ensures
 
 pub invariant_of-self-2 : goal.invariant_of-self-2
 invariant_of-self-2 g c =
@@ -75,7 +75,7 @@ pub returns-clause-leaves : goal.returns-clause-leaves
 returns-clause-leaves g c =
     let found = c.in_ok-copied.ensures (versions_at (lake_value c.self.inside.opened.value) c.self.inside.history.items) c.self.invariant.versions in
     made_leaves _ _ (λ p. copy c.args.repo.now c.args.branch.now c.args.path c.args.e.now c.args.from.now (lake_value p))
-    (copied c.args.repo.now c.args.branch.now c.args.path (source_of c.args.e.now.name c.in_ok-copied.copied.commit) c.args.from.now c.in_ok-copied.copied.entry.now (lake_value c.self.inside.present)) _ _ (c.in_ok-operation.ensures.operation ∙ ap (λ v. operation.Copy c.args.repo.now c.args.branch.now c.args.path (source_of v.name c.in_ok-copied.copied.commit) c.args.from.now c.in_ok-copied.copied.entry.now) c.e.view_is) (c.in_ok-puts.ensures.puts ∙ ap (λ x. stage_puts c.args.repo.now c.args.branch.now c.args.path (Put x) (lake_value c.self.inside.present)) c.in_ok-operation.ensures.entry)
-    _ _ _ _ _ (record { keeper = c.keep.new.keeper; history = c.keep.new.history.items; present = c.keep.new.present }) c.in_ok-puts.ensures.same (ap (option_and_then (λ source. option_map (λ x. copied c.args.repo.now c.args.branch.now c.args.path source c.args.from.now x (lake_value c.self.inside.present)) (copied_entry (state_of (lake_value c.self.inside.present)) c.args.repo.now c.args.e.now c.args.from.now))) found.1.source
-    ∙ ap (option_map (λ x. copied c.args.repo.now c.args.branch.now c.args.path (source_of c.args.e.now.name c.in_ok-copied.copied.commit) c.args.from.now x (lake_value c.self.inside.present))) found.1.found) _ c.self.view_is _ c.in_ok-keep.ensures
+    (copy_making c.args.repo.now c.args.branch.now c.args.path (source_of c.args.e.now.name c.in_ok-copied.copied.commit) c.args.from.now c.in_ok-copied.copied.entry.now (lake_value c.self.inside.present)) _ _ (c.in_ok-operation.ensures.operation ∙ ap (λ v. operation.Copy c.args.repo.now c.args.branch.now c.args.path (source_of v.name c.in_ok-copied.copied.commit) c.args.from.now c.in_ok-copied.copied.entry.now) c.e.view_is) (c.in_ok-puts.ensures.puts ∙ ap (λ x. stage_puts c.args.repo.now c.args.branch.now c.args.path (Put x) (lake_value c.self.inside.present)) c.in_ok-operation.ensures.entry)
+    _ _ _ _ _ (record { keeper = c.keep.new.keeper; history = c.keep.new.history.items; present = c.keep.new.present }) c.in_ok-puts.ensures.same (ap (option_and_then (λ source. option_map (λ x. copy_making c.args.repo.now c.args.branch.now c.args.path source c.args.from.now x (lake_value c.self.inside.present)) (copied_entry (state_of (lake_value c.self.inside.present)) c.args.repo.now c.args.e.now c.args.from.now))) found.1.source
+    ∙ ap (option_map (λ x. copy_making c.args.repo.now c.args.branch.now c.args.path (source_of c.args.e.now.name c.in_ok-copied.copied.commit) c.args.from.now x (lake_value c.self.inside.present))) found.1.found) _ c.self.view_is _ c.in_ok-keep.ensures
     (c.copy.ensures ∙ ap (after_copy c.args.repo.now c.args.branch.now c.args.path c.in_ok-operation.entry) (ap lake_value c.in_ok-keep.ensures.present ∙ c.in_ok-puts.ensures.same) ∙ ap (λ x. after_copy c.args.repo.now c.args.branch.now c.args.path x (lake_value c.self.inside.present)) c.in_ok-operation.ensures.entry)

@@ -4,7 +4,7 @@ use Rattle.lake_model.specs.Steps.{IsCreateBranchReply, create_branch_causes, in
 use Rattle.lake_state.specs.Counts.{AreFew}
 use Rattle.lake_state.specs.Lakes.{lake_value, state_of}
 use Rattle.lake_changes.specs.LakeChanges.{after_branch_create}
-use Rattle.lake_core.specs.Makings.{branch_created, create_branch}
+use Rattle.lake_core.specs.Makings.{branch_making, create_branch}
 use Rattle.lake_core.proofs.StepLemmas.{holds_now, made_leaves, made_stands, refused_found, refused_stands, unkept_found, unkept_leaves}
 use Rattle.lake_core.proofs.lake.Lake.create_branch.Goals as goal
 
@@ -34,8 +34,8 @@ returns-in_err-keep-clause-reply g c =
 pub returns-in_err-keep-clause-leaves : goal.returns-in_err-keep-clause-leaves
 returns-in_err-keep-clause-leaves g c =
     unkept_leaves _ _ (λ p. create_branch c.args.repo.now c.args.name c.args.e.now (lake_value p))
-    (branch_created c.args.repo.now c.args.name c.in_ok-commit.commit (lake_value c.self.inside.present)) _ _ c.in_ok-operation.ensures.ready.operation c.in_ok-operation.ensures.ready.puts
-    _ _ _ _ _ (record { keeper = c.keep.new.keeper; history = c.keep.new.history.items; present = c.keep.new.present }) c.in_ok-operation.ensures.same (ap (option_map (λ id. branch_created c.args.repo.now c.args.name id (lake_value c.self.inside.present))) c.in_ok-commit.ensures.1) _ c.self.view_is _ _ c.from_residual-in_err-keep.ensures.1 c.in_err-keep.ensures
+    (branch_making c.args.repo.now c.args.name c.in_ok-commit.commit (lake_value c.self.inside.present)) _ _ c.in_ok-operation.ensures.ready.operation c.in_ok-operation.ensures.ready.puts
+    _ _ _ _ _ (record { keeper = c.keep.new.keeper; history = c.keep.new.history.items; present = c.keep.new.present }) c.in_ok-operation.ensures.same (ap (option_map (λ id. branch_making c.args.repo.now c.args.name id (lake_value c.self.inside.present))) c.in_ok-commit.ensures.1) _ c.self.view_is _ _ c.from_residual-in_err-keep.ensures.1 c.in_err-keep.ensures
 
 pub invariant_of-self-2 : goal.invariant_of-self-2
 invariant_of-self-2 g c =
@@ -52,8 +52,8 @@ returns-clause-reply g c =
 pub returns-clause-leaves : goal.returns-clause-leaves
 returns-clause-leaves g c =
     made_leaves _ _ (λ p. create_branch c.args.repo.now c.args.name c.args.e.now (lake_value p))
-    (branch_created c.args.repo.now c.args.name c.in_ok-commit.commit (lake_value c.self.inside.present)) _ _ c.in_ok-operation.ensures.ready.operation c.in_ok-operation.ensures.ready.puts
-    _ _ _ _ _ (record { keeper = c.keep.new.keeper; history = c.keep.new.history.items; present = c.keep.new.present }) c.in_ok-operation.ensures.same (ap (option_map (λ id. branch_created c.args.repo.now c.args.name id (lake_value c.self.inside.present))) c.in_ok-commit.ensures.1) _ c.self.view_is _ c.in_ok-keep.ensures
+    (branch_making c.args.repo.now c.args.name c.in_ok-commit.commit (lake_value c.self.inside.present)) _ _ c.in_ok-operation.ensures.ready.operation c.in_ok-operation.ensures.ready.puts
+    _ _ _ _ _ (record { keeper = c.keep.new.keeper; history = c.keep.new.history.items; present = c.keep.new.present }) c.in_ok-operation.ensures.same (ap (option_map (λ id. branch_making c.args.repo.now c.args.name id (lake_value c.self.inside.present))) c.in_ok-commit.ensures.1) _ c.self.view_is _ c.in_ok-keep.ensures
     (c.create_branch.ensures ∙ ap (after_branch_create c.args.repo.now c.args.name c.in_ok-commit.commit) (ap lake_value c.in_ok-keep.ensures.present ∙ c.in_ok-operation.ensures.same))
 
 pub ready_create-requires : goal.ready_create-requires

@@ -5,7 +5,7 @@ use Rattle.lake_model.specs.Steps.{drop_ticket_reply}
 use Rattle.lake_state.specs.Counts.{AreFew}
 use Rattle.lake_state.specs.Lakes.{lake_value, state_of}
 use Rattle.lake_changes.specs.LakeChanges.{after_ticket_drop}
-use Rattle.lake_core.specs.Makings.{ticket_drop}
+use Rattle.lake_core.specs.Makings.{drop_ticket}
 use Rattle.lake_core.proofs.StepLemmas.{accepted, at_present, held_then, holds_now, made_leaves, made_stands, refused_reply, refused_stands, unkept_leaves, unkept_reply}
 use Rattle.lake_model.specs.Uncommitted.{HasTicket}
 use Rattle.lake_core.proofs.lake.Lake.drop_ticket.Goals as goal
@@ -37,8 +37,8 @@ returns-in_err-keep-clause-reply g c =
 
 pub returns-in_err-keep-clause-leaves : goal.returns-in_err-keep-clause-leaves
 returns-in_err-keep-clause-leaves g c =
-    unkept_leaves _ _ (λ p. Some (ticket_drop c.args.number))
-    ((ticket_drop c.args.number)) _ _ c.ready_drop-operation.ensures.operation c.ready_drop-operation.ensures.puts
+    unkept_leaves _ _ (λ p. Some (drop_ticket c.args.number))
+    ((drop_ticket c.args.number)) _ _ c.ready_drop-operation.ensures.operation c.ready_drop-operation.ensures.puts
     _ _ _ _ _ (record { keeper = c.keep.new.keeper; history = c.keep.new.history.items; present = c.keep.new.present }) refl (refl) _ c.self.view_is _ _ c.from_residual-in_err-keep.ensures.1 c.in_err-keep.ensures
 
 pub invariant_of-self-2 : goal.invariant_of-self-2
@@ -56,8 +56,8 @@ returns-clause-reply g c =
 
 pub returns-clause-leaves : goal.returns-clause-leaves
 returns-clause-leaves g c =
-    made_leaves _ _ (λ p. Some (ticket_drop c.args.number))
-    ((ticket_drop c.args.number)) _ _ c.ready_drop-operation.ensures.operation c.ready_drop-operation.ensures.puts
+    made_leaves _ _ (λ p. Some (drop_ticket c.args.number))
+    ((drop_ticket c.args.number)) _ _ c.ready_drop-operation.ensures.operation c.ready_drop-operation.ensures.puts
     _ _ _ _ _ (record { keeper = c.keep.new.keeper; history = c.keep.new.history.items; present = c.keep.new.present }) refl (refl) _ c.self.view_is _ c.in_ok-keep.ensures
     (c.drop_ticket.ensures ∙ ap (after_ticket_drop c.args.number) (ap lake_value c.in_ok-keep.ensures.present))
 

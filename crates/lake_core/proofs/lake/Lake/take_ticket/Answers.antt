@@ -5,7 +5,7 @@ use Rattle.lake_model.specs.Steps.{take_ticket_reply, write_causes}
 use Rattle.lake_state.specs.Counts.{AreFew}
 use Rattle.lake_state.specs.Lakes.{lake_value, state_of}
 use Rattle.lake_changes.specs.LakeChanges.{after_ticket_take}
-use Rattle.lake_core.specs.Makings.{ticket_take}
+use Rattle.lake_core.specs.Makings.{take_ticket}
 use Rattle.lake_core.proofs.StepLemmas.{accepted, at_present, holds_now, made_leaves, made_stands, refused_reply, refused_stands, unkept_leaves, unkept_reply}
 use Rattle.lake_core.proofs.lake.Lake.take_ticket.Goals as goal
 
@@ -34,8 +34,8 @@ returns-in_err-keep-clause-reply g c =
 
 pub returns-in_err-keep-clause-leaves : goal.returns-in_err-keep-clause-leaves
 returns-in_err-keep-clause-leaves g c =
-    unkept_leaves _ _ (λ p. Some (ticket_take c.args.by.seat c.args.repo.now c.args.branch.now (lake_value p)))
-    ((ticket_take c.args.by.seat c.args.repo.now c.args.branch.now (lake_value c.self.inside.present))) _ _ c.in_ok-operation.ensures.ready.operation c.in_ok-operation.ensures.ready.puts
+    unkept_leaves _ _ (λ p. Some (take_ticket c.args.by.seat c.args.repo.now c.args.branch.now (lake_value p)))
+    ((take_ticket c.args.by.seat c.args.repo.now c.args.branch.now (lake_value c.self.inside.present))) _ _ c.in_ok-operation.ensures.ready.operation c.in_ok-operation.ensures.ready.puts
     _ _ _ _ _ (record { keeper = c.keep.new.keeper; history = c.keep.new.history.items; present = c.keep.new.present }) c.in_ok-operation.ensures.same (refl) _ c.self.view_is _ _ c.from_residual-in_err-keep.ensures.1 c.in_err-keep.ensures
 
 pub invariant_of-self-2 : goal.invariant_of-self-2
@@ -53,8 +53,8 @@ returns-clause-reply g c =
 
 pub returns-clause-leaves : goal.returns-clause-leaves
 returns-clause-leaves g c =
-    made_leaves _ _ (λ p. Some (ticket_take c.args.by.seat c.args.repo.now c.args.branch.now (lake_value p)))
-    ((ticket_take c.args.by.seat c.args.repo.now c.args.branch.now (lake_value c.self.inside.present))) _ _ c.in_ok-operation.ensures.ready.operation c.in_ok-operation.ensures.ready.puts
+    made_leaves _ _ (λ p. Some (take_ticket c.args.by.seat c.args.repo.now c.args.branch.now (lake_value p)))
+    ((take_ticket c.args.by.seat c.args.repo.now c.args.branch.now (lake_value c.self.inside.present))) _ _ c.in_ok-operation.ensures.ready.operation c.in_ok-operation.ensures.ready.puts
     _ _ _ _ _ (record { keeper = c.keep.new.keeper; history = c.keep.new.history.items; present = c.keep.new.present }) c.in_ok-operation.ensures.same (refl) _ c.self.view_is _ c.in_ok-keep.ensures
     (c.take_ticket.ensures ∙ ap (after_ticket_take c.args.by.seat) (ap lake_value c.in_ok-keep.ensures.present ∙ c.in_ok-operation.ensures.same))
 
