@@ -37,7 +37,7 @@ stage repo branch path change l = record {
   puts = stage_puts repo branch path change l;
 }
 
--- an entry is copy_making
+-- an entry is copied
 abbrev pub copy_making : List ℕ → List ℕ → List ℕ → CopySource → List ℕ → EntryValue → LakeStateValue → Making
 copy_making repo branch path source from entry l = record {
   operation = Copy repo branch path source from entry;
