@@ -7,12 +7,15 @@ use Rattle.lake_format.specs.declared.cut.Cut.{Cut}
 use Rattle.byte_map.specs.Values.{map_values, some_values}
 use Rattle.lake_model.specs.State.{State}
 use Rattle.lake_state.specs.declared.lake.LakeState.{LakeState}
+use Rattle.lake_state.specs.Names.{NameIndexValue, index_value}
 use Rattle.lake_state.specs.Repositories.{RepositoryStateValue, repository_of, repository_value}
 
 -- a lake in memory
 pub record LakeStateValue : Type 0 where
   pub cut : Cut
   pub repositories : ByteMap RepositoryStateValue
+  -- where its commits and files are kept, by their names
+  pub names : NameIndexValue
   -- the seat of each upload that isn't finished
   pub tickets : FinMap nat_cmp ℕ
   pub gone : FinMap nat_cmp (Unit {0})
@@ -37,6 +40,7 @@ unfoldable pub lake_value : LakeState → LakeStateValue
 lake_value l = record {
   cut = l.cut;
   repositories = some_values (option_map repository_value) l.repositories;
+  names = index_value l.names;
   tickets = tickets_of l.tickets.entries;
   gone = from_entries l.gone.entries;
   stopped = l.stopped;

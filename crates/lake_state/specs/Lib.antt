@@ -1,4 +1,8 @@
 pub mod Branches
 pub mod Counts
+pub mod FilePlaces
+pub mod Founding
+pub mod Index
 pub mod Lakes
+pub mod Names
 pub mod Repositories

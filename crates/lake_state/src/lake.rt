@@ -1,13 +1,17 @@
 //! A lake in memory.
 ghost use Rattle.std.specs.Prelude.{◌≡◌, option_copied, option_map};
 ghost use Rattle.std.specs.FinMap.{get};
+ghost use Rattle.lake_state.specs.Index.{indexed_commit};
 ghost use Rattle.lake_state.specs.Lakes.{lake_value};
 ghost use Rattle.lake_state.specs.Repositories.{repository_value};
 
+use crate::file_place::FilePlace;
+use crate::names::NameIndex;
 use crate::repository::RepositoryState;
 use byte_map::ByteMap;
-use lake_base::RepoName;
+use lake_base::{Digest, RepoName};
 use lake_format::Cut;
+use lake_values::{CommitId, CommitRecord};
 use std::collections::BTreeMap;
 
 /// A lake: its repositories, what was given out, and how much happened.
@@ -19,6 +23,8 @@ pub struct LakeState {
     /// By which maps are cut into ranges.
     pub cut: Cut,
     pub repositories: ByteMap<RepoName, Option<RepositoryState>>,
+    /// Where its commits and files are kept, by their names.
+    pub names: NameIndex,
     /// The seat of each upload that isn't finished.
     pub tickets: BTreeMap<u64, Option<u32>>,
     /// The numbers of objects that may be removed for good.
@@ -42,6 +48,35 @@ impl LakeState {
             ≡ get (lake_value self.now).repositories repo.now }
     {
         match self.repositories.get(repo) {
+            Some(place) => place.as_ref(),
+            None => None,
+        }
+    }
+
+    /// The repository in which the commit of an id stands, by a search. It takes no memory.
+    pub fn home(&self, id: &CommitId) -> Option<&RepoName>
+        ensures { option_copied result ≡ get (lake_value self.now).names.homes id.now.0 }
+    {
+        match self.names.homes.get(id) {
+            Some(place) => place.as_ref(),
+            None => None,
+        }
+    }
+
+    /// The commit of an id, in the repository in which it stands, by three searches. It takes no memory.
+    pub fn commit(&self, id: &CommitId) -> Option<&CommitRecord>
+        ensures { option_copied result ≡ indexed_commit (lake_value self.now) id.now }
+    {
+        let repo = self.home(id)?;
+        let repository = self.repository(repo)?;
+        repository.graph.get(id)
+    }
+
+    /// Where the file of a name is kept, by a search. It takes no memory.
+    pub fn file(&self, name: &Digest) -> Option<&FilePlace>
+        ensures { option_copied result ≡ get (lake_value self.now).names.files name.now.0 }
+    {
+        match self.names.files.get(name) {
             Some(place) => place.as_ref(),
             None => None,
         }
