@@ -19,7 +19,7 @@ use Rattle.lake_model.specs.Branches.{IsUnprotected}
 use Rattle.lake_model.specs.Commits.{IsAdmissible, IsCommittable, MayBecomeHead, commit_draft}
 use Rattle.lake_model.specs.History.{Allows, after}
 use Rattle.lake_model.specs.Soundness.{fresh}
-use Rattle.lake_histories.specs.Words.{quickstart, main, outside, made, committed, IsCommitAdmissible}
+use Rattle.lake_histories.specs.Words.{quickstart, main, outside, entry_of, commit_entry, IsCommitAdmissible}
 use Rattle.lake_histories.specs.Nothing as nothing
 use Rattle.lake_refusals.specs.Lakes.{a}
 use Rattle.lake_commit_refusals.specs.Picks.{hooked_lake, no_changes}
@@ -71,11 +71,11 @@ module _ (cut : Cut) where
 
   hooked_scene : hooked_lake cut ≡ scene (counted (second_state cut)) hooked (a_sealed cut)
   hooked_scene =
-      ap (λ (l : State). after l (made (NoteSet quickstart name.Hooks (Some no_changes)))) (ready_scene cut)
+      ap (λ (l : State). after l (entry_of (NoteSet quickstart name.Hooks (Some no_changes)))) (ready_scene cut)
       ∙ ap counted (in_quickstart (with_notes no_changes name.Hooks) (second_state cut) r0 (a_sealed cut))
 
-  pub hook_refuses : (about : AboutValue) → Allows (hooked_lake cut) (committed about) → ⊥
-  hook_refuses about = refuses_by (committed about) hooked_scene (λ may.
+  pub hook_refuses : (about : AboutValue) → Allows (hooked_lake cut) (commit_entry about) → ⊥
+  hook_refuses about = refuses_by (commit_entry about) hooked_scene (λ may.
       let free = (the_main (IsCommittable (scene (counted (second_state cut)) hooked (a_sealed cut)) main about) (counted (second_state cut)) hooked (a_sealed cut) may.possible).head.allowed in
       let place : Bool → Option ℕ = λ t. position (λ (x : ℕ). t) (0 ∷ []) in
       let denied : place (matches main main && ltb 0 (len changed)) ≡ Some 0 = ap (λ (t : Bool). place (t && ltb 0 (len changed))) main_itself ∙ ap place (some_len changed a (Put outside) a_changed) in

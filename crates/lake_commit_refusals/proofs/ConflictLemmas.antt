@@ -22,9 +22,9 @@ use Rattle.lake_model.specs.State.{Branch, HasCommit, HasLiveCommit, Repository,
 use Rattle.lake_model.specs.Commits.{IsAdmissible, IsPick, pick_draft}
 use Rattle.lake_model.specs.Uncommitted.{with_staged}
 use Rattle.lake_model.specs.History.{Allows, after, replay}
-use Rattle.lake_histories.specs.Words.{quickstart, main, first, outside, head_of, put, sealed, committed}
+use Rattle.lake_histories.specs.Words.{quickstart, main, first, outside, head_of, put_entry, seal_entry, commit_entry}
 use Rattle.lake_refusals.specs.Lakes.{a}
-use Rattle.lake_commit_refusals.specs.Picks.{AreThree, IsPickAdmissible, larger, last_commit, new_commit, picked, twice_committed_lake}
+use Rattle.lake_commit_refusals.specs.Picks.{AreThree, IsPickAdmissible, larger_object, last_commit, new_commit, pick_entry, twice_committed_lake}
 use Rattle.lake_histories.proofs.SceneLemmas.{scene, counted, get_one, in_main, on_main, the_main}
 use Rattle.lake_histories.proofs.EntriesLemmas.{after_seal_of_one, apply_nothing, may}
 use Rattle.lake_histories.proofs.CommitsLemmas.{after_committing, apart_at, at_new, new_id, new_map, new_record, with_new}
@@ -35,7 +35,7 @@ use Rattle.lake_refusals.proofs.LakesLemmas.{allows_by}
 use Rattle.lake_commit_refusals.proofs.PicksLemmas.{b1, committed_scene, first_there, k, new_is, r0, r1, s}
 
 -- the object is gone in the source, and another one in the destination
-neither_side : side_of (Some outside) None (Some larger) ≡ Neither
+neither_side : side_of (Some outside) None (Some larger_object) ≡ Neither
 unfolding same_entry
 neither_side = refl
 
@@ -44,7 +44,7 @@ module _ (cut : Cut) (about other : AboutValue) where
   s2 = counted (counted (s cut about))
 
   abbrev larger_sealed : Branch
-  larger_sealed = record (b1 cut about) { sealed = insert empty a (Put larger) }
+  larger_sealed = record (b1 cut about) { sealed = insert empty a (Put larger_object) }
 
   abbrev k2 : Digest
   k2 = new_id s2 (r1 cut about) larger_sealed other
@@ -58,9 +58,9 @@ module _ (cut : Cut) (about other : AboutValue) where
   twice_scene : twice_committed_lake cut about other ≡ scene (counted s2) r2 b2
   unfolding twice_committed_lake
   twice_scene =
-      ap (λ (l : State). replay l (put a larger ∷ sealed ∷ committed other ∷ [])) (committed_scene cut about)
-      ∙ ap (λ (l : State). replay (counted l) (sealed ∷ committed other ∷ [])) (in_main (with_staged a (Put larger)) (s cut about) (r1 cut about) (b1 cut about))
-      ∙ ap (λ (l : State). after l (committed other)) (after_seal_of_one (counted (s cut about)) (r1 cut about) (with_staged a (Put larger) (b1 cut about)) 1 seal.Commit a (Put larger) refl)
+      ap (λ (l : State). replay l (put_entry a larger_object ∷ seal_entry ∷ commit_entry other ∷ [])) (committed_scene cut about)
+      ∙ ap (λ (l : State). replay (counted l) (seal_entry ∷ commit_entry other ∷ [])) (in_main (with_staged a (Put larger_object)) (s cut about) (r1 cut about) (b1 cut about))
+      ∙ ap (λ (l : State). after l (commit_entry other)) (after_seal_of_one (counted (s cut about)) (r1 cut about) (with_staged a (Put larger_object) (b1 cut about)) 1 seal.Commit a (Put larger_object) refl)
       ∙ after_committing s2 (r1 cut about) larger_sealed other
 
   last_is : last_commit cut about other ≡ k2
@@ -89,10 +89,10 @@ module _ (cut : Cut) (about other : AboutValue) where
         ∙ ap (λ (o : Option KeyMapValue). get (unwrap_or o empty) a) (get_other (r0 cut about).maps (k cut about).0 (sealed_map (r0 cut about) (a_sealed cut)) (first cut).0 (λ is. early (same_digest (first cut) (k cut about) is)))
         ∙ ap (λ (m : KeyMapValue). get m a) (first_map cut (first cut)) ∙ no_entry a
 
-    dest_has : get (head_map r2 b2) a ≡ Some larger
+    dest_has : get (head_map r2 b2) a ≡ Some larger_object
     dest_has =
         ap (λ (m : KeyMapValue). get m a) (new_map s2 (r1 cut about) larger_sealed other)
-        ∙ get_apply (insert empty a (Put larger)) (head_map (r1 cut about) larger_sealed) a ∙ simp (get_one a (Put larger) a)
+        ∙ get_apply (insert empty a (Put larger_object)) (head_map (r1 cut about) larger_sealed) a ∙ simp (get_one a (Put larger_object) a)
 
     conflict : IsConflict (map_of r2 (k cut about)) (map_of r2 (first cut)) (head_map r2 b2) a
     conflict =
@@ -101,11 +101,11 @@ module _ (cut : Cut) (about other : AboutValue) where
         ∙ ap (side_of (Some outside) None) dest_has
         ∙ neither_side
 
-    pub conflict_refused : (third : AboutValue) → Allows (twice_committed_lake cut about other) (picked (new_commit cut about) (first cut) Refuse third) → ⊥
+    pub conflict_refused : (third : AboutValue) → Allows (twice_committed_lake cut about other) (pick_entry (new_commit cut about) (first cut) Refuse third) → ⊥
     conflict_refused third allowed =
-        let moved : Allows (scene (counted s2) r2 b2) (picked (k cut about) (first cut) Refuse third) =
-        subst (λ (id : Digest). Allows (scene (counted s2) r2 b2) (picked id (first cut) Refuse third)) (new_is cut about)
-        (subst (λ (l : State). Allows l (picked (new_commit cut about) (first cut) Refuse third)) twice_scene allowed) in
+        let moved : Allows (scene (counted s2) r2 b2) (pick_entry (k cut about) (first cut) Refuse third) =
+        subst (λ (id : Digest). Allows (scene (counted s2) r2 b2) (pick_entry id (first cut) Refuse third)) (new_is cut about)
+        (subst (λ (l : State). Allows l (pick_entry (new_commit cut about) (first cut) Refuse third)) twice_scene allowed) in
         let settled = (the_main (IsPick (scene (counted s2) r2 b2) main (k cut about) (first cut) Refuse third) (counted s2) r2 b2 moved.possible).sides.settled in
         let refused = refused_to (map_of r2 (k cut about)) (map_of r2 (first cut)) (head_map r2 b2) Refuse (refl, (a, conflict)) in
         absurd (cc (sym settled ∙ refused))
@@ -121,13 +121,13 @@ module _ (cut : Cut) (about other : AboutValue) where
     )
 
     pub conflict_allowed : (third : AboutValue) → IsPickAdmissible (twice_committed_lake cut about other) (new_commit cut about) (first cut) SourceWins third
-        → Allows (twice_committed_lake cut about other) (picked (new_commit cut about) (first cut) SourceWins third)
+        → Allows (twice_committed_lake cut about other) (pick_entry (new_commit cut about) (first cut) SourceWins third)
     conflict_allowed third admissible =
         let of_k : IsPickAdmissible (scene (counted s2) r2 b2) (k cut about) (first cut) SourceWins third =
         subst (λ (id : Digest). IsPickAdmissible (scene (counted s2) r2 b2) id (first cut) SourceWins third) (new_is cut about)
         (subst (λ (l : State). IsPickAdmissible l (new_commit cut about) (first cut) SourceWins third) twice_scene admissible) in
-        allows_by (picked (new_commit cut about) (first cut) SourceWins third) twice_scene
-        (subst (λ (id : Digest). Allows (scene (counted s2) r2 b2) (picked id (first cut) SourceWins third)) (sym (new_is cut about))
+        allows_by (pick_entry (new_commit cut about) (first cut) SourceWins third) twice_scene
+        (subst (λ (id : Digest). Allows (scene (counted s2) r2 b2) (pick_entry id (first cut) SourceWins third)) (sym (new_is cut about))
         (may (counted s2) r2 b2 1 (Pick quickstart main (k cut about) (first cut) SourceWins third) refl (omega arith)
         (on_main (IsPick (scene (counted s2) r2 b2) main (k cut about) (first cut) SourceWins third) (counted s2) r2 b2 (record {
           there = base_there;

@@ -27,9 +27,9 @@ use Rattle.lake_model.specs.Removal.{with_expired}
 use Rattle.lake_model.specs.Parts.{in_repository}
 use Rattle.lake_model.specs.Uncommitted.{copied_map, with_staged}
 use Rattle.lake_model.specs.History.{Allows, after, replay}
-use Rattle.lake_histories.specs.Words.{quickstart, main, first, outside, head_of, put, sealed, committed}
+use Rattle.lake_histories.specs.Words.{quickstart, main, first, outside, head_of, put_entry, seal_entry, commit_entry}
 use Rattle.lake_refusals.specs.Lakes.{a, b}
-use Rattle.lake_commit_refusals.specs.Picks.{IsPickAdmissible, committed_lake, copied, expired_head_lake, half_expired_lake, new_commit, picked, sealed_lake}
+use Rattle.lake_commit_refusals.specs.Picks.{IsPickAdmissible, committed_lake, copy_entry, expired_head_lake, half_expired_lake, new_commit, pick_entry, sealed_lake}
 use Rattle.lake_histories.proofs.SceneLemmas.{scene, counted, get_one, in_quickstart, on_main, the_main}
 use Rattle.lake_histories.proofs.EntriesLemmas.{after_put_outside, after_seal_of_one, apply_nothing, first_repository, may}
 use Rattle.lake_histories.proofs.CommitsLemmas.{after_committing, apart_at, at_new, new_id, new_map, new_record, with_new}
@@ -70,7 +70,7 @@ module _ (cut : Cut) (about : AboutValue) where
 
   pub committed_scene : committed_lake cut about ≡ scene s r1 b1
   unfolding committed_lake
-  committed_scene = ap (λ (l : State). after l (committed about)) (ready_scene cut) ∙ after_committing (second_state cut) r0 (a_sealed cut) about
+  committed_scene = ap (λ (l : State). after l (commit_entry about)) (ready_scene cut) ∙ after_committing (second_state cut) r0 (a_sealed cut) about
 
   pub new_is : new_commit cut about ≡ k
   unfolding new_commit
@@ -101,14 +101,14 @@ module _ (cut : Cut) (about : AboutValue) where
       ∙ ap (λ (m : KeyMapValue). get m a) (first_map cut (first cut)) ∙ no_entry a
 
   pub pick_allowed : (other : AboutValue) → (first cut ≡ new_commit cut about → ⊥) → IsPickAdmissible (committed_lake cut about) (first cut) (new_commit cut about) Refuse other
-      → Allows (committed_lake cut about) (picked (first cut) (new_commit cut about) Refuse other)
+      → Allows (committed_lake cut about) (pick_entry (first cut) (new_commit cut about) Refuse other)
   pick_allowed other apart admissible =
       let apart_k : first cut ≡ k → ⊥ = λ is. apart (is ∙ sym new_is) in
       let of_k : IsPickAdmissible (scene s r1 b1) (first cut) k Refuse other =
       subst (λ (id : Digest). IsPickAdmissible (scene s r1 b1) (first cut) id Refuse other) new_is
       (subst (λ (l : State). IsPickAdmissible l (first cut) (new_commit cut about) Refuse other) committed_scene admissible) in
-      allows_by (picked (first cut) (new_commit cut about) Refuse other) committed_scene
-      (subst (λ (id : Digest). Allows (scene s r1 b1) (picked (first cut) id Refuse other)) (sym new_is)
+      allows_by (pick_entry (first cut) (new_commit cut about) Refuse other) committed_scene
+      (subst (λ (id : Digest). Allows (scene s r1 b1) (pick_entry (first cut) id Refuse other)) (sym new_is)
       (may s r1 b1 1 (Pick quickstart main (first cut) k Refuse other) refl (omega arith)
       (on_main (IsPick (scene s r1 b1) main (first cut) k Refuse other) s r1 b1 (record {
         there = first_there;
@@ -121,25 +121,25 @@ module _ (cut : Cut) (about : AboutValue) where
         head = record { allowed = refl; admissible = the_main (λ r x. IsAdmissible (scene s r1 b1) r (pick_draft (first cut) k Refuse other r x)) s r1 b1 of_k };
       }))))
 
-  pub without_base : (other : AboutValue) (id : Digest) → (first cut ≡ id → ⊥) → (new_commit cut about ≡ id → ⊥) → Allows (committed_lake cut about) (picked id (new_commit cut about) Refuse other) → ⊥
-  without_base other id not_first not_new = refuses_by (picked id (new_commit cut about) Refuse other) committed_scene (λ allowed.
+  pub without_base : (other : AboutValue) (id : Digest) → (first cut ≡ id → ⊥) → (new_commit cut about ≡ id → ⊥) → Allows (committed_lake cut about) (pick_entry id (new_commit cut about) Refuse other) → ⊥
+  without_base other id not_first not_new = refuses_by (pick_entry id (new_commit cut about) Refuse other) committed_scene (λ allowed.
       one_of_two id (the_main (IsPick (scene s r1 b1) main id (new_commit cut about) Refuse other) s r1 b1 allowed.possible).there not_first not_new)
 
-  pub without_source : (other : AboutValue) (id : Digest) → (first cut ≡ id → ⊥) → (new_commit cut about ≡ id → ⊥) → Allows (committed_lake cut about) (picked (new_commit cut about) id Refuse other) → ⊥
-  without_source other id not_first not_new = refuses_by (picked (new_commit cut about) id Refuse other) committed_scene (λ allowed.
+  pub without_source : (other : AboutValue) (id : Digest) → (first cut ≡ id → ⊥) → (new_commit cut about ≡ id → ⊥) → Allows (committed_lake cut about) (pick_entry (new_commit cut about) id Refuse other) → ⊥
+  without_source other id not_first not_new = refuses_by (pick_entry (new_commit cut about) id Refuse other) committed_scene (λ allowed.
       one_of_two id (the_main (IsPick (scene s r1 b1) main (new_commit cut about) id Refuse other) s r1 b1 allowed.possible).live.0 not_first not_new)
 
   half_expired_scene : half_expired_lake cut about ≡ scene s (with_expired (first cut) r1) b1
   half_expired_scene = ap (in_repository quickstart (with_expired (first cut))) committed_scene ∙ in_quickstart (with_expired (first cut)) s r1 b1
 
-  pub expired_source : (other : AboutValue) → Allows (half_expired_lake cut about) (picked (new_commit cut about) (first cut) Refuse other) → ⊥
-  expired_source other = refuses_by (picked (new_commit cut about) (first cut) Refuse other) half_expired_scene (λ allowed.
+  pub expired_source : (other : AboutValue) → Allows (half_expired_lake cut about) (pick_entry (new_commit cut about) (first cut) Refuse other) → ⊥
+  expired_source other = refuses_by (pick_entry (new_commit cut about) (first cut) Refuse other) half_expired_scene (λ allowed.
       let kept = (the_main (IsPick (scene s (with_expired (first cut) r1) b1) main (new_commit cut about) (first cut) Refuse other) s (with_expired (first cut) r1) b1 allowed.possible).live.1 in
       let lost = ap is_some (get_put {X = Unit {0}} empty (first cut).0 tt) in
       absurd (cc (sym kept ∙ lost)))
 
-  pub same_map : (other : AboutValue) → Allows (committed_lake cut about) (picked (new_commit cut about) (new_commit cut about) Refuse other) → ⊥
-  same_map other = refuses_by (picked (new_commit cut about) (new_commit cut about) Refuse other) committed_scene (λ allowed.
+  pub same_map : (other : AboutValue) → Allows (committed_lake cut about) (pick_entry (new_commit cut about) (new_commit cut about) Refuse other) → ⊥
+  same_map other = refuses_by (pick_entry (new_commit cut about) (new_commit cut about) Refuse other) committed_scene (λ allowed.
       (the_main (IsPick (scene s r1 b1) main (new_commit cut about) (new_commit cut about) Refuse other) s r1 b1 allowed.possible).sides.changed refl)
 
   -- the branch with the object at `b` sealed
@@ -148,8 +148,8 @@ module _ (cut : Cut) (about : AboutValue) where
 
   sealed_scene : sealed_lake cut about ≡ scene (counted (counted s)) r1 resealed
   sealed_scene =
-      ap (λ (l : State). replay l (put b outside ∷ sealed ∷ [])) committed_scene
-      ∙ ap (λ (l : State). after l sealed) (after_put_outside s r1 b1 b)
+      ap (λ (l : State). replay l (put_entry b outside ∷ seal_entry ∷ [])) committed_scene
+      ∙ ap (λ (l : State). after l seal_entry) (after_put_outside s r1 b1 b)
       ∙ after_seal_of_one (counted s) r1 (with_staged b (Put outside) b1) 1 seal.Commit b (Put outside) refl
 
   sealed_has : get (sealed_map r1 resealed) b ≡ Some outside
@@ -160,8 +160,8 @@ module _ (cut : Cut) (about : AboutValue) where
       ap (λ (m : KeyMapValue). get m b) (new_map (second_state cut) r0 (a_sealed cut) about)
       ∙ get_apply (insert empty a (Put outside)) (head_map r0 (a_sealed cut)) b ∙ simp (get_one a (Put outside) b, first_map cut, no_entry)
 
-  pub over_sealed : (other : AboutValue) → Allows (sealed_lake cut about) (picked (first cut) (new_commit cut about) Refuse other) → ⊥
-  over_sealed other = refuses_by (picked (first cut) (new_commit cut about) Refuse other) sealed_scene (λ allowed.
+  pub over_sealed : (other : AboutValue) → Allows (sealed_lake cut about) (pick_entry (first cut) (new_commit cut about) Refuse other) → ⊥
+  over_sealed other = refuses_by (pick_entry (first cut) (new_commit cut about) Refuse other) sealed_scene (λ allowed.
       let clean = (the_main (IsPick (scene (counted (counted s)) r1 resealed) main (first cut) (new_commit cut about) Refuse other) (counted (counted s)) r1 resealed allowed.possible).sides.clean in
       apart_at (sealed_map r1 resealed) (head_map r1 resealed) b outside sealed_has head_lacks clean)
 
@@ -172,9 +172,9 @@ module _ (cut : Cut) (about : AboutValue) where
   abbrev IsCopy : Repository → Branch → Type 0
   IsCopy r x = IsUnprotected r main × (option_and_then (λ (m : KeyMapValue). get m a) (copied_map r (source.Commit k)) ≡ Some outside)
 
-  pub copy_allowed : Allows (committed_lake cut about) (copied (new_commit cut about))
-  copy_allowed = allows_by (copied (new_commit cut about)) committed_scene
-      (subst (λ (id : Digest). Allows (scene s r1 b1) (copied id)) (sym new_is)
+  pub copy_allowed : Allows (committed_lake cut about) (copy_entry (new_commit cut about))
+  copy_allowed = allows_by (copy_entry (new_commit cut about)) committed_scene
+      (subst (λ (id : Digest). Allows (scene s r1 b1) (copy_entry id)) (sym new_is)
       (may s r1 b1 1 (Copy quickstart main b (source.Commit k) a outside) refl (omega arith)
       (on_main IsCopy s r1 b1 (refl, ap (λ (t : Bool). found t (is_expired r1 k)) new_live.0 ∙ (ap (found true) new_live.1 ∙ new_has)))))
 
@@ -184,9 +184,9 @@ module _ (cut : Cut) (about : AboutValue) where
       ∙ ap (in_repository quickstart (with_expired k)) committed_scene
       ∙ in_quickstart (with_expired k) s r1 b1
 
-  pub copy_refused : Allows (expired_head_lake cut about) (copied (new_commit cut about)) → ⊥
-  copy_refused = refuses_by (copied (new_commit cut about)) expired_head_scene (λ allowed.
-      let moved : Allows (scene s (with_expired k r1) b1) (copied k) = subst (λ (id : Digest). Allows (scene s (with_expired k r1) b1) (copied id)) new_is allowed in
+  pub copy_refused : Allows (expired_head_lake cut about) (copy_entry (new_commit cut about)) → ⊥
+  copy_refused = refuses_by (copy_entry (new_commit cut about)) expired_head_scene (λ allowed.
+      let moved : Allows (scene s (with_expired k r1) b1) (copy_entry k) = subst (λ (id : Digest). Allows (scene s (with_expired k r1) b1) (copy_entry id)) new_is allowed in
       let has = (the_main IsCopy s (with_expired k r1) b1 moved.possible).1 in
       let lost = ap is_some (get_put {X = Unit {0}} empty k.0 tt) in
       let none : found true true ≡ Some outside = sym (ap (λ (t : Bool). found t (is_expired (with_expired k r1) k)) new_live.0 ∙ ap (found true) lost) ∙ has in

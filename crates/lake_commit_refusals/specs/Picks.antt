@@ -17,7 +17,7 @@ use Rattle.lake_model.specs.Parts.{in_repository}
 use Rattle.lake_model.specs.Removal.{with_expired}
 use Rattle.lake_model.specs.Commits.{IsAdmissible, pick_draft}
 use Rattle.lake_model.specs.History.{after, replay}
-use Rattle.lake_histories.specs.Words.{quickstart, main, first, outside, head_of, made, put, sealed, committed}
+use Rattle.lake_histories.specs.Words.{quickstart, main, first, outside, head_of, entry_of, put_entry, seal_entry, commit_entry}
 use Rattle.lake_refusals.specs.Lakes.{a, b, ready_lake}
 
 -- a commit of `main` may change no path
@@ -26,11 +26,11 @@ no_changes = Hooks (record { branch = main; deny = MaxChanges 0 } ∷ [])
 
 -- the outside object is put at `a` and sealed, and then the hook is set
 abbrev pub hooked_lake : Cut → State
-hooked_lake cut = after (ready_lake cut) (made (NoteSet quickstart name.Hooks (Some no_changes)))
+hooked_lake cut = after (ready_lake cut) (entry_of (NoteSet quickstart name.Hooks (Some no_changes)))
 
 -- the outside object is committed at `a`
 unfoldable pub committed_lake : Cut → AboutValue → State
-committed_lake cut about = after (ready_lake cut) (committed about)
+committed_lake cut about = after (ready_lake cut) (commit_entry about)
 
 -- the commit of it
 unfoldable pub new_commit : Cut → AboutValue → Digest
@@ -38,7 +38,7 @@ new_commit cut about = head_of (committed_lake cut about)
 
 -- then the outside object is put at `b` too, and sealed
 abbrev pub sealed_lake : Cut → AboutValue → State
-sealed_lake cut about = replay (committed_lake cut about) (put b outside ∷ sealed ∷ [])
+sealed_lake cut about = replay (committed_lake cut about) (put_entry b outside ∷ seal_entry ∷ [])
 
 -- the lake of the commit, but for its first commit, which is expired: no legal history gives it
 abbrev pub half_expired_lake : Cut → AboutValue → State
@@ -49,16 +49,16 @@ abbrev pub expired_head_lake : Cut → AboutValue → State
 expired_head_lake cut about = in_repository quickstart (with_expired (new_commit cut about)) (committed_lake cut about)
 
 -- the object at `a` of a commit is copied to `b` of `main`
-abbrev pub copied : Digest → HistoryEntry
-copied id = made (Copy quickstart main b (source.Commit id) a outside)
+abbrev pub copy_entry : Digest → HistoryEntry
+copy_entry id = entry_of (Copy quickstart main b (source.Commit id) a outside)
 
 -- another outside object, of 6 bytes
-abbrev pub larger : EntryValue
-larger = record outside { size = 6 }
+abbrev pub larger_object : EntryValue
+larger_object = record outside { size = 6 }
 
 -- it is put at `a` in place of the other, sealed, and committed
 unfoldable pub twice_committed_lake : Cut → AboutValue → AboutValue → State
-twice_committed_lake cut about other = replay (committed_lake cut about) (put a larger ∷ sealed ∷ committed other ∷ [])
+twice_committed_lake cut about other = replay (committed_lake cut about) (put_entry a larger_object ∷ seal_entry ∷ commit_entry other ∷ [])
 
 -- the commit of it
 unfoldable pub last_commit : Cut → AboutValue → AboutValue → Digest
@@ -71,8 +71,8 @@ pub record AreThree (cut : Cut) (about other : AboutValue) : Type 0 where
   pub ends : first cut ≡ last_commit cut about other → ⊥
 
 -- what a commit has over a base is taken into `main`
-abbrev pub picked : Digest → Digest → Strategy → AboutValue → HistoryEntry
-picked base source strategy about = made (Pick quickstart main base source strategy about)
+abbrev pub pick_entry : Digest → Digest → Strategy → AboutValue → HistoryEntry
+pick_entry base source strategy about = entry_of (Pick quickstart main base source strategy about)
 
 -- the commit of such a pick would be admissible
 abbrev pub IsPickAdmissible : State → Digest → Digest → Strategy → AboutValue → Type 0

@@ -12,10 +12,10 @@ ghost use Rattle.lake_model.specs.State.{HasBranch, Repository, State, is_expire
 ghost use Rattle.lake_model.specs.Branches.{IsUnprotected};
 ghost use Rattle.lake_model.specs.Commits.{AreKept, Draft, IsAdmissible, MayBecomeHead, StandsBefore, bytes_of, commit_draft, record_of};
 ghost use Rattle.lake_model.specs.History.{Allows};
-ghost use Rattle.lake_histories.specs.Words.{quickstart, main, first, committed, IsCommitAdmissible};
+ghost use Rattle.lake_histories.specs.Words.{quickstart, main, first, commit_entry, IsCommitAdmissible};
 ghost use Rattle.lake_histories.specs.Nothing as nothing;
 ghost use Rattle.lake_refusals.specs.Lakes.{ready_lake};
-ghost use Rattle.lake_commit_refusals.specs.Picks.{AreThree, IsPickAdmissible, committed_lake, copied, expired_head_lake, half_expired_lake, hooked_lake, new_commit, picked, sealed_lake, twice_committed_lake};
+ghost use Rattle.lake_commit_refusals.specs.Picks.{AreThree, IsPickAdmissible, committed_lake, copy_entry, expired_head_lake, half_expired_lake, hooked_lake, new_commit, pick_entry, sealed_lake, twice_committed_lake};
 
 /// Nothing is sealed that changes the head's map, though all else that a commit asks holds. The premise is that no file
 /// of it shares its name with other bytes.
@@ -23,14 +23,14 @@ pub fn nothing_to_commit()
     ensures others { (cut : Cut) (about : AboutValue) → IsCommitAdmissible (nothing.lake cut) about
         → HasBranch (nothing.lake cut) quickstart main
         (λ r b. IsUnprotected r main × MayBecomeHead (nothing.lake cut) main r b (commit_draft r b about)) }
-    ensures refused { (cut : Cut) (about : AboutValue) → Allows (nothing.lake cut) (committed about) → ⊥ }
+    ensures refused { (cut : Cut) (about : AboutValue) → Allows (nothing.lake cut) (commit_entry about) → ⊥ }
 {}
 
 /// A hook denies the commit: it changes one path, and may change none.
 pub fn hook_that_denies()
     ensures allowed { (cut : Cut) (about : AboutValue) → IsCommitAdmissible (ready_lake cut) about
-        → Allows (ready_lake cut) (committed about) }
-    ensures refused { (cut : Cut) (about : AboutValue) → Allows (hooked_lake cut) (committed about) → ⊥ }
+        → Allows (ready_lake cut) (commit_entry about) }
+    ensures refused { (cut : Cut) (about : AboutValue) → Allows (hooked_lake cut) (commit_entry about) → ⊥ }
 {}
 
 /// A commit isn't admissible whose id is expired, or is another commit's or that of another map, or which has bytes
@@ -55,9 +55,9 @@ pub fn inadmissible_commit()
 
 /// A copy from a commit that is expired.
 pub fn copy_of_expired()
-    ensures allowed { (cut : Cut) (about : AboutValue) → Allows (committed_lake cut about) (copied (new_commit cut about)) }
+    ensures allowed { (cut : Cut) (about : AboutValue) → Allows (committed_lake cut about) (copy_entry (new_commit cut about)) }
     ensures refused { (cut : Cut) (about : AboutValue)
-        → Allows (expired_head_lake cut about) (copied (new_commit cut about)) → ⊥ }
+        → Allows (expired_head_lake cut about) (copy_entry (new_commit cut about)) → ⊥ }
 {}
 
 /// A pick of what a commit has over the first one. It is allowed, and isn't with a base or a source that is no commit,
@@ -66,20 +66,20 @@ pub fn copy_of_expired()
 pub fn pick_of_commit()
     ensures allowed { (cut : Cut) (about other : AboutValue) → (first cut ≡ new_commit cut about → ⊥)
         → IsPickAdmissible (committed_lake cut about) (first cut) (new_commit cut about) strategy.Refuse other
-        → Allows (committed_lake cut about) (picked (first cut) (new_commit cut about) strategy.Refuse other) }
+        → Allows (committed_lake cut about) (pick_entry (first cut) (new_commit cut about) strategy.Refuse other) }
     ensures no_base { (cut : Cut) (about other : AboutValue) (id : Digest)
         → (first cut ≡ id → ⊥) → (new_commit cut about ≡ id → ⊥)
-        → Allows (committed_lake cut about) (picked id (new_commit cut about) strategy.Refuse other) → ⊥ }
+        → Allows (committed_lake cut about) (pick_entry id (new_commit cut about) strategy.Refuse other) → ⊥ }
     ensures no_source { (cut : Cut) (about other : AboutValue) (id : Digest)
         → (first cut ≡ id → ⊥) → (new_commit cut about ≡ id → ⊥)
-        → Allows (committed_lake cut about) (picked (new_commit cut about) id strategy.Refuse other) → ⊥ }
+        → Allows (committed_lake cut about) (pick_entry (new_commit cut about) id strategy.Refuse other) → ⊥ }
     ensures expired_source { (cut : Cut) (about other : AboutValue)
-        → Allows (half_expired_lake cut about) (picked (new_commit cut about) (first cut) strategy.Refuse other) → ⊥ }
+        → Allows (half_expired_lake cut about) (pick_entry (new_commit cut about) (first cut) strategy.Refuse other) → ⊥ }
     ensures same_map { (cut : Cut) (about other : AboutValue)
         → Allows (committed_lake cut about)
-        (picked (new_commit cut about) (new_commit cut about) strategy.Refuse other) → ⊥ }
+        (pick_entry (new_commit cut about) (new_commit cut about) strategy.Refuse other) → ⊥ }
     ensures over_sealed { (cut : Cut) (about other : AboutValue)
-        → Allows (sealed_lake cut about) (picked (first cut) (new_commit cut about) strategy.Refuse other) → ⊥ }
+        → Allows (sealed_lake cut about) (pick_entry (first cut) (new_commit cut about) strategy.Refuse other) → ⊥ }
 {}
 
 /// Where a path conflicts, a pick wants a strategy: what went between the second commit and the first is picked into
@@ -89,8 +89,8 @@ pub fn pick_in_conflict()
         → IsPickAdmissible (twice_committed_lake cut about other)
         (new_commit cut about) (first cut) strategy.SourceWins third
         → Allows (twice_committed_lake cut about other)
-        (picked (new_commit cut about) (first cut) strategy.SourceWins third) }
+        (pick_entry (new_commit cut about) (first cut) strategy.SourceWins third) }
     ensures refused { (cut : Cut) (about other third : AboutValue) → AreThree cut about other
         → Allows (twice_committed_lake cut about other)
-        (picked (new_commit cut about) (first cut) strategy.Refuse third) → ⊥ }
+        (pick_entry (new_commit cut about) (first cut) strategy.Refuse third) → ⊥ }
 {}

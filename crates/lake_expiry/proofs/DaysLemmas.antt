@@ -12,8 +12,8 @@ use Rattle.lake_model.specs.declared.history.Operation.TheVariants.{NoteSet}
 use Rattle.lake_model.specs.State.{Branch, Repository, State, head_map, sealed_map}
 use Rattle.lake_model.specs.History.{replay}
 use Rattle.lake_model.specs.Soundness.{fresh}
-use Rattle.lake_histories.specs.Words.{quickstart, first, own, head_of, made, committed, IsCommitAdmissible}
-use Rattle.lake_expiry.specs.Days.{x, y, z, said_at, first_changes, lake_before_first, first_day, lake_of_first, second_changes, lake_before_second, second_day, lake_of_second, one_day, later, lake, first_commit, second_commit}
+use Rattle.lake_histories.specs.Words.{quickstart, first, own, head_of, entry_of, commit_entry, IsCommitAdmissible}
+use Rattle.lake_expiry.specs.Days.{x, y, z, said_at, first_changes, lake_before_first, first_day, lake_of_first, second_changes, lake_before_second, second_day, lake_of_second, one_day, last_changes, lake, first_commit, second_commit}
 use Rattle.lake_histories.proofs.SceneLemmas.{scene, of_main, counted, get_one, repo_there, in_quickstart, Leads, leads_one, leads_on, comes_more}
 use Rattle.lake_histories.proofs.EntriesLemmas.{first_repository, may}
 use Rattle.lake_histories.proofs.CommitsLemmas.{with_new, new_id, after_committing, new_map, may_commit, apart_at}
@@ -49,7 +49,7 @@ module _ (cut : Cut) (digest : Digest) where
 
   first_end : lake_of_first cut digest ≡ scene (counted s1) r1 clean_first
   unfolding lake_of_first
-  first_end = comes_more (committed (said_at 1000000)) first_course (after_committing s1 r0 before_first (said_at 1000000))
+  first_end = comes_more (commit_entry (said_at 1000000)) first_course (after_committing s1 r0 before_first (said_at 1000000))
 
   pub first_is : first_commit cut digest ≡ one
   unfolding first_commit
@@ -95,7 +95,7 @@ module _ (cut : Cut) (digest : Digest) where
   unfolding lake_of_second
   second_end =
       ap (λ (l : State). replay l (second_day digest)) first_end
-      ∙ comes_more (committed (said_at 1100000)) second_course (after_committing s2 r1 before_second (said_at 1100000))
+      ∙ comes_more (commit_entry (said_at 1100000)) second_course (after_committing s2 r1 before_second (said_at 1100000))
 
   pub second_is : second_commit cut digest ≡ two
   unfolding second_commit
@@ -134,14 +134,14 @@ module _ (cut : Cut) (digest : Digest) where
   abbrev pub end : State
   end = counted (out s3 3)
 
-  noting : Leads (scene (out s3 3) r2 last) (made (NoteSet quickstart name.Retention (Some one_day)) ∷ []) (scene end (keeping r2) last)
+  noting : Leads (scene (out s3 3) r2 last) (entry_of (NoteSet quickstart name.Retention (Some one_day)) ∷ []) (scene end (keeping r2) last)
   noting = leads_one
       (may (out s3 3) r2 last 1 (NoteSet quickstart name.Retention (Some one_day)) refl (omega arith) (of_main r2 last, repo_there (of_main r2 last), refl))
       (ap counted (in_quickstart keeping (out s3 3) r2 last))
 
-  pub later_course : Leads (scene (counted s2) r2 clean_second) (later digest) (scene end (keeping r2) last)
+  pub later_course : Leads (scene (counted s2) r2 clean_second) (last_changes digest) (scene end (keeping r2) last)
   later_course = leads_on (upload (counted s2) r2 two refl (omega arith) refl empty 2 z digest refl) (leads_on (taking s3 r2 two refl (omega arith) refl empty 3 z digest refl last) noting)
 
   pub lake_end : lake cut digest ≡ scene end (keeping r2) last
   unfolding lake
-  lake_end = ap (λ (l : State). replay l (later digest)) second_end ∙ later_course.comes
+  lake_end = ap (λ (l : State). replay l (last_changes digest)) second_end ∙ later_course.comes

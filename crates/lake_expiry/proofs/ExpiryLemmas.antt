@@ -11,7 +11,7 @@ use Rattle.lake_model.specs.Naming.{IsGarbage, IsNamed}
 use Rattle.lake_model.specs.Removal.{IsExpirable, MayExpire}
 use Rattle.lake_model.specs.Soundness.{fresh}
 use Rattle.lake_histories.specs.Words.{first, IsCommitAdmissible}
-use Rattle.lake_expiry.specs.Days.{AreApart, commit, condemning, entries, expiring, first_commit, lake, lake_after, lake_before_first, lake_before_second, older, said_at, second_commit}
+use Rattle.lake_expiry.specs.Days.{AreApart, commit, condemn_entry, entries, expire_entry, first_commit, lake, lake_after, lake_before_first, lake_before_second, older_commits, said_at, second_commit}
 use Rattle.lake_histories.proofs.SceneLemmas.{scene, counted, Leads, leads_one, leads_on}
 use Rattle.lake_histories.proofs.EntriesLemmas.{may}
 use Rattle.lake_expiry.proofs.KeepingLemmas.{after_expiring, expirable_listed, head_stays, keeping, listed_expirable, only_element}
@@ -29,13 +29,13 @@ module _ (cut : Cut) (digest : Digest) where
   abbrev listed : Digest → List RepositoryCommit
   listed id = commit id ∷ commit (first cut) ∷ []
 
-  after_older : after at_end (expiring (older cut digest)) ≡ expired_end
+  after_older : after at_end (expire_entry (older_commits cut digest)) ≡ expired_end
   after_older =
-      ap (λ (id : Digest). after at_end (expiring (listed id))) (first_is cut digest)
+      ap (λ (id : Digest). after at_end (expire_entry (listed id))) (first_is cut digest)
       ∙ after_expiring (end cut digest) (keeping (r2 cut digest)) (last cut digest) (first cut) (one cut digest)
 
   after_is : lake_after cut digest ≡ expired_end
-  after_is = ap (λ (l : State). after l (expiring (older cut digest))) (lake_end cut digest) ∙ after_older
+  after_is = ap (λ (l : State). after l (expire_entry (older_commits cut digest))) (lake_end cut digest) ∙ after_older
 
   pub garbage : IsGarbage (lake_after cut digest) 0
   garbage = subst (λ (l : State). IsGarbage l 0) (sym after_is) (zero_garbage cut digest)
@@ -46,16 +46,16 @@ module _ (cut : Cut) (digest : Digest) where
   pub named_by_ticket : IsNamed (lake_after cut digest) 3
   named_by_ticket = subst (λ (l : State). IsNamed l 3) (sym after_is) (three_named cut digest)
 
-  pub twice : Allows (lake cut digest) (expiring (commit (first_commit cut digest) ∷ commit (first cut) ∷ commit (first cut) ∷ [])) → ⊥
+  pub twice : Allows (lake cut digest) (expire_entry (commit (first_commit cut digest) ∷ commit (first cut) ∷ commit (first cut) ∷ [])) → ⊥
   twice allowed = allowed.possible.distinct.1.0 (0, omega arith, refl)
 
-  pub not_head : Allows (lake cut digest) (expiring (commit (first_commit cut digest) ∷ commit (first cut) ∷ commit (second_commit cut digest) ∷ [])) → ⊥
+  pub not_head : Allows (lake cut digest) (expire_entry (commit (first_commit cut digest) ∷ commit (first cut) ∷ commit (second_commit cut digest) ∷ [])) → ⊥
   not_head allowed =
       let can : IsExpirable (lake cut digest) 1300000 (commit (second_commit cut digest)) = (allowed.possible.all (commit (second_commit cut digest))).0 (2, omega arith, refl) in
       head_stays (end cut digest) (r2 cut digest) (last cut digest) refl
       (subst (λ (id : Digest). IsExpirable at_end 1300000 (commit id)) (second_is cut digest) (subst (λ (l : State). IsExpirable l 1300000 (commit (second_commit cut digest))) (lake_end cut digest) can))
 
-  condemning_course : Leads expired_end (condemning ∷ []) (after expired_end condemning)
+  condemning_course : Leads expired_end (condemn_entry ∷ []) (after expired_end condemn_entry)
   condemning_course = leads_one
       (may (counted (end cut digest)) (left cut digest) (last cut digest) 1 (Condemn (0 ∷ [])) refl (omega arith) (record {
         distinct = (λ has. absurd (omega (arith, has.1)), tt);
@@ -93,14 +93,14 @@ module _ (cut : Cut) (digest : Digest) where
       );
     }
 
-    end_allows : Allows at_end (expiring (older cut digest))
-    end_allows = subst (λ (id : Digest). Allows at_end (expiring (listed id))) (sym (first_is cut digest))
+    end_allows : Allows at_end (expire_entry (older_commits cut digest))
+    end_allows = subst (λ (id : Digest). Allows at_end (expire_entry (listed id))) (sym (first_is cut digest))
         (may (end cut digest) (keeping (r2 cut digest)) (last cut digest) 1 (Expire 1300000 (listed (one cut digest))) refl (omega arith) may_expire)
 
-    pub allowed : Allows (lake cut digest) (expiring (older cut digest))
-    allowed = subst (λ (l : State). Allows l (expiring (older cut digest))) (sym (lake_end cut digest)) end_allows
+    pub allowed : Allows (lake cut digest) (expire_entry (older_commits cut digest))
+    allowed = subst (λ (l : State). Allows l (expire_entry (older_commits cut digest))) (sym (lake_end cut digest)) end_allows
 
-    pub one_left : Allows (lake cut digest) (expiring (commit (first_commit cut digest) ∷ [])) → ⊥
+    pub one_left : Allows (lake cut digest) (expire_entry (commit (first_commit cut digest) ∷ [])) → ⊥
     one_left allows =
         let can : IsExpirable (lake cut digest) 1300000 (commit (first cut)) = subst (λ (l : State). IsExpirable l 1300000 (commit (first cut))) (sym (lake_end cut digest)) (can_expire (commit (first cut)) (1, omega arith, refl)) in
         apart.early (sym (ap (λ (c : RepositoryCommit). c.commit) (only_element (commit (first_commit cut digest)) (commit (first cut)) ((allows.possible.all (commit (first cut))).1 can))))

@@ -17,7 +17,7 @@ use Rattle.lake_model.specs.Parts.{in_repository}
 use Rattle.lake_model.specs.Removal.{IsExpirable, IsKeptIn, heads_of, tagged_of, with_expired}
 use Rattle.lake_model.specs.History.{after}
 use Rattle.lake_histories.specs.Words.{quickstart, main}
-use Rattle.lake_expiry.specs.Days.{commit, expiring, one_day}
+use Rattle.lake_expiry.specs.Days.{commit, expire_entry, one_day}
 use Rattle.lake_histories.proofs.SceneLemmas.{scene, of_main, counted, repo_there, in_quickstart}
 use Rattle.lake_histories.proofs.NamingLemmas.{only_one}
 use Rattle.lake_expiry.proofs.GraphsLemmas.{AreDatedBy, entries_one, entries_empty}
@@ -111,6 +111,6 @@ module _ (s : State) (r : Repository) (b : Branch) (untagged : r.tags ≡ empty)
 
 -- the scene after two commits expired
 pub after_expiring : (s : State) (r : Repository) (b : Branch) (early late : Digest)
-    → after (scene s r b) (expiring (commit late ∷ commit early ∷ [])) ≡ scene (counted s) (with_expired early (with_expired late r)) b
+    → after (scene s r b) (expire_entry (commit late ∷ commit early ∷ [])) ≡ scene (counted s) (with_expired early (with_expired late r)) b
 after_expiring s r b early late =
     ap counted (ap (in_repository quickstart (with_expired early)) (in_quickstart (with_expired late) s r b) ∙ in_quickstart (with_expired early) s (with_expired late r) b)

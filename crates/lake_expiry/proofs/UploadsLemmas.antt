@@ -15,7 +15,7 @@ use Rattle.lake_model.specs.declared.history.SealFor.TheVariants as seal
 use Rattle.lake_model.specs.State.{Branch, Repository, State}
 use Rattle.lake_model.specs.Branches.{IsUnprotected}
 use Rattle.lake_model.specs.Uncommitted.{after_ticket_drop, after_ticket_take}
-use Rattle.lake_histories.specs.Words.{quickstart, main, own, taken, put, deleted, sealed}
+use Rattle.lake_histories.specs.Words.{quickstart, main, own, ticket_entry, put_entry, delete_entry, seal_entry}
 use Rattle.lake_histories.proofs.SceneLemmas.{scene, counted, on_main, Leads, leads_one, leads_on}
 use Rattle.lake_histories.proofs.EntriesLemmas.{may, after_put_own, after_deletion, after_sealing}
 
@@ -29,7 +29,7 @@ over_none new = same _ _ (λ q. get_over new empty q ∙ ap (λ (o : Option Chan
 
 -- a branch with these changes sealed, and these staged
 abbrev pub branch_with : Digest → ChangesValue → ChangesValue → Branch
-branch_with head sealed staged = record { head = head; sealed = sealed; staged = staged }
+branch_with head seal_entry staged = record { head = head; sealed = seal_entry; staged = staged }
 
 -- a number is given out, used, and what it was put for is sealed
 abbrev pub out : State → ℕ → State
@@ -43,13 +43,13 @@ uploaded s number = counted (used s number)
 
 module _ (s : State) (r : Repository) (head : Digest) (running : s.stopped ≡ false) (room : s.entries < 1000) (unprotected : IsUnprotected r main) where
   -- a path is deleted
-  pub deletion : (path : List ℕ) → Leads (scene s r (branch_with head empty empty)) (deleted path ∷ []) (scene (counted s) r (branch_with head empty (insert empty path Delete)))
+  pub deletion : (path : List ℕ) → Leads (scene s r (branch_with head empty empty)) (delete_entry path ∷ []) (scene (counted s) r (branch_with head empty (insert empty path Delete)))
   deletion path = leads_one
       (may s r (branch_with head empty empty) 1 (Stage quickstart main path Delete) running (omega arith) (on_main (λ r b. IsUnprotected r main) s r (branch_with head empty empty) unprotected, tt))
       (after_deletion s r (branch_with head empty empty) path)
 
   module _ (m : ChangesValue) (number : ℕ) (path : List ℕ) (digest : Digest) where
-    pub taking : number ≡ s.next_number → (b : Branch) → Leads (scene s r b) (taken number ∷ []) (scene (out s number) r b)
+    pub taking : number ≡ s.next_number → (b : Branch) → Leads (scene s r b) (ticket_entry number ∷ []) (scene (out s number) r b)
     taking next b = leads_one
         (may s r b 1 (TicketTake quickstart main number) running (omega arith) (on_main (λ r b. IsUnprotected r main) s r b unprotected, next))
         refl
@@ -57,7 +57,7 @@ module _ (s : State) (r : Repository) (head : Digest) (running : s.stopped ≡ f
     abbrev changes : ChangesValue
     changes = insert m path (Put (own digest number))
 
-    putting : Leads (scene (out s number) r (branch_with head empty m)) (put path (own digest number) ∷ []) (scene (used s number) r (branch_with head empty changes))
+    putting : Leads (scene (out s number) r (branch_with head empty m)) (put_entry path (own digest number) ∷ []) (scene (used s number) r (branch_with head empty changes))
     putting = leads_one
         (may (out s number) r (branch_with head empty m) 1 (Stage quickstart main path (Put (own digest number))) running (omega arith)
         (on_main (λ r b. IsUnprotected r main) (out s number) r (branch_with head empty m) unprotected, on_ticket))
@@ -66,12 +66,12 @@ module _ (s : State) (r : Repository) (head : Digest) (running : s.stopped ≡ f
         on_ticket : get (out s number).tickets number ≡ Some 1
         on_ticket = get-insert nat_cmp_total s.tickets number 1 number ∙ ap (λ (b : Bool). cond b (Some 1) (get s.tickets number)) ((eq_by_cmp_equiv nat_cmp_total).refl number)
 
-    sealing : Leads (scene (used s number) r (branch_with head empty changes)) (sealed ∷ []) (scene (uploaded s number) r (branch_with head changes empty))
+    sealing : Leads (scene (used s number) r (branch_with head empty changes)) (seal_entry ∷ []) (scene (uploaded s number) r (branch_with head changes empty))
     sealing = leads_one
         (may (used s number) r (branch_with head empty changes) 1 (Seal quickstart main seal.Commit) running (omega arith)
         (on_main (λ r b. IsUnprotected r main) (used s number) r (branch_with head empty changes) unprotected))
         (after_sealing (used s number) r (branch_with head empty changes) 1 seal.Commit
         ∙ ap (λ (x : ChangesValue). scene (uploaded s number) r (branch_with head x empty)) (over_none changes))
 
-    pub upload : number ≡ s.next_number → Leads (scene s r (branch_with head empty m)) (taken number ∷ put path (own digest number) ∷ sealed ∷ []) (scene (uploaded s number) r (branch_with head changes empty))
+    pub upload : number ≡ s.next_number → Leads (scene s r (branch_with head empty m)) (ticket_entry number ∷ put_entry path (own digest number) ∷ seal_entry ∷ []) (scene (uploaded s number) r (branch_with head changes empty))
     upload next = leads_on (taking next (branch_with head empty m)) (leads_on putting sealing)

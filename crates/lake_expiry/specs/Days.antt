@@ -12,7 +12,7 @@ use Rattle.lake_model.specs.declared.history.RepositoryCommit.{RepositoryCommit}
 use Rattle.lake_model.specs.State.{State}
 use Rattle.lake_model.specs.History.{after, replay}
 use Rattle.lake_model.specs.Soundness.{fresh}
-use Rattle.lake_histories.specs.Words.{quickstart, first, own, head_of, made, taken, put, deleted, sealed, committed}
+use Rattle.lake_histories.specs.Words.{quickstart, first, own, head_of, entry_of, ticket_entry, put_entry, delete_entry, seal_entry, commit_entry}
 
 abbrev pub x : List ℕ
 x = codes "x"
@@ -29,28 +29,28 @@ said_at date = record { committer = codes "seat"; message = codes "a day"; metad
 
 -- the number 0 is put at `x`, and sealed
 abbrev pub first_changes : Digest → List HistoryEntry
-first_changes digest = taken 0 ∷ put x (own digest 0) ∷ sealed ∷ []
+first_changes digest = ticket_entry 0 ∷ put_entry x (own digest 0) ∷ seal_entry ∷ []
 
 abbrev pub lake_before_first : Cut → Digest → State
 lake_before_first cut digest = replay (fresh cut) (first_changes digest)
 
 -- and committed at the moment 1,000,000
 abbrev pub first_day : Digest → List HistoryEntry
-first_day digest = first_changes digest ++ committed (said_at 1000000) ∷ []
+first_day digest = first_changes digest ++ commit_entry (said_at 1000000) ∷ []
 
 unfoldable pub lake_of_first : Cut → Digest → State
 lake_of_first cut digest = replay (fresh cut) (first_day digest)
 
 -- `x` is deleted, the number 1 is put at `y`, and both are sealed
 abbrev pub second_changes : Digest → List HistoryEntry
-second_changes digest = deleted x ∷ taken 1 ∷ put y (own digest 1) ∷ sealed ∷ []
+second_changes digest = delete_entry x ∷ ticket_entry 1 ∷ put_entry y (own digest 1) ∷ seal_entry ∷ []
 
 abbrev pub lake_before_second : Cut → Digest → State
 lake_before_second cut digest = replay (lake_of_first cut digest) (second_changes digest)
 
 -- and committed at the moment 1,100,000
 abbrev pub second_day : Digest → List HistoryEntry
-second_day digest = second_changes digest ++ committed (said_at 1100000) ∷ []
+second_day digest = second_changes digest ++ commit_entry (said_at 1100000) ∷ []
 
 unfoldable pub lake_of_second : Cut → Digest → State
 lake_of_second cut digest = replay (lake_of_first cut digest) (second_day digest)
@@ -60,12 +60,12 @@ abbrev pub one_day : Note
 one_day = Retention (record { default_days = 1; branches = [] })
 
 -- the number 2 is put at `z` and sealed, the number 3 is given out for an upload, and commits are kept for a day
-abbrev pub later : Digest → List HistoryEntry
-later digest =
-    taken 2 ∷ put z (own digest 2) ∷ sealed ∷ taken 3 ∷ made (NoteSet quickstart name.Retention (Some one_day)) ∷ []
+abbrev pub last_changes : Digest → List HistoryEntry
+last_changes digest =
+    ticket_entry 2 ∷ put_entry z (own digest 2) ∷ seal_entry ∷ ticket_entry 3 ∷ entry_of (NoteSet quickstart name.Retention (Some one_day)) ∷ []
 
 unfoldable pub lake : Cut → Digest → State
-lake cut digest = replay (lake_of_second cut digest) (later digest)
+lake cut digest = replay (lake_of_second cut digest) (last_changes digest)
 
 -- the commits of the two days
 unfoldable pub first_commit : Cut → Digest → Digest
@@ -85,22 +85,22 @@ abbrev pub commit : Digest → RepositoryCommit
 commit id = record { repo = quickstart; commit = id }
 
 -- at the moment 1,300,000 these commits expire
-abbrev pub expiring : List RepositoryCommit → HistoryEntry
-expiring commits = made (Expire 1300000 commits)
+abbrev pub expire_entry : List RepositoryCommit → HistoryEntry
+expire_entry commits = entry_of (Expire 1300000 commits)
 
 -- the older two: that of the first day, and the one that the repository began with
-abbrev pub older : Cut → Digest → List RepositoryCommit
-older cut digest = commit (first_commit cut digest) ∷ commit (first cut) ∷ []
+abbrev pub older_commits : Cut → Digest → List RepositoryCommit
+older_commits cut digest = commit (first_commit cut digest) ∷ commit (first cut) ∷ []
 
 -- the lake after that
 abbrev pub lake_after : Cut → Digest → State
-lake_after cut digest = after (lake cut digest) (expiring (older cut digest))
+lake_after cut digest = after (lake cut digest) (expire_entry (older_commits cut digest))
 
 -- the number 0 is condemned
-abbrev pub condemning : HistoryEntry
-condemning = made (Condemn (0 ∷ []))
+abbrev pub condemn_entry : HistoryEntry
+condemn_entry = entry_of (Condemn (0 ∷ []))
 
 -- the whole history
 abbrev pub entries : Cut → Digest → List HistoryEntry
 entries cut digest =
-    first_day digest ++ (second_day digest ++ (later digest ++ expiring (older cut digest) ∷ condemning ∷ []))
+    first_day digest ++ (second_day digest ++ (last_changes digest ++ expire_entry (older_commits cut digest) ∷ condemn_entry ∷ []))

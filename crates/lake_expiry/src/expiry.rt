@@ -7,7 +7,7 @@ ghost use Rattle.lake_model.specs.History.{Allows, IsLegal};
 ghost use Rattle.lake_model.specs.Naming.{IsGarbage, IsNamed};
 ghost use Rattle.lake_model.specs.Soundness.{fresh};
 ghost use Rattle.lake_histories.specs.Words.{first, IsCommitAdmissible};
-ghost use Rattle.lake_expiry.specs.Days.{AreApart, commit, entries, expiring, first_commit, lake, lake_after, lake_before_first, lake_before_second, older, said_at, second_commit};
+ghost use Rattle.lake_expiry.specs.Days.{AreApart, commit, entries, expire_entry, first_commit, lake, lake_after, lake_before_first, lake_before_second, older_commits, said_at, second_commit};
 
 /// Commits are kept for a day. At the moment 1,300,000 those expire that are no branch's head, as all are dated before
 /// the moment 1,213,600. Then the number 0, of an object that was deleted in the second commit, is garbage and is
@@ -28,13 +28,13 @@ pub fn expiry()
 /// All that can expire do, each once, and nothing else does.
 pub fn expiry_of_others()
     ensures allowed { (cut : Cut) (digest : Digest) → AreApart cut digest
-        → Allows (lake cut digest) (expiring (commit (first_commit cut digest) ∷ commit (first cut) ∷ [])) }
+        → Allows (lake cut digest) (expire_entry (commit (first_commit cut digest) ∷ commit (first cut) ∷ [])) }
     ensures one_left { (cut : Cut) (digest : Digest) → AreApart cut digest
-        → Allows (lake cut digest) (expiring (commit (first_commit cut digest) ∷ [])) → ⊥ }
+        → Allows (lake cut digest) (expire_entry (commit (first_commit cut digest) ∷ [])) → ⊥ }
     ensures twice { (cut : Cut) (digest : Digest)
         → Allows (lake cut digest)
-        (expiring (commit (first_commit cut digest) ∷ commit (first cut) ∷ commit (first cut) ∷ [])) → ⊥ }
+        (expire_entry (commit (first_commit cut digest) ∷ commit (first cut) ∷ commit (first cut) ∷ [])) → ⊥ }
     ensures head { (cut : Cut) (digest : Digest)
         → Allows (lake cut digest)
-        (expiring (commit (first_commit cut digest) ∷ commit (first cut) ∷ commit (second_commit cut digest) ∷ [])) → ⊥ }
+        (expire_entry (commit (first_commit cut digest) ∷ commit (first cut) ∷ commit (second_commit cut digest) ∷ [])) → ⊥ }
 {}

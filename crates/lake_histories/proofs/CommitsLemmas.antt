@@ -15,7 +15,7 @@ use Rattle.lake_model.specs.State.{Branch, Repository, State, head_map, sealed_m
 use Rattle.lake_model.specs.Branches.{protected_by}
 use Rattle.lake_model.specs.Commits.{IsAdmissible, IsCommittable, commit_draft, denied_by, draft_on, record_of, with_commit, with_draft, with_head}
 use Rattle.lake_model.specs.History.{Allows, after}
-use Rattle.lake_histories.specs.Words.{quickstart, main, made, IsCommitAdmissible}
+use Rattle.lake_histories.specs.Words.{quickstart, main, entry_of, IsCommitAdmissible}
 use Rattle.lake_histories.proofs.SceneLemmas.{scene, of_main, counted, in_quickstart, main_there, change_one, on_main, the_main}
 use Rattle.lake_histories.proofs.EntriesLemmas.{may}
 use Rattle.lake_histories.proofs.MapsLemmas.{get_put}
@@ -39,7 +39,7 @@ module _ (s : State) (r : Repository) (b : Branch) (about : AboutValue) where
       ap (λ (o : Option Branch). option_map_or (λ (x : Branch). with_draft s.cut main (commit_draft (of_main r b) x about) (of_main r b)) o (of_main r b)) (main_there b)
       ∙ ap (λ (m : ByteMap Branch). record with_new { branches = m }) (change_one main (with_head new_id) b refl)
 
-  pub after_committing : after (scene s r b) (made (Commit quickstart main about)) ≡ scene (counted s) with_new at_new
+  pub after_committing : after (scene s r b) (entry_of (Commit quickstart main about)) ≡ scene (counted s) with_new at_new
   after_committing = ap counted (in_quickstart (draft_on s.cut main (λ x y. commit_draft x y about)) s r b
       ∙ ap (λ (x : Repository). record s { repositories = insert empty quickstart x }) drafted)
 
@@ -48,7 +48,7 @@ module _ (s : State) (r : Repository) (b : Branch) (about : AboutValue) where
   new_map = ap (λ (o : Option KeyMapValue). unwrap_or o empty) (get_put r.maps new_id.0 (sealed_map r b))
 
   pub may_commit : s.stopped ≡ false → s.entries < 4194304 → r.notes.protection ≡ None → r.notes.hooks ≡ None → (sealed_map r b ≡ head_map r b → ⊥) → IsCommitAdmissible (scene s r b) about
-      → Allows (scene s r b) (made (Commit quickstart main about))
+      → Allows (scene s r b) (entry_of (Commit quickstart main about))
   may_commit running room unprotected unhooked changed admissible =
       may s r b 1 (Commit quickstart main about) running room
       (on_main (IsCommittable (scene s r b) main about) s r b (record {

@@ -18,7 +18,7 @@ use Rattle.lake_model.specs.Commits.{new_repository}
 use Rattle.lake_model.specs.Uncommitted.{with_staged, sealed_branch, after_ticket_drop}
 use Rattle.lake_model.specs.History.{Allows, IsPossible, after}
 use Rattle.lake_model.specs.Soundness.{fresh}
-use Rattle.lake_histories.specs.Words.{quickstart, main, first, outside, own, made_by, made}
+use Rattle.lake_histories.specs.Words.{quickstart, main, first, outside, own, entry_by, entry_of}
 use Rattle.lake_histories.proofs.SceneLemmas.{scene, counted, in_main}
 
 -- the fresh lake is a scene
@@ -41,27 +41,27 @@ apply_nothing map = same _ _ (λ q. get_apply empty map q ∙ ap (λ o. value_af
 module _ (s : State) (r : Repository) (b : Branch) where
   -- an operation that is possible may come next
   pub may : (seat : ℕ) (operation : Operation) → s.stopped ≡ false → s.entries < 4194304 → IsPossible (scene s r b) seat operation
-      → Allows (scene s r b) (made_by seat operation)
+      → Allows (scene s r b) (entry_by seat operation)
   may seat operation running room possible = record { running = running; room = room; possible = possible }
 
   -- an outside object, or a deletion, is staged
-  pub after_put_outside : (path : List ℕ) → after (scene s r b) (made (Stage quickstart main path (Put outside))) ≡ scene (counted s) r (with_staged path (Put outside) b)
+  pub after_put_outside : (path : List ℕ) → after (scene s r b) (entry_of (Stage quickstart main path (Put outside))) ≡ scene (counted s) r (with_staged path (Put outside) b)
   after_put_outside path = ap counted (in_main (with_staged path (Put outside)) s r b)
 
-  pub after_deletion : (path : List ℕ) → after (scene s r b) (made (Stage quickstart main path Delete)) ≡ scene (counted s) r (with_staged path Delete b)
+  pub after_deletion : (path : List ℕ) → after (scene s r b) (entry_of (Stage quickstart main path Delete)) ≡ scene (counted s) r (with_staged path Delete b)
   after_deletion path = ap counted (in_main (with_staged path Delete) s r b)
 
   -- an own object is staged, and its ticket goes
-  pub after_put_own : (path : List ℕ) (digest : Digest) (number : ℕ) → after (scene s r b) (made (Stage quickstart main path (Put (own digest number))))
+  pub after_put_own : (path : List ℕ) (digest : Digest) (number : ℕ) → after (scene s r b) (entry_of (Stage quickstart main path (Put (own digest number))))
       ≡ scene (counted (after_ticket_drop number s)) r (with_staged path (Put (own digest number)) b)
   after_put_own path digest number = ap counted (in_main (with_staged path (Put (own digest number))) (after_ticket_drop number s) r b)
 
   -- the branch is sealed
-  pub after_sealing : (seat : ℕ) (why : SealFor) → after (scene s r b) (made_by seat (Seal quickstart main why)) ≡ scene (counted s) r (sealed_branch b)
+  pub after_sealing : (seat : ℕ) (why : SealFor) → after (scene s r b) (entry_by seat (Seal quickstart main why)) ≡ scene (counted s) r (sealed_branch b)
   after_sealing seat why = ap counted (in_main sealed_branch s r b)
 
   -- where nothing was staged a seal leaves what is sealed
-  pub after_empty_seal : (seat : ℕ) (why : SealFor) → b.staged ≡ empty → after (scene s r b) (made_by seat (Seal quickstart main why)) ≡ scene (counted s) r b
+  pub after_empty_seal : (seat : ℕ) (why : SealFor) → b.staged ≡ empty → after (scene s r b) (entry_by seat (Seal quickstart main why)) ≡ scene (counted s) r b
   after_empty_seal seat why none =
       after_sealing seat why
       ∙ ap (λ (x : ChangesValue). scene (counted s) r (record b { sealed = x; staged = empty })) (ap (λ (x : ChangesValue). over x b.sealed) none ∙ over_nothing b.sealed)
@@ -69,7 +69,7 @@ module _ (s : State) (r : Repository) (b : Branch) where
 
   -- where one change was staged, a seal puts it into the sealed ones
   pub after_seal_of_one : (seat : ℕ) (why : SealFor) (path : List ℕ) (change : Change) → b.staged ≡ insert empty path change
-      → after (scene s r b) (made_by seat (Seal quickstart main why)) ≡ scene (counted s) r (record b { sealed = insert b.sealed path change; staged = empty })
+      → after (scene s r b) (entry_by seat (Seal quickstart main why)) ≡ scene (counted s) r (record b { sealed = insert b.sealed path change; staged = empty })
   after_seal_of_one seat why path change one =
       after_sealing seat why
       ∙ ap (λ (x : ChangesValue). scene (counted s) r (record b { sealed = x; staged = empty })) (ap (λ (x : ChangesValue). over x b.sealed) one ∙ over_one path change b.sealed)

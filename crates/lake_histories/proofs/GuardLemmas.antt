@@ -15,8 +15,8 @@ use Rattle.lake_model.specs.Steps.{stage_reply}
 use Rattle.lake_model.specs.Uncommitted.{with_staged}
 use Rattle.lake_model.specs.Versions.{branch_version, fresh_versions}
 use Rattle.lake_model.specs.Soundness.{fresh}
-use Rattle.lake_histories.specs.Words.{quickstart, main, at_main, outside, put}
-use Rattle.lake_histories.specs.Guard.{a, sealed_by_other, entries, lake_of_seal, versions_of_seal, lake}
+use Rattle.lake_histories.specs.Words.{quickstart, main, at_main, outside, put_entry}
+use Rattle.lake_histories.specs.Guard.{a, seal_of_other, entries, lake_of_seal, versions_of_seal, lake}
 use Rattle.lake_histories.proofs.SceneLemmas.{scene, counted, on_main, repo_there, main_there, get_one, Leads, leads_one, leads_on}
 use Rattle.lake_histories.proofs.EntriesLemmas.{first_repository, first_branch, may, after_put_outside, after_empty_seal}
 use Rattle.lake_histories.proofs.MapsLemmas.{first_map, get_now, no_change, no_entry}
@@ -29,13 +29,13 @@ module _ (cut : Cut) where
   abbrev with_object : Branch
   with_object = with_staged a (Put outside) (first_branch cut)
 
-  first_entry : Leads (fresh cut) sealed_by_other (scene (counted (fresh cut)) (first_repository cut) (first_branch cut))
+  first_entry : Leads (fresh cut) seal_of_other (scene (counted (fresh cut)) (first_repository cut) (first_branch cut))
   first_entry = leads_one
       (may (fresh cut) (first_repository cut) (first_branch cut) 2 (Seal quickstart main seal.Other) refl (omega arith)
       (on_main (λ r b. Unit {0}) (fresh cut) (first_repository cut) (first_branch cut) tt))
       (after_empty_seal (fresh cut) (first_repository cut) (first_branch cut) 2 seal.Other refl)
 
-  second_entry : Leads (scene (counted (fresh cut)) (first_repository cut) (first_branch cut)) (put a outside ∷ []) (scene (counted (counted (fresh cut))) (first_repository cut) with_object)
+  second_entry : Leads (scene (counted (fresh cut)) (first_repository cut) (first_branch cut)) (put_entry a outside ∷ []) (scene (counted (counted (fresh cut))) (first_repository cut) with_object)
   second_entry = leads_one
       (may (counted (fresh cut)) (first_repository cut) (first_branch cut) 1 (Stage quickstart main a (Put outside)) refl (omega arith)
       (on_main (λ r b. IsUnprotected r main) (counted (fresh cut)) (first_repository cut) (first_branch cut) refl, tt))

@@ -16,7 +16,7 @@ use Rattle.lake_model.specs.Uncommitted.{with_staged}
 use Rattle.lake_model.specs.History.{IsLegal}
 use Rattle.lake_model.specs.Soundness.{fresh}
 use Rattle.lake_model.specs.Versions.{branch_version, count_versions, fresh_versions}
-use Rattle.lake_histories.specs.Words.{quickstart, main, outside, put, sealed, committed, read_at, IsCommitAdmissible}
+use Rattle.lake_histories.specs.Words.{quickstart, main, outside, put_entry, seal_entry, commit_entry, read_at, IsCommitAdmissible}
 use Rattle.lake_histories.specs.StaysStaged.{a, b, until_seal, until_second, entries, lake_before, lake}
 use Rattle.lake_histories.proofs.SceneLemmas.{scene, counted, on_main, get_one, Leads, leads_one, leads_on, legal_more, comes_more}
 use Rattle.lake_histories.proofs.EntriesLemmas.{first_repository, first_branch, may, after_put_outside, after_seal_of_one}
@@ -43,13 +43,13 @@ module _ (cut : Cut) where
   abbrev third_state : State
   third_state = counted second_state
 
-  first_entry : Leads (fresh cut) (put a outside ∷ []) (scene first_state (first_repository cut) with_a)
+  first_entry : Leads (fresh cut) (put_entry a outside ∷ []) (scene first_state (first_repository cut) with_a)
   first_entry = leads_one
       (may (fresh cut) (first_repository cut) (first_branch cut) 1 (Stage quickstart main a (Put outside)) refl (omega arith)
       (on_main (λ r b. IsUnprotected r main) (fresh cut) (first_repository cut) (first_branch cut) refl, tt))
       (after_put_outside (fresh cut) (first_repository cut) (first_branch cut) a)
 
-  second_entry : Leads (scene first_state (first_repository cut) with_a) (sealed ∷ []) (scene second_state (first_repository cut) a_sealed)
+  second_entry : Leads (scene first_state (first_repository cut) with_a) (seal_entry ∷ []) (scene second_state (first_repository cut) a_sealed)
   second_entry = leads_one
       (may first_state (first_repository cut) with_a 1 (Seal quickstart main seal.Commit) refl (omega arith)
       (on_main (λ r b. IsUnprotected r main) first_state (first_repository cut) with_a refl))
@@ -58,7 +58,7 @@ module _ (cut : Cut) where
   pub to_seal : Leads (fresh cut) until_seal (scene second_state (first_repository cut) a_sealed)
   to_seal = leads_on first_entry second_entry
 
-  third_entry : Leads (scene second_state (first_repository cut) a_sealed) (put b outside ∷ []) (scene third_state (first_repository cut) with_b)
+  third_entry : Leads (scene second_state (first_repository cut) a_sealed) (put_entry b outside ∷ []) (scene third_state (first_repository cut) with_b)
   third_entry = leads_one
       (may second_state (first_repository cut) a_sealed 1 (Stage quickstart main b (Put outside)) refl (omega arith)
       (on_main (λ r b. IsUnprotected r main) second_state (first_repository cut) a_sealed refl, tt))
@@ -85,7 +85,7 @@ module _ (cut : Cut) where
     new_branch = at_new third_state (first_repository cut) with_b about
 
     comes : lake cut about ≡ scene (counted third_state) new_repository new_branch
-    comes = comes_more (committed about) to_second (after_committing third_state (first_repository cut) with_b about)
+    comes = comes_more (commit_entry about) to_second (after_committing third_state (first_repository cut) with_b about)
 
     pub legal : IsCommitAdmissible (lake_before cut) about → IsLegal (fresh cut) (entries about)
     legal admissible = legal_more to_second

@@ -16,8 +16,8 @@ use Rattle.lake_model.specs.Branches.{IsUnprotected}
 use Rattle.lake_model.specs.Uncommitted.{after_ticket_drop, after_ticket_take, put_number, with_staged}
 use Rattle.lake_model.specs.Naming.{IsNamed, IsGarbage, IsPut}
 use Rattle.lake_model.specs.Soundness.{fresh}
-use Rattle.lake_histories.specs.Words.{quickstart, main, own, taken, put, deleted, sealed, read_at}
-use Rattle.lake_histories.specs.TakenBack.{a, upload, taken_back, entries, lake_of_upload, lake_of_deletion, lake}
+use Rattle.lake_histories.specs.Words.{quickstart, main, own, ticket_entry, put_entry, delete_entry, seal_entry, read_at}
+use Rattle.lake_histories.specs.TakenBack.{a, upload, upload_and_deletion, entries, lake_of_upload, lake_of_deletion, lake}
 use Rattle.lake_histories.proofs.SceneLemmas.{scene, counted, on_main, put_again, get_one, Leads, leads_one, leads_on}
 use Rattle.lake_histories.proofs.EntriesLemmas.{first_repository, first_branch, may, after_put_own, after_deletion, after_seal_of_one}
 use Rattle.lake_histories.proofs.MapsLemmas.{first_map, read_scene, delete_nothing}
@@ -40,26 +40,26 @@ module _ (cut : Cut) (digest : Digest) where
   abbrev emptied : Branch
   emptied = record (first_branch cut) { sealed = insert empty a Delete }
 
-  first_entry : Leads (fresh cut) (taken 0 ∷ []) (scene given_out (first_repository cut) (first_branch cut))
+  first_entry : Leads (fresh cut) (ticket_entry 0 ∷ []) (scene given_out (first_repository cut) (first_branch cut))
   first_entry = leads_one
       (may (fresh cut) (first_repository cut) (first_branch cut) 1 (TicketTake quickstart main 0) refl (omega arith)
       (on_main (λ r b. IsUnprotected r main) (fresh cut) (first_repository cut) (first_branch cut) refl, refl))
       refl
 
-  second_entry : Leads (scene given_out (first_repository cut) (first_branch cut)) (put a (own digest 0) ∷ []) (scene used (first_repository cut) uploaded)
+  second_entry : Leads (scene given_out (first_repository cut) (first_branch cut)) (put_entry a (own digest 0) ∷ []) (scene used (first_repository cut) uploaded)
   second_entry = leads_one
       (may given_out (first_repository cut) (first_branch cut) 1 (Stage quickstart main a (Put (own digest 0))) refl (omega arith)
       (on_main (λ r b. IsUnprotected r main) given_out (first_repository cut) (first_branch cut) refl, get-insert nat_cmp_total empty 0 1 0))
       (after_put_own given_out (first_repository cut) (first_branch cut) a digest 0)
 
-  third_entry : Leads (scene used (first_repository cut) uploaded) (deleted a ∷ []) (scene (counted used) (first_repository cut) dropped)
+  third_entry : Leads (scene used (first_repository cut) uploaded) (delete_entry a ∷ []) (scene (counted used) (first_repository cut) dropped)
   third_entry = leads_one
       (may used (first_repository cut) uploaded 1 (Stage quickstart main a Delete) refl (omega arith)
       (on_main (λ r b. IsUnprotected r main) used (first_repository cut) uploaded refl, tt))
       (after_deletion used (first_repository cut) uploaded a
       ∙ ap (λ (x : ChangesValue). scene (counted used) (first_repository cut) (record (first_branch cut) { staged = x })) (put_again a (Put (own digest 0)) Delete))
 
-  fourth_entry : Leads (scene (counted used) (first_repository cut) dropped) (sealed ∷ []) (scene (counted (counted used)) (first_repository cut) emptied)
+  fourth_entry : Leads (scene (counted used) (first_repository cut) dropped) (seal_entry ∷ []) (scene (counted (counted used)) (first_repository cut) emptied)
   fourth_entry = leads_one
       (may (counted used) (first_repository cut) dropped 1 (Seal quickstart main seal.Commit) refl (omega arith)
       (on_main (λ r b. IsUnprotected r main) (counted used) (first_repository cut) dropped refl))
@@ -68,7 +68,7 @@ module _ (cut : Cut) (digest : Digest) where
   to_upload : Leads (fresh cut) (upload digest) (scene used (first_repository cut) uploaded)
   to_upload = leads_on first_entry second_entry
 
-  pub to_deletion : Leads (fresh cut) (taken_back digest) (scene (counted used) (first_repository cut) dropped)
+  pub to_deletion : Leads (fresh cut) (upload_and_deletion digest) (scene (counted used) (first_repository cut) dropped)
   to_deletion = leads_on to_upload third_entry
 
   pub course : Leads (fresh cut) (entries digest) (scene (counted (counted used)) (first_repository cut) emptied)
@@ -102,7 +102,7 @@ module _ (cut : Cut) (digest : Digest) where
   })
     where
       put_none : IsPut (insert empty a Delete) 0 → ⊥
-      put_none put = by put.change (only_one a Delete put.path put.change put.stands) put.names
+      put_none staged = by staged.change (only_one a Delete staged.path staged.change staged.stands) staged.names
         where
           by : (change : Change) → change ≡ Delete → put_number change ≡ Some 0 → ⊥
           by (Put entry) is names = absurd cc

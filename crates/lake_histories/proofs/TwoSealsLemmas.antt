@@ -14,7 +14,7 @@ use Rattle.lake_model.specs.Soundness.{fresh}
 use Rattle.lake_model.specs.Refusals.{Clash, first_cause}
 use Rattle.lake_model.specs.Steps.{swap_causes}
 use Rattle.lake_model.specs.Versions.{branch_version, count_versions, fresh_versions}
-use Rattle.lake_histories.specs.Words.{quickstart, main, outside, sealed, committed, IsCommitAdmissible}
+use Rattle.lake_histories.specs.Words.{quickstart, main, outside, seal_entry, commit_entry, IsCommitAdmissible}
 use Rattle.lake_histories.specs.TwoSeals.{a, until_seal, until_second, entries, lake_before, lake, versions, commit_rule}
 use Rattle.lake_histories.proofs.SceneLemmas.{scene, counted, on_main, repo_there, main_there, Leads, leads_one, leads_on, legal_more, comes_more}
 use Rattle.lake_histories.proofs.EntriesLemmas.{first_repository, may, after_empty_seal, apply_nothing}
@@ -35,7 +35,7 @@ module _ (cut : Cut) where
   abbrev third_state : State
   third_state = counted (second_state cut)
 
-  third_entry : Leads (scene (second_state cut) (first_repository cut) (a_sealed cut)) (sealed ∷ []) (scene third_state (first_repository cut) (a_sealed cut))
+  third_entry : Leads (scene (second_state cut) (first_repository cut) (a_sealed cut)) (seal_entry ∷ []) (scene third_state (first_repository cut) (a_sealed cut))
   third_entry = leads_one
       (may (second_state cut) (first_repository cut) (a_sealed cut) 1 (Seal quickstart main seal.Commit) refl (omega arith)
       (on_main (λ r b. IsUnprotected r main) (second_state cut) (first_repository cut) (a_sealed cut) refl))
@@ -52,7 +52,7 @@ module _ (cut : Cut) where
     new_branch = at_new third_state (first_repository cut) (a_sealed cut) about
 
     comes : lake cut about ≡ scene (counted third_state) new_repository new_branch
-    comes = comes_more (committed about) to_second (after_committing third_state (first_repository cut) (a_sealed cut) about)
+    comes = comes_more (commit_entry about) to_second (after_committing third_state (first_repository cut) (a_sealed cut) about)
 
     pub legal : IsCommitAdmissible (lake_before cut) about → IsLegal (fresh cut) (entries about)
     legal admissible = legal_more to_second

@@ -8,25 +8,25 @@ use Rattle.lake_model.specs.State.{State}
 use Rattle.lake_model.specs.History.{replay}
 use Rattle.lake_model.specs.Soundness.{fresh}
 use Rattle.lake_model.specs.Versions.{VersionsGiven, count_versions, fresh_versions}
-use Rattle.lake_histories.specs.Words.{quickstart, main, outside, made_by, put}
+use Rattle.lake_histories.specs.Words.{quickstart, main, outside, entry_by, put_entry}
 
 abbrev pub a : List ℕ
 a = codes "a"
 
 -- the seat 2 seals `main`, not for a commit
-abbrev pub sealed_by_other : List HistoryEntry
-sealed_by_other = made_by 2 (Seal quickstart main seal.Other) ∷ []
+abbrev pub seal_of_other : List HistoryEntry
+seal_of_other = entry_by 2 (Seal quickstart main seal.Other) ∷ []
 
 -- then the seat 1 puts the outside object at `a`
 abbrev pub entries : List HistoryEntry
-entries = sealed_by_other ++ put a outside ∷ []
+entries = seal_of_other ++ put_entry a outside ∷ []
 
 -- the lake after the seal, and its versions
 abbrev pub lake_of_seal : Cut → State
-lake_of_seal cut = replay (fresh cut) sealed_by_other
+lake_of_seal cut = replay (fresh cut) seal_of_other
 
 abbrev pub versions_of_seal : VersionsGiven
-versions_of_seal = count_versions fresh_versions sealed_by_other
+versions_of_seal = count_versions fresh_versions seal_of_other
 
 -- the lake after all
 abbrev pub lake : Cut → State

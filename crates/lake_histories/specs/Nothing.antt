@@ -5,11 +5,11 @@ use Rattle.lake_model.specs.declared.history.HistoryEntry.{HistoryEntry}
 use Rattle.lake_model.specs.State.{State}
 use Rattle.lake_model.specs.History.{replay}
 use Rattle.lake_model.specs.Soundness.{fresh}
-use Rattle.lake_histories.specs.Words.{sealed}
+use Rattle.lake_histories.specs.Words.{seal_entry}
 
 -- `main` is sealed, and nothing was staged
 abbrev pub entries : List HistoryEntry
-entries = sealed ∷ []
+entries = seal_entry ∷ []
 
 -- the lake after it
 abbrev pub lake : Cut → State

@@ -6,7 +6,7 @@ use Rattle.lake_model.specs.declared.history.HistoryEntry.{HistoryEntry}
 use Rattle.lake_model.specs.State.{State}
 use Rattle.lake_model.specs.History.{replay}
 use Rattle.lake_model.specs.Soundness.{fresh}
-use Rattle.lake_histories.specs.Words.{outside, put, sealed, committed}
+use Rattle.lake_histories.specs.Words.{outside, put_entry, seal_entry, commit_entry}
 
 abbrev pub a : List ℕ
 a = codes "a"
@@ -16,15 +16,15 @@ b = codes "b"
 
 -- the outside object is put at `a`, and `main` is sealed
 abbrev pub until_seal : List HistoryEntry
-until_seal = put a outside ∷ sealed ∷ []
+until_seal = put_entry a outside ∷ seal_entry ∷ []
 
 -- then it is put at `b`
 abbrev pub until_second : List HistoryEntry
-until_second = until_seal ++ put b outside ∷ []
+until_second = until_seal ++ put_entry b outside ∷ []
 
 -- then what is sealed is committed
 abbrev pub entries : AboutValue → List HistoryEntry
-entries about = until_second ++ committed about ∷ []
+entries about = until_second ++ commit_entry about ∷ []
 
 -- the lake before the commit, and after it
 abbrev pub lake_before : Cut → State

@@ -6,29 +6,29 @@ use Rattle.lake_model.specs.declared.history.HistoryEntry.{HistoryEntry}
 use Rattle.lake_model.specs.State.{State}
 use Rattle.lake_model.specs.History.{replay}
 use Rattle.lake_model.specs.Soundness.{fresh}
-use Rattle.lake_histories.specs.Words.{own, taken, put, deleted, sealed}
+use Rattle.lake_histories.specs.Words.{own, ticket_entry, put_entry, delete_entry, seal_entry}
 
 abbrev pub a : List ℕ
 a = codes "a"
 
 -- the number 0 is given out, and its object is put at `a`
 abbrev pub upload : Digest → List HistoryEntry
-upload digest = taken 0 ∷ put a (own digest 0) ∷ []
+upload digest = ticket_entry 0 ∷ put_entry a (own digest 0) ∷ []
 
 -- then `a` is deleted
-abbrev pub taken_back : Digest → List HistoryEntry
-taken_back digest = upload digest ++ deleted a ∷ []
+abbrev pub upload_and_deletion : Digest → List HistoryEntry
+upload_and_deletion digest = upload digest ++ delete_entry a ∷ []
 
 -- then `main` is sealed
 abbrev pub entries : Digest → List HistoryEntry
-entries digest = taken_back digest ++ sealed ∷ []
+entries digest = upload_and_deletion digest ++ seal_entry ∷ []
 
 -- the lake after the upload, after the deletion, and after all
 abbrev pub lake_of_upload : Cut → Digest → State
 lake_of_upload cut digest = replay (fresh cut) (upload digest)
 
 abbrev pub lake_of_deletion : Cut → Digest → State
-lake_of_deletion cut digest = replay (fresh cut) (taken_back digest)
+lake_of_deletion cut digest = replay (fresh cut) (upload_and_deletion digest)
 
 abbrev pub lake : Cut → Digest → State
 lake cut digest = replay (fresh cut) (entries digest)

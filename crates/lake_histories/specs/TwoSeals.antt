@@ -9,22 +9,22 @@ use Rattle.lake_model.specs.Soundness.{fresh}
 use Rattle.lake_model.specs.declared.reply.SwapKind.TheVariants as kind
 use Rattle.lake_model.specs.Steps.{SwapRule, swap_rule}
 use Rattle.lake_model.specs.Versions.{VersionsGiven, count_versions, fresh_versions}
-use Rattle.lake_histories.specs.Words.{outside, put, sealed, committed}
+use Rattle.lake_histories.specs.Words.{outside, put_entry, seal_entry, commit_entry}
 
 abbrev pub a : List ℕ
 a = codes "a"
 
 -- the outside object is put at `a`, and `main` is sealed
 abbrev pub until_seal : List HistoryEntry
-until_seal = put a outside ∷ sealed ∷ []
+until_seal = put_entry a outside ∷ seal_entry ∷ []
 
 -- then it is sealed again
 abbrev pub until_second : List HistoryEntry
-until_second = until_seal ++ sealed ∷ []
+until_second = until_seal ++ seal_entry ∷ []
 
 -- then what is sealed is committed
 abbrev pub entries : AboutValue → List HistoryEntry
-entries about = until_second ++ committed about ∷ []
+entries about = until_second ++ commit_entry about ∷ []
 
 -- the lake before the commit, and after it; the versions after it
 abbrev pub lake_before : Cut → State

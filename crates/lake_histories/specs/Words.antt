@@ -44,32 +44,32 @@ abbrev pub own : Digest → ℕ → EntryValue
 own digest number = record { place = Own number digest; size = 5; mtime = 0; content_type = []; metadata = [] }
 
 -- an entry of a seat: its operation was accepted
-abbrev pub made_by : ℕ → Operation → HistoryEntry
-made_by seat operation = record { by = record { seat = seat; call = 0 }; kind = Accepted operation }
+abbrev pub entry_by : ℕ → Operation → HistoryEntry
+entry_by seat operation = record { by = record { seat = seat; call = 0 }; kind = Accepted operation }
 
 -- an entry of the seat 1
-abbrev pub made : Operation → HistoryEntry
-made operation = made_by 1 operation
+abbrev pub entry_of : Operation → HistoryEntry
+entry_of operation = entry_by 1 operation
 
 -- the number is given out for an upload to `main`
-abbrev pub taken : ℕ → HistoryEntry
-taken number = made (TicketTake quickstart main number)
+abbrev pub ticket_entry : ℕ → HistoryEntry
+ticket_entry number = entry_of (TicketTake quickstart main number)
 
 -- an entry is put at a path of `main`, and staged
-abbrev pub put : List ℕ → EntryValue → HistoryEntry
-put path entry = made (Stage quickstart main path (Put entry))
+abbrev pub put_entry : List ℕ → EntryValue → HistoryEntry
+put_entry path entry = entry_of (Stage quickstart main path (Put entry))
 
 -- a path of `main` is deleted, and that is staged
-abbrev pub deleted : List ℕ → HistoryEntry
-deleted path = made (Stage quickstart main path Delete)
+abbrev pub delete_entry : List ℕ → HistoryEntry
+delete_entry path = entry_of (Stage quickstart main path Delete)
 
 -- what is staged on `main` is sealed for a commit
-abbrev pub sealed : HistoryEntry
-sealed = made (Seal quickstart main seal.Commit)
+abbrev pub seal_entry : HistoryEntry
+seal_entry = entry_of (Seal quickstart main seal.Commit)
 
 -- what is sealed on `main` is committed
-abbrev pub committed : AboutValue → HistoryEntry
-committed about = made (Commit quickstart main about)
+abbrev pub commit_entry : AboutValue → HistoryEntry
+commit_entry about = entry_of (Commit quickstart main about)
 
 -- what is read at a path of `main`
 abbrev pub read_at : State → List ℕ → Option EntryValue

@@ -15,7 +15,7 @@ use Rattle.lake_model.specs.NoteChanges.{notes_after}
 use Rattle.lake_model.specs.Removal.{with_expired}
 use Rattle.lake_model.specs.History.{Allows, after}
 use Rattle.lake_model.specs.Soundness.{fresh}
-use Rattle.lake_histories.specs.Words.{quickstart, main, first, made}
+use Rattle.lake_histories.specs.Words.{quickstart, main, first, entry_of}
 use Rattle.lake_refusals.specs.Lakes.{mail, one, one_day, ma_protected, tagged_lake, expired_lake, retaining_lake, ready_lake, protected_lake}
 use Rattle.lake_histories.proofs.SceneLemmas.{scene, counted, repo_there, in_quickstart}
 use Rattle.lake_histories.proofs.EntriesLemmas.{first_repository, first_branch}
@@ -72,5 +72,5 @@ module _ (cut : Cut) where
 
   pub protected_scene : protected_lake cut ≡ scene (counted (second_state cut)) guarded (a_sealed cut)
   protected_scene =
-      ap (λ (x : State). after x (made (NoteSet quickstart name.Protection (Some ma_protected)))) ready_scene
+      ap (λ (x : State). after x (entry_of (NoteSet quickstart name.Protection (Some ma_protected)))) ready_scene
       ∙ ap counted (in_quickstart (with_notes ma_protected name.Protection) (second_state cut) (first_repository cut) (a_sealed cut))

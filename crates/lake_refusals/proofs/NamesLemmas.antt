@@ -16,8 +16,8 @@ use Rattle.lake_model.specs.Branches.{IsUnprotected, MayBegin, MayName, clean_br
 use Rattle.lake_model.specs.Commits.{IsAdmissible, bare_repository, first_draft, record_of}
 use Rattle.lake_model.specs.History.{Allows, after}
 use Rattle.lake_model.specs.Soundness.{fresh}
-use Rattle.lake_histories.specs.Words.{quickstart, main, first, made, sealed}
-use Rattle.lake_refusals.specs.Lakes.{elsewhere, mail, one, two, like_id, ma_protected, protecting, branched_lake, tagged_lake, expired_lake}
+use Rattle.lake_histories.specs.Words.{quickstart, main, first, entry_of, seal_entry}
+use Rattle.lake_refusals.specs.Lakes.{elsewhere, mail, one, two, like_id, ma_protected, protect_entry, branched_lake, tagged_lake, expired_lake}
 use Rattle.lake_histories.proofs.SceneLemmas.{of_main, counted, change_one, get_one, on_main, in_quickstart}
 use Rattle.lake_histories.proofs.EntriesLemmas.{first_repository, first_branch, may}
 use Rattle.lake_histories.proofs.MapsLemmas.{get_put}
@@ -36,13 +36,13 @@ module _ (cut : Cut) where
   abbrev b0 : Branch
   b0 = first_branch cut
 
-  pub seal_allowed : Allows (fresh cut) sealed
+  pub seal_allowed : Allows (fresh cut) seal_entry
   seal_allowed = may (fresh cut) r0 b0 1 (Seal quickstart main seal.Commit) refl (omega arith) (on_main (λ r b. IsUnprotected r main) (fresh cut) r0 b0 refl)
 
-  pub no_repository : Allows (fresh cut) (made (Seal elsewhere main seal.Commit)) → ⊥
+  pub no_repository : Allows (fresh cut) (entry_of (Seal elsewhere main seal.Commit)) → ⊥
   no_repository may = let none = absent quickstart r0 elsewhere refl in absurd (cc (sym none ∙ may.possible.1))
 
-  pub no_branch : Allows (fresh cut) (made (Seal quickstart mail seal.Commit)) → ⊥
+  pub no_branch : Allows (fresh cut) (entry_of (Seal quickstart mail seal.Commit)) → ⊥
   no_branch may = let found = the_quickstart _ (fresh cut) r0 may.possible in let none = absent main b0 mail refl in absurd (cc (sym none ∙ found.1))
 
   first_there : IsSome (commit_of r0.commits (first cut))
@@ -58,39 +58,39 @@ module _ (cut : Cut) where
       by true tie is = sym (ap id_of (same_key id.0 (first cut).0 (tied (byte_order id.0 (first cut).0) tie)))
       by false tie is = absurd cc
 
-  pub branch_allowed : Allows (fresh cut) (made (BranchCreate quickstart mail (first cut)))
+  pub branch_allowed : Allows (fresh cut) (entry_of (BranchCreate quickstart mail (first cut)))
   branch_allowed = may (fresh cut) r0 b0 1 (BranchCreate quickstart mail (first cut)) refl (omega arith)
       (on_quickstart (MayBegin mail (first cut)) (fresh cut) r0 (record { fresh = absent main b0 mail refl; plain = refl; live = first_live }))
 
-  pub branch_without_commit : (id : Digest) → (first cut ≡ id → ⊥) → Allows (fresh cut) (made (BranchCreate quickstart mail id)) → ⊥
+  pub branch_without_commit : (id : Digest) → (first cut ≡ id → ⊥) → Allows (fresh cut) (entry_of (BranchCreate quickstart mail id)) → ⊥
   branch_without_commit id apart may = apart (same_first id (the_quickstart (MayBegin mail id) (fresh cut) r0 may.possible).live.0)
 
-  pub tag_allowed : Allows (fresh cut) (made (TagCreate quickstart one (first cut)))
+  pub tag_allowed : Allows (fresh cut) (entry_of (TagCreate quickstart one (first cut)))
   tag_allowed = may (fresh cut) r0 b0 1 (TagCreate quickstart one (first cut)) refl (omega arith)
       (on_quickstart (MayName one (first cut)) (fresh cut) r0 (record { fresh = get-empty byte_order one; plain = refl; live = first_live }))
 
-  pub tag_without_commit : (id : Digest) → (first cut ≡ id → ⊥) → Allows (fresh cut) (made (TagCreate quickstart one id)) → ⊥
+  pub tag_without_commit : (id : Digest) → (first cut ≡ id → ⊥) → Allows (fresh cut) (entry_of (TagCreate quickstart one id)) → ⊥
   tag_without_commit id apart may = apart (same_first id (the_quickstart (MayName one id) (fresh cut) r0 may.possible).live.0)
 
   -- tags that are there, and that aren't
-  pub second_tag : Allows (tagged_lake cut) (made (TagCreate quickstart two (first cut)))
-  second_tag = allows_by (made (TagCreate quickstart two (first cut))) (tagged_scene cut)
+  pub second_tag : Allows (tagged_lake cut) (entry_of (TagCreate quickstart two (first cut)))
+  second_tag = allows_by (entry_of (TagCreate quickstart two (first cut))) (tagged_scene cut)
       (may (counted (fresh cut)) (tagged cut) b0 1 (TagCreate quickstart two (first cut)) refl (omega arith)
       (on_quickstart (MayName two (first cut)) (counted (fresh cut)) (of_main (tagged cut) b0) (record { fresh = absent one (first cut) two refl; plain = refl; live = first_live })))
 
-  pub same_tag : Allows (tagged_lake cut) (made (TagCreate quickstart one (first cut))) → ⊥
-  same_tag = refuses_by (made (TagCreate quickstart one (first cut))) (tagged_scene cut) (λ may.
+  pub same_tag : Allows (tagged_lake cut) (entry_of (TagCreate quickstart one (first cut))) → ⊥
+  same_tag = refuses_by (entry_of (TagCreate quickstart one (first cut))) (tagged_scene cut) (λ may.
       let none = (the_quickstart (MayName one (first cut)) (counted (fresh cut)) (of_main (tagged cut) b0) may.possible).fresh in
       let there = get_one one (first cut) one in
       absurd (cc (sym none ∙ there)))
 
-  pub tag_goes : Allows (tagged_lake cut) (made (TagDelete quickstart one))
-  tag_goes = allows_by (made (TagDelete quickstart one)) (tagged_scene cut)
+  pub tag_goes : Allows (tagged_lake cut) (entry_of (TagDelete quickstart one))
+  tag_goes = allows_by (entry_of (TagDelete quickstart one)) (tagged_scene cut)
       (may (counted (fresh cut)) (tagged cut) b0 1 (TagDelete quickstart one) refl (omega arith)
       (on_quickstart (λ r. IsSome (get r.tags one)) (counted (fresh cut)) (of_main (tagged cut) b0) (ap is_some (get_one one (first cut) one))))
 
-  pub no_tag : Allows (tagged_lake cut) (made (TagDelete quickstart two)) → ⊥
-  no_tag = refuses_by (made (TagDelete quickstart two)) (tagged_scene cut) (λ may.
+  pub no_tag : Allows (tagged_lake cut) (entry_of (TagDelete quickstart two)) → ⊥
+  no_tag = refuses_by (entry_of (TagDelete quickstart two)) (tagged_scene cut) (λ may.
       let there = the_quickstart (λ r. IsSome (get r.tags two)) (counted (fresh cut)) (of_main (tagged cut) b0) may.possible in
       let none = ap is_some (absent one (first cut) two refl) in
       absurd (cc (sym none ∙ there)))
@@ -99,36 +99,36 @@ module _ (cut : Cut) where
   not_live : HasLiveCommit (of_main (expired cut) b0) (first cut) → ⊥
   not_live live = let gone = ap is_some (get_put {X = Unit {0}} empty (first cut).0 tt) in absurd (cc (sym gone ∙ live.1))
 
-  pub branch_at_expired : Allows (expired_lake cut) (made (BranchCreate quickstart mail (first cut))) → ⊥
-  branch_at_expired = refuses_by (made (BranchCreate quickstart mail (first cut))) (expired_scene cut) (λ may.
+  pub branch_at_expired : Allows (expired_lake cut) (entry_of (BranchCreate quickstart mail (first cut))) → ⊥
+  branch_at_expired = refuses_by (entry_of (BranchCreate quickstart mail (first cut))) (expired_scene cut) (λ may.
       not_live (the_quickstart (MayBegin mail (first cut)) (fresh cut) (of_main (expired cut) b0) may.possible).live)
 
-  pub tag_at_expired : Allows (expired_lake cut) (made (TagCreate quickstart one (first cut))) → ⊥
-  tag_at_expired = refuses_by (made (TagCreate quickstart one (first cut))) (expired_scene cut) (λ may.
+  pub tag_at_expired : Allows (expired_lake cut) (entry_of (TagCreate quickstart one (first cut))) → ⊥
+  tag_at_expired = refuses_by (entry_of (TagCreate quickstart one (first cut))) (expired_scene cut) (λ may.
       not_live (the_quickstart (MayName one (first cut)) (fresh cut) (of_main (expired cut) b0) may.possible).live)
 
   -- names that stand
-  pub repository_allowed : IsAdmissible (fresh cut) (bare_repository 0 main) (first_draft 0) → Allows (fresh cut) (made (RepoCreate elsewhere main 0))
+  pub repository_allowed : IsAdmissible (fresh cut) (bare_repository 0 main) (first_draft 0) → Allows (fresh cut) (entry_of (RepoCreate elsewhere main 0))
   repository_allowed admissible = may (fresh cut) r0 b0 1 (RepoCreate elsewhere main 0) refl (omega arith)
       (record { fresh = absent quickstart r0 elsewhere refl; plain = refl; admissible = admissible })
 
-  pub same_repository : Allows (fresh cut) (made (RepoCreate quickstart main 0)) → ⊥
+  pub same_repository : Allows (fresh cut) (entry_of (RepoCreate quickstart main 0)) → ⊥
   same_repository may = let there = get_one quickstart r0 quickstart in absurd (cc (sym may.possible.fresh ∙ there))
 
-  pub same_branch : Allows (fresh cut) (made (BranchCreate quickstart main (first cut))) → ⊥
+  pub same_branch : Allows (fresh cut) (entry_of (BranchCreate quickstart main (first cut))) → ⊥
   same_branch may =
       let none = (the_quickstart (MayBegin main (first cut)) (fresh cut) r0 may.possible).fresh in
       let there = get_one main b0 main in
       absurd (cc (sym none ∙ there))
 
   -- names like ids
-  pub repository_like_id : Allows (fresh cut) (made (RepoCreate elsewhere like_id 0)) → ⊥
+  pub repository_like_id : Allows (fresh cut) (entry_of (RepoCreate elsewhere like_id 0)) → ⊥
   repository_like_id may = let plain = may.possible.plain in absurd cc
 
-  pub branch_like_id : Allows (fresh cut) (made (BranchCreate quickstart like_id (first cut))) → ⊥
+  pub branch_like_id : Allows (fresh cut) (entry_of (BranchCreate quickstart like_id (first cut))) → ⊥
   branch_like_id may = let plain = (the_quickstart (MayBegin like_id (first cut)) (fresh cut) r0 may.possible).plain in absurd cc
 
-  pub tag_like_id : Allows (fresh cut) (made (TagCreate quickstart like_id (first cut))) → ⊥
+  pub tag_like_id : Allows (fresh cut) (entry_of (TagCreate quickstart like_id (first cut))) → ⊥
   tag_like_id may = let plain = (the_quickstart (MayName like_id (first cut)) (fresh cut) r0 may.possible).plain in absurd cc
 
   -- two branches
@@ -147,19 +147,19 @@ module _ (cut : Cut) where
   mails_apart : branched.default_branch ≡ mail → ⊥
   mails_apart is = let e = ap (λ (x : List ℕ). eq_by_cmp byte_order x mail) is in absurd cc
 
-  pub mail_goes : Allows (branched_lake cut) (made (BranchDelete quickstart mail))
-  mail_goes = allows_by (made (BranchDelete quickstart mail)) branched_scene (record {
+  pub mail_goes : Allows (branched_lake cut) (entry_of (BranchDelete quickstart mail))
+  mail_goes = allows_by (entry_of (BranchDelete quickstart mail)) branched_scene (record {
     running = refl;
     room = omega arith;
     possible = on_quickstart _ (counted (fresh cut)) branched (clean_branch (first cut), mail_there, record { other = mails_apart; unprotected = refl });
   })
 
-  pub main_stays : Allows (branched_lake cut) (made (BranchDelete quickstart main)) → ⊥
-  main_stays = refuses_by (made (BranchDelete quickstart main)) branched_scene (λ may. (the_quickstart _ (counted (fresh cut)) branched may.possible).2.other refl)
+  pub main_stays : Allows (branched_lake cut) (entry_of (BranchDelete quickstart main)) → ⊥
+  main_stays = refuses_by (entry_of (BranchDelete quickstart main)) branched_scene (λ may. (the_quickstart _ (counted (fresh cut)) branched may.possible).2.other refl)
 
-  pub protected_stays : Allows (after (branched_lake cut) protecting) (made (BranchDelete quickstart mail)) → ⊥
-  protected_stays = refuses_by (made (BranchDelete quickstart mail))
-      (ap (λ (x : State). after x protecting) branched_scene
+  pub protected_stays : Allows (after (branched_lake cut) protect_entry) (entry_of (BranchDelete quickstart mail)) → ⊥
+  protected_stays = refuses_by (entry_of (BranchDelete quickstart mail))
+      (ap (λ (x : State). after x protect_entry) branched_scene
       ∙ ap (λ (m : ByteMap Repository). record (counted (counted (fresh cut))) { repositories = m }) (change_one quickstart (with_notes ma_protected name.Protection) branched refl))
       (λ may.
       let free = (the_quickstart _ (counted (counted (fresh cut))) (with_notes ma_protected name.Protection branched) may.possible).2.unprotected in

@@ -9,7 +9,7 @@ use Rattle.lake_model.specs.State.{State}
 use Rattle.lake_model.specs.Naming.{IsGarbage}
 use Rattle.lake_model.specs.History.{Allows}
 use Rattle.lake_model.specs.Soundness.{fresh}
-use Rattle.lake_histories.specs.Words.{made}
+use Rattle.lake_histories.specs.Words.{entry_of}
 use Rattle.lake_histories.specs.TakenBack.{lake_of_deletion, lake_of_upload}
 use Rattle.lake_histories.proofs.TakenBackLemmas.{garbage, named, to_deletion}
 
@@ -21,7 +21,7 @@ pub one_element : {X : Type 0} (x : X) → Contains (x ∷ []) x
 one_element x = (0, omega arith, refl)
 
 module _ (cut : Cut) (digest : Digest) where
-  pub condemn_allowed : Allows (lake_of_deletion cut digest) (made (Condemn (0 ∷ [])))
+  pub condemn_allowed : Allows (lake_of_deletion cut digest) (entry_of (Condemn (0 ∷ [])))
   condemn_allowed = record {
     running = ap (λ (x : State). x.stopped) (to_deletion cut digest).comes;
     room = subst (λ (x : State). x.entries < 4194304) (sym (to_deletion cut digest).comes) (omega arith);
@@ -31,11 +31,11 @@ module _ (cut : Cut) (digest : Digest) where
     };
   }
 
-  pub condemn_twice : Allows (lake_of_deletion cut digest) (made (Condemn (0 ∷ 0 ∷ []))) → ⊥
+  pub condemn_twice : Allows (lake_of_deletion cut digest) (entry_of (Condemn (0 ∷ 0 ∷ []))) → ⊥
   condemn_twice may = may.possible.distinct.0 (one_element 0)
 
-  pub condemn_named : Allows (lake_of_upload cut digest) (made (Condemn (0 ∷ []))) → ⊥
+  pub condemn_named : Allows (lake_of_upload cut digest) (entry_of (Condemn (0 ∷ []))) → ⊥
   condemn_named may = (may.possible.garbage 0 (one_element 0)).unnamed (named cut digest)
 
-pub condemn_unknown : (cut : Cut) → Allows (fresh cut) (made (Condemn (0 ∷ []))) → ⊥
+pub condemn_unknown : (cut : Cut) → Allows (fresh cut) (entry_of (Condemn (0 ∷ []))) → ⊥
 condemn_unknown cut may = let out : 0 < 0 = (may.possible.garbage 0 (one_element 0)).given_out in absurd (omega arith)

@@ -24,7 +24,7 @@ use Rattle.lake_model.specs.NoteChanges.{IsNoteChange}
 use Rattle.lake_model.specs.Uncommitted.{MaySeal, after_ticket_take, copied_map}
 use Rattle.lake_model.specs.History.{Allows, IsPossible}
 use Rattle.lake_model.specs.Soundness.{fresh}
-use Rattle.lake_histories.specs.Words.{quickstart, main, outside, own, made, made_by, taken, put, deleted, sealed, committed, IsCommitAdmissible}
+use Rattle.lake_histories.specs.Words.{quickstart, main, outside, own, entry_of, entry_by, ticket_entry, put_entry, delete_entry, seal_entry, commit_entry, IsCommitAdmissible}
 use Rattle.lake_refusals.specs.Lakes.{a, b, one_day, stopped_lake, lake_of_entries, ticket_lake, retaining_lake, ready_lake, protected_lake}
 use Rattle.lake_histories.proofs.SceneLemmas.{scene, of_main, counted, get_one, main_there, on_main, the_main}
 use Rattle.lake_histories.proofs.EntriesLemmas.{first_repository, first_branch, may}
@@ -50,22 +50,22 @@ module _ (cut : Cut) where
   pub stopped_others : MaySeal (stopped_lake cut) quickstart main seal.Commit
   stopped_others = on_main (λ r x. IsUnprotected r main) (record (counted (fresh cut)) { stopped = true }) r0 b0 refl
 
-  pub stopped_refused : Allows (stopped_lake cut) sealed → ⊥
+  pub stopped_refused : Allows (stopped_lake cut) seal_entry → ⊥
   stopped_refused may = let running = may.running in absurd cc
 
   abbrev numbered : ℕ → State
   numbered entries = record (fresh cut) { entries = entries }
 
-  pub last_allowed : Allows (lake_of_entries 4194303 cut) sealed
+  pub last_allowed : Allows (lake_of_entries 4194303 cut) seal_entry
   last_allowed = may (numbered 4194303) r0 b0 1 (Seal quickstart main seal.Commit) refl (omega arith) (on_main (λ r x. IsUnprotected r main) (numbered 4194303) r0 b0 refl)
 
-  pub full_refused : Allows (lake_of_entries 4194304 cut) sealed → ⊥
+  pub full_refused : Allows (lake_of_entries 4194304 cut) seal_entry → ⊥
   full_refused may = let room = may.room in absurd (omega arith)
 
-  pub take_allowed : Allows (fresh cut) (taken 0)
+  pub take_allowed : Allows (fresh cut) (ticket_entry 0)
   take_allowed = may (fresh cut) r0 b0 1 (TicketTake quickstart main 0) refl (omega arith) (on_main (λ r x. IsUnprotected r main) (fresh cut) r0 b0 refl, refl)
 
-  pub take_refused : Allows (fresh cut) (taken 1) → ⊥
+  pub take_refused : Allows (fresh cut) (ticket_entry 1) → ⊥
   take_refused may = let next : 1 ≡ 0 = may.possible.1 in absurd (omega arith)
 
   -- tickets
@@ -78,19 +78,19 @@ module _ (cut : Cut) where
   not_on_other : get ticketed.tickets 0 ≡ Some 2 → ⊥
   not_on_other is = let n : ◌≡◌ {A = ℕ} 1 2 = ap (λ (o : Option ℕ). unwrap_or o 0) (sym on_ticket ∙ is) in absurd (omega (arith, n))
 
-  pub put_allowed : (digest : Digest) → Allows (ticket_lake cut) (put a (own digest 0))
+  pub put_allowed : (digest : Digest) → Allows (ticket_lake cut) (put_entry a (own digest 0))
   put_allowed digest = may ticketed r0 b0 1 (Stage quickstart main a (Put (own digest 0))) refl (omega arith) (on_main (λ r x. IsUnprotected r main) ticketed r0 b0 refl, on_ticket)
 
-  pub put_by_other : (digest : Digest) → Allows (ticket_lake cut) (made_by 2 (Stage quickstart main a (Put (own digest 0)))) → ⊥
+  pub put_by_other : (digest : Digest) → Allows (ticket_lake cut) (entry_by 2 (Stage quickstart main a (Put (own digest 0)))) → ⊥
   put_by_other digest may = not_on_other may.possible.1
 
-  pub put_without : (digest : Digest) → Allows (fresh cut) (put a (own digest 0)) → ⊥
+  pub put_without : (digest : Digest) → Allows (fresh cut) (put_entry a (own digest 0)) → ⊥
   put_without digest may = let has : get (fresh cut).tickets 0 ≡ Some 1 = may.possible.1 in absurd (cc (sym (get-empty {X = ℕ} nat_cmp 0) ∙ has))
 
-  pub drop_allowed : Allows (ticket_lake cut) (made (TicketDrop 0))
+  pub drop_allowed : Allows (ticket_lake cut) (entry_of (TicketDrop 0))
   drop_allowed = may ticketed r0 b0 1 (TicketDrop 0) refl (omega arith) on_ticket
 
-  pub drop_by_other : Allows (ticket_lake cut) (made_by 2 (TicketDrop 0)) → ⊥
+  pub drop_by_other : Allows (ticket_lake cut) (entry_by 2 (TicketDrop 0)) → ⊥
   drop_by_other may = not_on_other may.possible
 
   -- copies
@@ -103,40 +103,40 @@ module _ (cut : Cut) where
   at_b : option_and_then (λ (map : KeyMapValue). get map b) (copied_map (of_main r0 (a_sealed cut)) (source.Branch main)) ≡ None
   at_b = copied r0 (a_sealed cut) b ∙ simp (no_change, get_one a (Put outside) b, first_map cut, no_entry)
 
-  pub copy_allowed : Allows (ready_lake cut) (made (Copy quickstart main b (source.Branch main) a outside))
-  copy_allowed = allows_by (made (Copy quickstart main b (source.Branch main) a outside)) (ready_scene cut)
+  pub copy_allowed : Allows (ready_lake cut) (entry_of (Copy quickstart main b (source.Branch main) a outside))
+  copy_allowed = allows_by (entry_of (Copy quickstart main b (source.Branch main) a outside)) (ready_scene cut)
       (may (second_state cut) r0 (a_sealed cut) 1 (Copy quickstart main b (source.Branch main) a outside) refl (omega arith)
       (on_main (Copied a outside) (second_state cut) r0 (a_sealed cut) (refl, at_a)))
 
-  pub copy_of_nothing : Allows (ready_lake cut) (made (Copy quickstart main a (source.Branch main) b outside)) → ⊥
-  copy_of_nothing = refuses_by (made (Copy quickstart main a (source.Branch main) b outside)) (ready_scene cut) (λ may.
+  pub copy_of_nothing : Allows (ready_lake cut) (entry_of (Copy quickstart main a (source.Branch main) b outside)) → ⊥
+  copy_of_nothing = refuses_by (entry_of (Copy quickstart main a (source.Branch main) b outside)) (ready_scene cut) (λ may.
       let has = (the_main (Copied b outside) (second_state cut) r0 (a_sealed cut) may.possible).1 in absurd (cc (sym at_b ∙ has)))
 
-  pub copy_of_another : (digest : Digest) → Allows (ready_lake cut) (made (Copy quickstart main b (source.Branch main) a (own digest 0))) → ⊥
-  copy_of_another digest = refuses_by (made (Copy quickstart main b (source.Branch main) a (own digest 0))) (ready_scene cut) (λ may.
+  pub copy_of_another : (digest : Digest) → Allows (ready_lake cut) (entry_of (Copy quickstart main b (source.Branch main) a (own digest 0))) → ⊥
+  copy_of_another digest = refuses_by (entry_of (Copy quickstart main b (source.Branch main) a (own digest 0))) (ready_scene cut) (λ may.
       let has = (the_main (Copied a (own digest 0)) (second_state cut) r0 (a_sealed cut) may.possible).1 in
       let same : outside ≡ own digest 0 = cc (sym at_a ∙ has) in
       let places = ap (λ (x : EntryValue). x.place) same in absurd cc)
 
   -- settings
-  pub deletion_allowed : Allows (retaining_lake cut) (made (NoteSet quickstart name.Retention None))
-  deletion_allowed = allows_by (made (NoteSet quickstart name.Retention None)) (retaining_scene cut)
+  pub deletion_allowed : Allows (retaining_lake cut) (entry_of (NoteSet quickstart name.Retention None))
+  deletion_allowed = allows_by (entry_of (NoteSet quickstart name.Retention None)) (retaining_scene cut)
       (may (counted (fresh cut)) (with_notes one_day name.Retention r0) b0 1 (NoteSet quickstart name.Retention None) refl (omega arith)
       (on_quickstart (IsNoteChange name.Retention None) (counted (fresh cut)) (of_main (with_notes one_day name.Retention r0) b0) refl))
 
-  pub deletion_refused : Allows (fresh cut) (made (NoteSet quickstart name.Retention None)) → ⊥
+  pub deletion_refused : Allows (fresh cut) (entry_of (NoteSet quickstart name.Retention None)) → ⊥
   deletion_refused may = let there = the_quickstart (IsNoteChange name.Retention None) (fresh cut) r0 may.possible in absurd cc
 
-  pub setting_allowed : Allows (fresh cut) (made (NoteSet quickstart name.Retention (Some one_day)))
+  pub setting_allowed : Allows (fresh cut) (entry_of (NoteSet quickstart name.Retention (Some one_day)))
   setting_allowed = may (fresh cut) r0 b0 1 (NoteSet quickstart name.Retention (Some one_day)) refl (omega arith)
       (on_quickstart (IsNoteChange name.Retention (Some one_day)) (fresh cut) r0 refl)
 
-  pub setting_refused : Allows (fresh cut) (made (NoteSet quickstart name.Hooks (Some one_day))) → ⊥
+  pub setting_refused : Allows (fresh cut) (entry_of (NoteSet quickstart name.Hooks (Some one_day))) → ⊥
   setting_refused may = let named = the_quickstart (IsNoteChange name.Hooks (Some one_day)) (fresh cut) r0 may.possible in absurd cc
 
   -- what is possible in the ready lake, and isn't where it is protected
-  ready : (operation : Operation) → IsPossible (scene (second_state cut) r0 (a_sealed cut)) 1 operation → Allows (ready_lake cut) (made operation)
-  ready operation possible = allows_by (made operation) (ready_scene cut) (may (second_state cut) r0 (a_sealed cut) 1 operation refl (omega arith) possible)
+  ready : (operation : Operation) → IsPossible (scene (second_state cut) r0 (a_sealed cut)) 1 operation → Allows (ready_lake cut) (entry_of operation)
+  ready operation possible = allows_by (entry_of operation) (ready_scene cut) (may (second_state cut) r0 (a_sealed cut) 1 operation refl (omega arith) possible)
 
   ready_free : HasBranch (scene (second_state cut) r0 (a_sealed cut)) quickstart main (λ r x. IsUnprotected r main)
   ready_free = on_main (λ r x. IsUnprotected r main) (second_state cut) r0 (a_sealed cut) refl
@@ -147,50 +147,50 @@ module _ (cut : Cut) where
   barred : (P : Repository → Branch → Type 0) → ((r : Repository) (x : Branch) → P r x → IsUnprotected r main) → HasBranch (scene (counted (second_state cut)) (guarded cut) (a_sealed cut)) quickstart main P → ⊥
   barred P free has = not_free (free _ _ (the_main P (counted (second_state cut)) (guarded cut) (a_sealed cut) has))
 
-  pub ready_take : Allows (ready_lake cut) (taken 0)
+  pub ready_take : Allows (ready_lake cut) (ticket_entry 0)
   ready_take = ready (TicketTake quickstart main 0) (ready_free, refl)
 
-  pub barred_take : Allows (protected_lake cut) (taken 0) → ⊥
-  barred_take = refuses_by (taken 0) (protected_scene cut) (λ may. barred (λ r x. IsUnprotected r main) (λ r x is. is) may.possible.0)
+  pub barred_take : Allows (protected_lake cut) (ticket_entry 0) → ⊥
+  barred_take = refuses_by (ticket_entry 0) (protected_scene cut) (λ may. barred (λ r x. IsUnprotected r main) (λ r x is. is) may.possible.0)
 
-  pub ready_put : Allows (ready_lake cut) (put b outside)
+  pub ready_put : Allows (ready_lake cut) (put_entry b outside)
   ready_put = ready (Stage quickstart main b (Put outside)) (ready_free, tt)
 
-  pub barred_put : Allows (protected_lake cut) (put b outside) → ⊥
-  barred_put = refuses_by (put b outside) (protected_scene cut) (λ may. barred (λ r x. IsUnprotected r main) (λ r x is. is) may.possible.0)
+  pub barred_put : Allows (protected_lake cut) (put_entry b outside) → ⊥
+  barred_put = refuses_by (put_entry b outside) (protected_scene cut) (λ may. barred (λ r x. IsUnprotected r main) (λ r x is. is) may.possible.0)
 
-  pub ready_deletion : Allows (ready_lake cut) (deleted a)
+  pub ready_deletion : Allows (ready_lake cut) (delete_entry a)
   ready_deletion = ready (Stage quickstart main a Delete) (ready_free, tt)
 
-  pub barred_deletion : Allows (protected_lake cut) (deleted a) → ⊥
-  barred_deletion = refuses_by (deleted a) (protected_scene cut) (λ may. barred (λ r x. IsUnprotected r main) (λ r x is. is) may.possible.0)
+  pub barred_deletion : Allows (protected_lake cut) (delete_entry a) → ⊥
+  barred_deletion = refuses_by (delete_entry a) (protected_scene cut) (λ may. barred (λ r x. IsUnprotected r main) (λ r x is. is) may.possible.0)
 
-  pub barred_copy : Allows (protected_lake cut) (made (Copy quickstart main b (source.Branch main) a outside)) → ⊥
-  barred_copy = refuses_by (made (Copy quickstart main b (source.Branch main) a outside)) (protected_scene cut) (λ may. barred (Copied a outside) (λ r x is. is.0) may.possible)
+  pub barred_copy : Allows (protected_lake cut) (entry_of (Copy quickstart main b (source.Branch main) a outside)) → ⊥
+  barred_copy = refuses_by (entry_of (Copy quickstart main b (source.Branch main) a outside)) (protected_scene cut) (λ may. barred (Copied a outside) (λ r x is. is.0) may.possible)
 
-  pub ready_reset : Allows (ready_lake cut) (made (Reset quickstart main what.All))
+  pub ready_reset : Allows (ready_lake cut) (entry_of (Reset quickstart main what.All))
   ready_reset = ready (Reset quickstart main what.All) ready_free
 
-  pub barred_reset : Allows (protected_lake cut) (made (Reset quickstart main what.All)) → ⊥
-  barred_reset = refuses_by (made (Reset quickstart main what.All)) (protected_scene cut) (λ may. barred (λ r x. IsUnprotected r main) (λ r x is. is) may.possible)
+  pub barred_reset : Allows (protected_lake cut) (entry_of (Reset quickstart main what.All)) → ⊥
+  barred_reset = refuses_by (entry_of (Reset quickstart main what.All)) (protected_scene cut) (λ may. barred (λ r x. IsUnprotected r main) (λ r x is. is) may.possible)
 
-  pub ready_seal : Allows (ready_lake cut) sealed
+  pub ready_seal : Allows (ready_lake cut) seal_entry
   ready_seal = ready (Seal quickstart main seal.Commit) ready_free
 
-  pub barred_seal : Allows (protected_lake cut) sealed → ⊥
-  barred_seal = refuses_by sealed (protected_scene cut) (λ may. barred (λ r x. IsUnprotected r main) (λ r x is. is) may.possible)
+  pub barred_seal : Allows (protected_lake cut) seal_entry → ⊥
+  barred_seal = refuses_by seal_entry (protected_scene cut) (λ may. barred (λ r x. IsUnprotected r main) (λ r x is. is) may.possible)
 
-  pub ready_commit : (about : AboutValue) → IsCommitAdmissible (ready_lake cut) about → Allows (ready_lake cut) (committed about)
-  ready_commit about admissible = allows_by (committed about) (ready_scene cut)
+  pub ready_commit : (about : AboutValue) → IsCommitAdmissible (ready_lake cut) about → Allows (ready_lake cut) (commit_entry about)
+  ready_commit about admissible = allows_by (commit_entry about) (ready_scene cut)
       (may_commit (second_state cut) r0 (a_sealed cut) about refl (omega arith) refl refl
       (apart_at (sealed_map r0 (a_sealed cut)) (head_map r0 (a_sealed cut)) a outside (has_a cut) (lacks_a cut))
       (subst (λ (x : State). IsCommitAdmissible x about) (ready_scene cut) admissible))
 
-  pub barred_commit : (about : AboutValue) → Allows (protected_lake cut) (committed about) → ⊥
-  barred_commit about = refuses_by (committed about) (protected_scene cut) (λ may.
+  pub barred_commit : (about : AboutValue) → Allows (protected_lake cut) (commit_entry about) → ⊥
+  barred_commit about = refuses_by (commit_entry about) (protected_scene cut) (λ may.
       barred (IsCommittable (scene (counted (second_state cut)) (guarded cut) (a_sealed cut)) main about) (λ r x is. is.unprotected) may.possible)
 
-  pub other_seal : Allows (protected_lake cut) (made (Seal quickstart main seal.Other))
-  other_seal = allows_by (made (Seal quickstart main seal.Other)) (protected_scene cut)
+  pub other_seal : Allows (protected_lake cut) (entry_of (Seal quickstart main seal.Other))
+  other_seal = allows_by (entry_of (Seal quickstart main seal.Other)) (protected_scene cut)
       (may (counted (second_state cut)) (guarded cut) (a_sealed cut) 1 (Seal quickstart main seal.Other) refl (omega arith)
       (on_main (λ r x. Unit {0}) (counted (second_state cut)) (guarded cut) (a_sealed cut) tt))

@@ -13,7 +13,7 @@ use Rattle.lake_model.specs.Parts.{in_repository}
 use Rattle.lake_model.specs.Removal.{with_expired}
 use Rattle.lake_model.specs.History.{after, replay}
 use Rattle.lake_model.specs.Soundness.{fresh}
-use Rattle.lake_histories.specs.Words.{quickstart, main, first, outside, made, taken, put, sealed}
+use Rattle.lake_histories.specs.Words.{quickstart, main, first, outside, entry_of, ticket_entry, put_entry, seal_entry}
 
 -- paths
 abbrev pub a : List ℕ
@@ -50,15 +50,15 @@ abbrev pub ma_protected : Note
 ma_protected = Protection (codes "ma*" ∷ [])
 
 -- they are protected from then on
-abbrev pub protecting : HistoryEntry
-protecting = made (NoteSet quickstart name.Protection (Some ma_protected))
+abbrev pub protect_entry : HistoryEntry
+protect_entry = entry_of (NoteSet quickstart name.Protection (Some ma_protected))
 
 -- the store failed as `main` was to be sealed
-abbrev pub failed : HistoryEntry
-failed = record { by = record { seat = 1; call = 0 }; kind = Faulted (Seal quickstart main seal.Commit) }
+abbrev pub fault_entry : HistoryEntry
+fault_entry = record { by = record { seat = 1; call = 0 }; kind = Faulted (Seal quickstart main seal.Commit) }
 
 abbrev pub stopped_lake : Cut → State
-stopped_lake cut = after (fresh cut) failed
+stopped_lake cut = after (fresh cut) fault_entry
 
 -- a fresh lake, but for the number of entries
 abbrev pub lake_of_entries : ℕ → Cut → State
@@ -66,11 +66,11 @@ lake_of_entries entries cut = record (fresh cut) { entries = entries }
 
 -- `mail` begins at the first commit
 abbrev pub branched_lake : Cut → State
-branched_lake cut = after (fresh cut) (made (BranchCreate quickstart mail (first cut)))
+branched_lake cut = after (fresh cut) (entry_of (BranchCreate quickstart mail (first cut)))
 
 -- the tag `one` names the first commit
 abbrev pub tagged_lake : Cut → State
-tagged_lake cut = after (fresh cut) (made (TagCreate quickstart one (first cut)))
+tagged_lake cut = after (fresh cut) (entry_of (TagCreate quickstart one (first cut)))
 
 -- a fresh lake, but for the first commit, which is expired: no legal history gives it
 abbrev pub expired_lake : Cut → State
@@ -78,16 +78,16 @@ expired_lake cut = in_repository quickstart (with_expired (first cut)) (fresh cu
 
 -- commits are kept for a day
 abbrev pub retaining_lake : Cut → State
-retaining_lake cut = after (fresh cut) (made (NoteSet quickstart name.Retention (Some one_day)))
+retaining_lake cut = after (fresh cut) (entry_of (NoteSet quickstart name.Retention (Some one_day)))
 
 -- the number 0 is on a ticket of the seat 1
 abbrev pub ticket_lake : Cut → State
-ticket_lake cut = after (fresh cut) (taken 0)
+ticket_lake cut = after (fresh cut) (ticket_entry 0)
 
 -- the outside object is put at `a`, and sealed
 abbrev pub ready_lake : Cut → State
-ready_lake cut = replay (fresh cut) (put a outside ∷ sealed ∷ [])
+ready_lake cut = replay (fresh cut) (put_entry a outside ∷ seal_entry ∷ [])
 
 -- so it is, and then `main` is protected
 abbrev pub protected_lake : Cut → State
-protected_lake cut = after (ready_lake cut) protecting
+protected_lake cut = after (ready_lake cut) protect_entry

@@ -5,16 +5,16 @@ ghost use Rattle.lake_format.specs.declared.cut.Cut.{Cut};
 ghost use Rattle.lake_model.specs.declared.history.Operation.TheVariants.{Condemn};
 ghost use Rattle.lake_model.specs.History.{Allows};
 ghost use Rattle.lake_model.specs.Soundness.{fresh};
-ghost use Rattle.lake_histories.specs.Words.{made};
+ghost use Rattle.lake_histories.specs.Words.{entry_of};
 ghost use Rattle.lake_histories.specs.TakenBack as taken_back;
 
 /// Garbage is condemned, once; a number that is named isn't, nor one that wasn't given out.
 pub fn condemned()
     ensures allowed { (cut : Cut) (digest : Digest)
-        → Allows (taken_back.lake_of_deletion cut digest) (made (Condemn (0 ∷ []))) }
+        → Allows (taken_back.lake_of_deletion cut digest) (entry_of (Condemn (0 ∷ []))) }
     ensures twice { (cut : Cut) (digest : Digest)
-        → Allows (taken_back.lake_of_deletion cut digest) (made (Condemn (0 ∷ 0 ∷ []))) → ⊥ }
+        → Allows (taken_back.lake_of_deletion cut digest) (entry_of (Condemn (0 ∷ 0 ∷ []))) → ⊥ }
     ensures named { (cut : Cut) (digest : Digest)
-        → Allows (taken_back.lake_of_upload cut digest) (made (Condemn (0 ∷ []))) → ⊥ }
-    ensures unknown { (cut : Cut) → Allows (fresh cut) (made (Condemn (0 ∷ []))) → ⊥ }
+        → Allows (taken_back.lake_of_upload cut digest) (entry_of (Condemn (0 ∷ []))) → ⊥ }
+    ensures unknown { (cut : Cut) → Allows (fresh cut) (entry_of (Condemn (0 ∷ []))) → ⊥ }
 {}

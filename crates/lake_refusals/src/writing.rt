@@ -15,72 +15,72 @@ ghost use Rattle.lake_model.specs.Commits.{IsMerge, IsPick};
 ghost use Rattle.lake_model.specs.Uncommitted.{MaySeal};
 ghost use Rattle.lake_model.specs.History.{Allows};
 ghost use Rattle.lake_model.specs.Soundness.{fresh};
-ghost use Rattle.lake_histories.specs.Words.{quickstart, main, outside, own, made, made_by, taken, put, deleted, sealed, committed, IsCommitAdmissible};
+ghost use Rattle.lake_histories.specs.Words.{quickstart, main, outside, own, entry_of, entry_by, ticket_entry, put_entry, delete_entry, seal_entry, commit_entry, IsCommitAdmissible};
 ghost use Rattle.lake_refusals.specs.Lakes.{a, b, one_day, stopped_lake, lake_of_entries, ticket_lake, retaining_lake, ready_lake, protected_lake};
 
 /// Nothing comes after a fault of the store, though it be possible.
 pub fn stopped()
     ensures others { (cut : Cut) → MaySeal (stopped_lake cut) quickstart main seal.Commit }
-    ensures refused { (cut : Cut) → Allows (stopped_lake cut) sealed → ⊥ }
+    ensures refused { (cut : Cut) → Allows (stopped_lake cut) seal_entry → ⊥ }
 {}
 
 /// A history has at most 4,194,304 entries.
 pub fn full_history()
-    ensures allowed { (cut : Cut) → Allows (lake_of_entries 4194303 cut) sealed }
-    ensures refused { (cut : Cut) → Allows (lake_of_entries 4194304 cut) sealed → ⊥ }
+    ensures allowed { (cut : Cut) → Allows (lake_of_entries 4194303 cut) seal_entry }
+    ensures refused { (cut : Cut) → Allows (lake_of_entries 4194304 cut) seal_entry → ⊥ }
 {}
 
 /// The number isn't the next one.
 pub fn number_not_next()
-    ensures allowed { (cut : Cut) → Allows (fresh cut) (taken 0) }
-    ensures refused { (cut : Cut) → Allows (fresh cut) (taken 1) → ⊥ }
+    ensures allowed { (cut : Cut) → Allows (fresh cut) (ticket_entry 0) }
+    ensures refused { (cut : Cut) → Allows (fresh cut) (ticket_entry 1) → ⊥ }
 {}
 
 /// The ticket is another seat's, or there is none.
 pub fn ticket_of_another()
-    ensures allowed { (cut : Cut) (digest : Digest) → Allows (ticket_lake cut) (put a (own digest 0)) }
+    ensures allowed { (cut : Cut) (digest : Digest) → Allows (ticket_lake cut) (put_entry a (own digest 0)) }
     ensures refused { (cut : Cut) (digest : Digest)
-        → Allows (ticket_lake cut) (made_by 2 (Stage quickstart main a (Put (own digest 0)))) → ⊥ }
-    ensures without { (cut : Cut) (digest : Digest) → Allows (fresh cut) (put a (own digest 0)) → ⊥ }
-    ensures allowed_drop { (cut : Cut) → Allows (ticket_lake cut) (made (TicketDrop 0)) }
-    ensures refused_drop { (cut : Cut) → Allows (ticket_lake cut) (made_by 2 (TicketDrop 0)) → ⊥ }
+        → Allows (ticket_lake cut) (entry_by 2 (Stage quickstart main a (Put (own digest 0)))) → ⊥ }
+    ensures without { (cut : Cut) (digest : Digest) → Allows (fresh cut) (put_entry a (own digest 0)) → ⊥ }
+    ensures allowed_drop { (cut : Cut) → Allows (ticket_lake cut) (entry_of (TicketDrop 0)) }
+    ensures refused_drop { (cut : Cut) → Allows (ticket_lake cut) (entry_by 2 (TicketDrop 0)) → ⊥ }
 {}
 
 /// The source of a copy hasn't the entry: nothing is at the path, or another entry.
 pub fn entry_not_at_source()
     ensures allowed { (cut : Cut)
-        → Allows (ready_lake cut) (made (Copy quickstart main b (source.Branch main) a outside)) }
+        → Allows (ready_lake cut) (entry_of (Copy quickstart main b (source.Branch main) a outside)) }
     ensures nothing_there { (cut : Cut)
-        → Allows (ready_lake cut) (made (Copy quickstart main a (source.Branch main) b outside)) → ⊥ }
+        → Allows (ready_lake cut) (entry_of (Copy quickstart main a (source.Branch main) b outside)) → ⊥ }
     ensures another { (cut : Cut) (digest : Digest)
-        → Allows (ready_lake cut) (made (Copy quickstart main b (source.Branch main) a (own digest 0))) → ⊥ }
+        → Allows (ready_lake cut) (entry_of (Copy quickstart main b (source.Branch main) a (own digest 0))) → ⊥ }
 {}
 
 /// What a protected branch refuses, and what is allowed where it isn't protected.
 pub fn protected_branch()
-    ensures allowed_take { (cut : Cut) → Allows (ready_lake cut) (taken 0) }
-    ensures refused_take { (cut : Cut) → Allows (protected_lake cut) (taken 0) → ⊥ }
-    ensures allowed_put { (cut : Cut) → Allows (ready_lake cut) (put b outside) }
-    ensures refused_put { (cut : Cut) → Allows (protected_lake cut) (put b outside) → ⊥ }
-    ensures allowed_deletion { (cut : Cut) → Allows (ready_lake cut) (deleted a) }
-    ensures refused_deletion { (cut : Cut) → Allows (protected_lake cut) (deleted a) → ⊥ }
+    ensures allowed_take { (cut : Cut) → Allows (ready_lake cut) (ticket_entry 0) }
+    ensures refused_take { (cut : Cut) → Allows (protected_lake cut) (ticket_entry 0) → ⊥ }
+    ensures allowed_put { (cut : Cut) → Allows (ready_lake cut) (put_entry b outside) }
+    ensures refused_put { (cut : Cut) → Allows (protected_lake cut) (put_entry b outside) → ⊥ }
+    ensures allowed_deletion { (cut : Cut) → Allows (ready_lake cut) (delete_entry a) }
+    ensures refused_deletion { (cut : Cut) → Allows (protected_lake cut) (delete_entry a) → ⊥ }
     ensures allowed_copy { (cut : Cut)
-        → Allows (ready_lake cut) (made (Copy quickstart main b (source.Branch main) a outside)) }
+        → Allows (ready_lake cut) (entry_of (Copy quickstart main b (source.Branch main) a outside)) }
     ensures refused_copy { (cut : Cut)
-        → Allows (protected_lake cut) (made (Copy quickstart main b (source.Branch main) a outside)) → ⊥ }
-    ensures allowed_reset { (cut : Cut) → Allows (ready_lake cut) (made (Reset quickstart main what.All)) }
-    ensures refused_reset { (cut : Cut) → Allows (protected_lake cut) (made (Reset quickstart main what.All)) → ⊥ }
-    ensures allowed_seal { (cut : Cut) → Allows (ready_lake cut) sealed }
-    ensures refused_seal { (cut : Cut) → Allows (protected_lake cut) sealed → ⊥ }
+        → Allows (protected_lake cut) (entry_of (Copy quickstart main b (source.Branch main) a outside)) → ⊥ }
+    ensures allowed_reset { (cut : Cut) → Allows (ready_lake cut) (entry_of (Reset quickstart main what.All)) }
+    ensures refused_reset { (cut : Cut) → Allows (protected_lake cut) (entry_of (Reset quickstart main what.All)) → ⊥ }
+    ensures allowed_seal { (cut : Cut) → Allows (ready_lake cut) seal_entry }
+    ensures refused_seal { (cut : Cut) → Allows (protected_lake cut) seal_entry → ⊥ }
     ensures allowed_commit { (cut : Cut) (about : AboutValue) → IsCommitAdmissible (ready_lake cut) about
-        → Allows (ready_lake cut) (committed about) }
-    ensures refused_commit { (cut : Cut) (about : AboutValue) → Allows (protected_lake cut) (committed about) → ⊥ }
+        → Allows (ready_lake cut) (commit_entry about) }
+    ensures refused_commit { (cut : Cut) (about : AboutValue) → Allows (protected_lake cut) (commit_entry about) → ⊥ }
 {}
 
 /// What a protected branch accepts: a seal for something else than a commit, and merges and picks, which are possible
 /// whatever branches are protected.
 pub fn accepted_where_protected()
-    ensures seal { (cut : Cut) → Allows (protected_lake cut) (made (Seal quickstart main seal.Other)) }
+    ensures seal { (cut : Cut) → Allows (protected_lake cut) (entry_of (Seal quickstart main seal.Other)) }
     ensures merge { (state : State) (branch : List ℕ) (id : Digest) (strategy : Strategy) (about : AboutValue)
         (r : Repository) (b : Branch) (patterns : List (List ℕ))
         → IsMerge state branch id strategy about r b
@@ -96,11 +96,11 @@ pub fn accepted_where_protected()
 /// The setting isn't there, or the value is another setting's.
 pub fn no_setting()
     ensures allowed_deletion { (cut : Cut)
-        → Allows (retaining_lake cut) (made (NoteSet quickstart name.Retention None)) }
+        → Allows (retaining_lake cut) (entry_of (NoteSet quickstart name.Retention None)) }
     ensures refused_deletion { (cut : Cut)
-        → Allows (fresh cut) (made (NoteSet quickstart name.Retention None)) → ⊥ }
+        → Allows (fresh cut) (entry_of (NoteSet quickstart name.Retention None)) → ⊥ }
     ensures allowed_setting { (cut : Cut)
-        → Allows (fresh cut) (made (NoteSet quickstart name.Retention (Some one_day))) }
+        → Allows (fresh cut) (entry_of (NoteSet quickstart name.Retention (Some one_day))) }
     ensures refused_setting { (cut : Cut)
-        → Allows (fresh cut) (made (NoteSet quickstart name.Hooks (Some one_day))) → ⊥ }
+        → Allows (fresh cut) (entry_of (NoteSet quickstart name.Hooks (Some one_day))) → ⊥ }
 {}
