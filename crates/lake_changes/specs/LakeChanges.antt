@@ -14,6 +14,7 @@ use Rattle.lake_model.specs.Parts.{changed_at}
 use Rattle.lake_model.specs.Uncommitted.{put_number}
 use Rattle.lake_changes.specs.declared.branch.BranchChange.TheVariants as branch
 use Rattle.lake_state.specs.Branches.{BranchStateValue, new_branch}
+use Rattle.lake_state.specs.Founding.{founded_names, founded_repository}
 use Rattle.lake_state.specs.Repositories.{RepositoryStateValue}
 use Rattle.lake_state.specs.Lakes.{LakeStateValue}
 use Rattle.lake_changes.specs.BranchChanges.{branch_after}
@@ -45,6 +46,13 @@ with_references l = record l { references = l.references + 1 }
 -- the ticket of a number goes
 abbrev pub without_ticket : ℕ → LakeStateValue → LakeStateValue
 without_ticket number l = record l { tickets = remove l.tickets number }
+
+-- a repository is made: it is there with its names, and a version and a token were given
+abbrev pub after_repository_create : List ℕ → List ℕ → ℕ → LakeStateValue → LakeStateValue
+after_repository_create repo branch date l = with_entry (with_references (with_token (with_version (record l {
+  repositories = insert l.repositories repo (founded_repository l.cut date branch l.next_version l.next_token);
+  names = founded_names l.cut date repo l.names;
+}))))
 
 -- a number is given out
 abbrev pub after_ticket_take : ℕ → LakeStateValue → LakeStateValue

@@ -2,4 +2,5 @@ pub mod BranchChanges
 pub mod FreshTokens
 pub mod LakeChanges
 pub mod LakeRoom
+pub mod NewRepositories
 pub mod RepositoryChanges

@@ -1,7 +1,8 @@
 //! Changes of a lake in memory.
 //!
 //! - `branch`, `repository`: what is done to a branch and to a repository that stay, and the room made for it.
-//! - `lake`: what each operation makes of a lake.
+//! - `places`: places under names.
+//! - `lake`: what each operation makes of a lake, but for new repositories; `founding`: what those make of it.
 //! - `laws`: of the state that a lake stands for a change makes what the operation does; versions stay those counted
 //!   over the history, counts stay small, and fresh tokens are unused.
 //!
@@ -9,8 +10,10 @@
 #![tactic(auto)]
 
 pub mod branch;
+pub mod founding;
 pub mod lake;
 mod laws;
+mod places;
 pub mod repository;
 #[cfg(test)]
 mod tests;

@@ -1,6 +1,6 @@
 //! What is done to a repository that stays, and the room that is made for it.
-ghost use Rattle.std.specs.Prelude.{◌≡◌, true, IfSome, OnOk, Some, option_map};
-ghost use Rattle.std.specs.FinMap.{contains_key, get, insert, remove};
+ghost use Rattle.std.specs.Prelude.{◌≡◌, IfSome, OnOk, Some, option_map};
+ghost use Rattle.std.specs.FinMap.{get};
 ghost use Rattle.byte_map.specs.Values.{some_values};
 ghost use Rattle.lake_model.specs.NoteChanges.{notes_after, without_note};
 ghost use Rattle.lake_model.specs.Parts.{changed_at};
@@ -11,8 +11,9 @@ ghost use Rattle.lake_changes.specs.BranchChanges.{HasRoom, IsPossible, branch_a
 ghost use Rattle.lake_changes.specs.RepositoryChanges.{HasRoomFor, HasRoomIn, IsPossibleIn, repository_after};
 
 use crate::branch::{BranchChange, change_branch, make_room};
+use crate::places::{drop_place, make_place, put_in_place};
 use byte_map::ByteMap;
-use lake_base::{NoMemory, RefName, TryCopy};
+use lake_base::{NoMemory, RefName};
 use lake_state::{BranchState, RepositoryState};
 use lake_values::{CommitId, Note, NoteName};
 use std::alloc::Global;
@@ -128,39 +129,6 @@ fn delete_note(r: &mut RepositoryState, name: NoteName)
         NoteName::Protection => r.protection = None,
         NoteName::Hooks => r.hooks = None,
     }
-}
-
-// Makes a place for what is to stand under a name.
-fn make_place<V: Drop>(
-    alloc: Global,
-    places: &mut ByteMap<RefName, Option<V>>,
-    name: &RefName,
-) -> Result<(), NoMemory>
-    ensures same { some_values (λ place. place) places.new ≡ some_values (λ place. place) places.old }
-    ensures place { OnOk result (contains_key places.new name.now ≡ true) }
-{
-    if places.contains_key(name) {
-        return Ok(());
-    }
-    places.insert(name.copy(alloc)?, None)?;
-    Ok(())
-}
-
-// Puts a value under a name, which has a place.
-fn put_in_place<V: Drop>(places: &mut ByteMap<RefName, Option<V>>, name: &RefName, value: V)
-    requires { contains_key places.old name.now ≡ true }
-    ensures { places.new ≡ insert places.old name.now (Some value) }
-{
-    if let Some(place) = places.get_mut(name) {
-        *place = Some(value);
-    }
-}
-
-// Takes away what stands under a name.
-fn drop_place<V: Drop>(places: &mut ByteMap<RefName, Option<V>>, name: &RefName)
-    ensures { places.new ≡ remove places.old name.now }
-{
-    let _value = places.remove(name);
 }
 
 // Makes room for a change of a branch, where it is there.
