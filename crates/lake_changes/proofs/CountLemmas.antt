@@ -51,7 +51,7 @@ module _ (given : VersionsGiven) (repo name q : List ℕ) where
       ∙ or_zero test given.next (get versions_there branch)
 
   -- that of a branch of another repository
-  version_elsewhere : (branch : List ℕ) → bytes_eq q repo ≡ false
+  pub version_elsewhere : (branch : List ℕ) → bytes_eq q repo ≡ false
       → branch_version (with_branch_version repo name given) q branch ≡ branch_version given q branch
   version_elsewhere branch apart = ap (version_in branch) (found false apart)
 

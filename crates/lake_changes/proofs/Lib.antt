@@ -1,5 +1,6 @@
 pub mod ChangedLemmas
 pub mod CountLemmas
+pub mod FoundingLemmas
 pub mod PlacesLemmas
 pub mod SealLemmas
 pub mod StateLemmas

@@ -108,7 +108,7 @@ module _ (b : BranchStateValue) where
   ]
 
 -- a new branch has no changes
-new_seen : (version : ℕ) (commit : Digest) (token : ℕ) → branch_of (new_branch version commit token) ≡ clean_branch commit
+pub new_seen : (version : ℕ) (commit : Digest) (token : ℕ) → branch_of (new_branch version commit token) ≡ clean_branch commit
 new_seen version commit token = λ i. record { head = commit; sealed = layers_none empty i; staged = under_empty token i }
 
 -- ---- what operations do to a lake

@@ -1,6 +1,6 @@
 //! What a change makes of the state that a lake stands for, of its versions and of its tokens. Each law is the contract
 //! of a function that does nothing.
-ghost use Rattle.std.specs.Prelude.{◌≡◌, List, ℕ, Option, Some, IsSome};
+ghost use Rattle.std.specs.Prelude.{◌≡◌, List, ℕ, Option, Some, None, IsSome};
 ghost use Rattle.std.specs.FinMap.{get};
 ghost use Rattle.lake_base.specs.declared.digest.Digest.{Digest};
 ghost use Rattle.lake_values.specs.Entry.{EntryValue};
@@ -11,14 +11,14 @@ ghost use Rattle.lake_values.specs.declared.settings.NoteName.{NoteName};
 ghost use Rattle.lake_model.specs.declared.history.By.{By};
 ghost use Rattle.lake_model.specs.declared.history.CopySource.{CopySource};
 ghost use Rattle.lake_model.specs.declared.history.Operation.{Operation};
-ghost use Rattle.lake_model.specs.declared.history.Operation.TheVariants.{BranchCreate, BranchDelete, Copy, NoteSet, Reset, Seal, Stage, TagCreate, TagDelete, TicketDrop, TicketTake};
+ghost use Rattle.lake_model.specs.declared.history.Operation.TheVariants.{BranchCreate, BranchDelete, Copy, NoteSet, RepoCreate, Reset, Seal, Stage, TagCreate, TagDelete, TicketDrop, TicketTake};
 ghost use Rattle.lake_model.specs.declared.history.SealFor.{SealFor};
 ghost use Rattle.lake_model.specs.History.{accepted_entry, after, faulted_entry};
 ghost use Rattle.lake_model.specs.Versions.{VersionsGiven, versions_after};
 ghost use Rattle.lake_state.specs.Counts.{AreCounted, AreFew, HasVersions};
 ghost use Rattle.lake_state.specs.Lakes.{LakeStateValue, state_of};
 ghost use Rattle.lake_changes.specs.FreshTokens.{AreTokensBelow};
-ghost use Rattle.lake_changes.specs.LakeChanges.{after_branch_create, after_branch_delete, after_copy, after_fault, after_note_set, after_reset, after_seal, after_stage, after_tag_create, after_tag_delete, after_ticket_drop, after_ticket_take};
+ghost use Rattle.lake_changes.specs.LakeChanges.{after_branch_create, after_branch_delete, after_copy, after_fault, after_note_set, after_repository_create, after_reset, after_seal, after_stage, after_tag_create, after_tag_delete, after_ticket_drop, after_ticket_take};
 
 /// What each operation makes of a lake is what its entry makes of the state that the lake stands for. Of a change that
 /// is staged, copied or sealed this needs tokens that differ and are below the next one.
@@ -53,12 +53,15 @@ pub fn laws_of_states()
         → state_of (after_tag_delete repo tag l) ≡ after (state_of l) (accepted_entry by (TagDelete repo tag)) }
     ensures note_set { (l : LakeStateValue) (by : By) (repo : List ℕ) (name : NoteName) (note : Option Note)
         → state_of (after_note_set repo name note l) ≡ after (state_of l) (accepted_entry by (NoteSet repo name note)) }
+    ensures repository_create { (l : LakeStateValue) (by : By) (repo branch : List ℕ) (date : ℕ)
+        → state_of (after_repository_create repo branch date l)
+        ≡ after (state_of l) (accepted_entry by (RepoCreate repo branch date)) }
     ensures fault { (l : LakeStateValue) (by : By) (tried : Operation)
         → state_of (after_fault l) ≡ after (state_of l) (faulted_entry by tried) }
 {}
 
 /// The versions of a lake stay those that were counted over its history. A setting is set of a repository that is
-/// there.
+/// there, and a repository made where none is.
 pub fn laws_of_counts()
     ensures ticket_take { (given : VersionsGiven) (l : LakeStateValue) (by : By) (repo branch : List ℕ) (number : ℕ)
         → HasVersions given l
@@ -102,6 +105,11 @@ pub fn laws_of_counts()
         → IsSome (get l.repositories repo)
         → HasVersions (versions_after given (accepted_entry by (NoteSet repo name note)))
         (after_note_set repo name note l) }
+    ensures repository_create { (given : VersionsGiven) (l : LakeStateValue) (by : By) (repo branch : List ℕ) (date : ℕ)
+        → HasVersions given l
+        → get l.repositories repo ≡ None
+        → HasVersions (versions_after given (accepted_entry by (RepoCreate repo branch date)))
+        (after_repository_create repo branch date l) }
     ensures fault { (given : VersionsGiven) (l : LakeStateValue) (by : By) (tried : Operation) → HasVersions given l
         → HasVersions (versions_after given (faulted_entry by tried)) (after_fault l) }
 {}
@@ -129,6 +137,8 @@ pub fn laws_of_tokens()
         → AreTokensBelow l → AreTokensBelow (after_tag_delete repo tag l) }
     ensures note_set { (l : LakeStateValue) (repo : List ℕ) (name : NoteName) (note : Option Note)
         → AreTokensBelow l → AreTokensBelow (after_note_set repo name note l) }
+    ensures repository_create { (l : LakeStateValue) (repo branch : List ℕ) (date : ℕ)
+        → AreTokensBelow l → AreTokensBelow (after_repository_create repo branch date l) }
     ensures fault { (l : LakeStateValue) → AreTokensBelow l → AreTokensBelow (after_fault l) }
 {}
 
@@ -153,5 +163,7 @@ pub fn laws_of_few()
         → AreFew l → AreCounted (after_tag_delete repo tag l) }
     ensures note_set { (l : LakeStateValue) (repo : List ℕ) (name : NoteName) (note : Option Note)
         → AreFew l → AreCounted (after_note_set repo name note l) }
+    ensures repository_create { (l : LakeStateValue) (repo branch : List ℕ) (date : ℕ)
+        → AreFew l → AreCounted (after_repository_create repo branch date l) }
     ensures fault { (l : LakeStateValue) → AreFew l → AreCounted (after_fault l) }
 {}

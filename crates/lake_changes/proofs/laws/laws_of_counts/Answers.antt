@@ -6,6 +6,7 @@ use Rattle.lake_state.specs.Branches.{new_branch}
 use Rattle.lake_changes.specs.declared.branch.BranchChange.TheVariants.{Reset, Seal}
 use Rattle.lake_changes.specs.BranchChanges.{branch_after}
 use Rattle.lake_changes.proofs.CountLemmas.{branch_begins, branch_goes, lake_rises, lake_versions, settings_rise, stage_stays, ticketed_stays, versions_of, versions_rise, versions_stay}
+use Rattle.lake_changes.proofs.FoundingLemmas.{created_rises}
 use Rattle.lake_changes.proofs.laws.laws_of_counts.Goals as goal
 
 pub returns-clause-stage : goal.returns-clause-stage
@@ -47,3 +48,7 @@ pub returns-clause-note_set : goal.returns-clause-note_set
 returns-clause-note_set c given l by repo name value has there =
     lake_versions _ _ (ap (λ n. n + 1) has.next) (ap (λ n. n + 1) has.references)
     (settings_rise given l.repositories repo _ (versions_of given l has) there (λ r. has.next) (λ r. refl))
+
+pub returns-clause-repository_create : goal.returns-clause-repository_create
+returns-clause-repository_create c given l by repo branch date has none =
+    lake_versions _ _ (ap (λ n. n + 1) has.next) (ap (λ n. n + 1) has.references) (created_rises l repo branch date given none has)

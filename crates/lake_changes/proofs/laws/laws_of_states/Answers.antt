@@ -1,6 +1,7 @@
 use Rattle.std.proofs.Common.{ap, refl}
 use Rattle.lake_values.specs.declared.entry.Change.TheVariants.{Put}
 use Rattle.lake_model.specs.Uncommitted.{put_number}
+use Rattle.lake_changes.proofs.FoundingLemmas.{created_seen}
 use Rattle.lake_changes.proofs.StateLemmas.{dropped_seen, gone_seen, made_seen, repository_seen, seal_seen, stage_seen, ticketed_seen, with_one_more}
 use Rattle.lake_changes.proofs.laws.laws_of_states.Goals as goal
 
@@ -30,3 +31,6 @@ returns-clause-tag_delete c l by repo tag = ap with_one_more (repository_seen l 
 
 pub returns-clause-note_set : goal.returns-clause-note_set
 returns-clause-note_set c l by repo name value = ap with_one_more (repository_seen l repo _ _ (λ r is. refl))
+
+pub returns-clause-repository_create : goal.returns-clause-repository_create
+returns-clause-repository_create c l by repo branch date = created_seen l repo branch date

@@ -2,6 +2,7 @@ use Rattle.std.proofs.Common.{◌+◌, refl}
 use Rattle.lake_values.specs.declared.entry.Change.TheVariants.{Put}
 use Rattle.lake_model.specs.Uncommitted.{put_number}
 use Rattle.lake_state.specs.Branches.{new_branch}
+use Rattle.lake_changes.proofs.FoundingLemmas.{created_below}
 use Rattle.lake_changes.proofs.TokenLemmas.{below_later, dropped_below, gone_below, made_below, new_below, others_below, seal_below, stage_below, ticketed_below}
 use Rattle.lake_changes.proofs.laws.laws_of_tokens.Goals as goal
 
@@ -32,3 +33,6 @@ returns-clause-tag_delete c l repo tag below = others_below l below repo _ (λ r
 
 pub returns-clause-note_set : goal.returns-clause-note_set
 returns-clause-note_set c l repo name value below = others_below l below repo _ (λ r. refl)
+
+pub returns-clause-repository_create : goal.returns-clause-repository_create
+returns-clause-repository_create c l repo branch date below = created_below l repo branch date below
