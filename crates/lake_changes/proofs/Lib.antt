@@ -1,6 +1,8 @@
 pub mod ChangedLemmas
 pub mod CountLemmas
 pub mod FoundingLemmas
+pub mod IndexLemmas
+pub mod NewIndexLemmas
 pub mod PlacesLemmas
 pub mod SealLemmas
 pub mod StateLemmas

@@ -13,8 +13,11 @@ ghost use Rattle.lake_model.specs.declared.history.CopySource.{CopySource};
 ghost use Rattle.lake_model.specs.declared.history.Operation.{Operation};
 ghost use Rattle.lake_model.specs.declared.history.Operation.TheVariants.{BranchCreate, BranchDelete, Copy, NoteSet, RepoCreate, Reset, Seal, Stage, TagCreate, TagDelete, TicketDrop, TicketTake};
 ghost use Rattle.lake_model.specs.declared.history.SealFor.{SealFor};
+ghost use Rattle.lake_model.specs.Commits.{IsAdmissible, bare_repository, first_draft};
+ghost use Rattle.lake_model.specs.Soundness.{IsSound};
 ghost use Rattle.lake_model.specs.History.{accepted_entry, after, faulted_entry};
 ghost use Rattle.lake_model.specs.Versions.{VersionsGiven, versions_after};
+ghost use Rattle.lake_state.specs.Index.{HasIndex};
 ghost use Rattle.lake_state.specs.Counts.{AreCounted, AreFew, HasVersions};
 ghost use Rattle.lake_state.specs.Lakes.{LakeStateValue, state_of};
 ghost use Rattle.lake_changes.specs.FreshTokens.{AreTokensBelow};
@@ -166,4 +169,35 @@ pub fn laws_of_few()
     ensures repository_create { (l : LakeStateValue) (repo branch : List ℕ) (date : ℕ)
         → AreFew l → AreCounted (after_repository_create repo branch date l) }
     ensures fault { (l : LakeStateValue) → AreFew l → AreCounted (after_fault l) }
+{}
+
+/// The index of a lake goes on to tell of just what is kept. A repository is made where none is, with a first commit
+/// that is admissible.
+pub fn laws_of_indexes()
+    ensures ticket_take { (l : LakeStateValue) (seat : ℕ) → HasIndex l → HasIndex (after_ticket_take seat l) }
+    ensures ticket_drop { (l : LakeStateValue) (number : ℕ) → HasIndex l → HasIndex (after_ticket_drop number l) }
+    ensures stage { (l : LakeStateValue) (repo branch path : List ℕ) (change : Change)
+        → HasIndex l → HasIndex (after_stage repo branch path change l) }
+    ensures copy { (l : LakeStateValue) (repo branch path : List ℕ) (entry : EntryValue)
+        → HasIndex l → HasIndex (after_copy repo branch path entry l) }
+    ensures reset { (l : LakeStateValue) (repo branch : List ℕ) (what : ResetWhat)
+        → HasIndex l → HasIndex (after_reset repo branch what l) }
+    ensures seal { (l : LakeStateValue) (repo branch : List ℕ) → HasIndex l → HasIndex (after_seal repo branch l) }
+    ensures branch_create { (l : LakeStateValue) (repo branch : List ℕ) (commit : Digest)
+        → HasIndex l → HasIndex (after_branch_create repo branch commit l) }
+    ensures branch_delete { (l : LakeStateValue) (repo branch : List ℕ)
+        → HasIndex l → HasIndex (after_branch_delete repo branch l) }
+    ensures tag_create { (l : LakeStateValue) (repo tag : List ℕ) (commit : Digest)
+        → HasIndex l → HasIndex (after_tag_create repo tag commit l) }
+    ensures tag_delete { (l : LakeStateValue) (repo tag : List ℕ)
+        → HasIndex l → HasIndex (after_tag_delete repo tag l) }
+    ensures note_set { (l : LakeStateValue) (repo : List ℕ) (name : NoteName) (note : Option Note)
+        → HasIndex l → HasIndex (after_note_set repo name note l) }
+    ensures repository_create { (l : LakeStateValue) (repo branch : List ℕ) (date : ℕ)
+        → HasIndex l
+        → IsSound (state_of l)
+        → get l.repositories repo ≡ None
+        → IsAdmissible (state_of l) (bare_repository date branch) (first_draft date)
+        → HasIndex (after_repository_create repo branch date l) }
+    ensures fault { (l : LakeStateValue) → HasIndex l → HasIndex (after_fault l) }
 {}

@@ -18,4 +18,4 @@ pub mod repository;
 #[cfg(test)]
 mod tests;
 
-pub use laws::{laws_of_counts, laws_of_few, laws_of_states, laws_of_tokens};
+pub use laws::{laws_of_counts, laws_of_few, laws_of_indexes, laws_of_states, laws_of_tokens};
