@@ -6,6 +6,7 @@ use Rattle.lake_model.specs.declared.history.Operation.{Operation}
 use Rattle.lake_model.specs.History.{Allows, accepted_entry, after, faulted_entry}
 use Rattle.lake_model.specs.Versions.{versions_after}
 use Rattle.lake_state.specs.Counts.{AreCounted, AreFew, HasVersions}
+use Rattle.lake_state.specs.Index.{HasIndex}
 use Rattle.lake_state.specs.Lakes.{LakeStateValue, state_of}
 use Rattle.lake_changes.specs.FreshTokens.{AreTokensBelow}
 use Rattle.lake_changes.specs.LakeChanges.{after_fault}
@@ -19,8 +20,8 @@ module _ (opened : LakeStateValue) (history : List HistoryEntry) (l : LakeStateV
   few = record { counted = stands.counted; room = allowed.room }
 
   -- the store failed
-  fault_follows : (AreFew l → AreCounted (after_fault l)) → Follows opened history l (faulted_entry by operation) (after_fault l)
-  fault_follows counted = record {
+  fault_follows : (AreFew l → AreCounted (after_fault l)) → (HasIndex l → HasIndex (after_fault l)) → Follows opened history l (faulted_entry by operation) (after_fault l)
+  fault_follows counted index = record {
     allowed = record { running = allowed.running; room = allowed.room; possible = allowed.possible };
     state = refl;
     versions = record {
@@ -32,6 +33,7 @@ module _ (opened : LakeStateValue) (history : List HistoryEntry) (l : LakeStateV
     };
     tokens = stands.tokens;
     counted = counted few;
+    index = index stands.index;
   }
 
   -- it is made, and what holds of the lake before it holds of the lake after it
@@ -41,8 +43,10 @@ module _ (opened : LakeStateValue) (history : List HistoryEntry) (l : LakeStateV
       → (AreTokensBelow l → AreTokensBelow (make l))
       → (AreFew l → AreCounted (make l))
       → (AreFew l → AreCounted (after_fault l))
+      → (HasIndex l → HasIndex (make l))
+      → (HasIndex l → HasIndex (after_fault l))
       → MayMake opened history l by operation make
-  may_make make state versions tokens counted faulted = record {
+  may_make make state versions tokens counted faulted index faulted_index = record {
     few = few;
     accepted = stands_more opened history l (accepted_entry by operation) (make l) stands (record {
       allowed = allowed;
@@ -50,6 +54,7 @@ module _ (opened : LakeStateValue) (history : List HistoryEntry) (l : LakeStateV
       versions = versions stands.versions;
       tokens = tokens stands.tokens;
       counted = counted few;
+      index = index stands.index;
     });
-    faulted = stands_more opened history l (faulted_entry by operation) (after_fault l) stands (fault_follows faulted);
+    faulted = stands_more opened history l (faulted_entry by operation) (after_fault l) stands (fault_follows faulted faulted_index);
   }

@@ -5,6 +5,7 @@ use Rattle.lake_model.specs.State.{State}
 use Rattle.lake_model.specs.History.{Allows, IsLegal, after, replay}
 use Rattle.lake_model.specs.Versions.{VersionsGiven, count_versions, versions_after}
 use Rattle.lake_state.specs.Counts.{AreCounted, HasVersions, versions_of}
+use Rattle.lake_state.specs.Index.{HasIndex}
 use Rattle.lake_state.specs.Lakes.{LakeStateValue, state_of}
 use Rattle.lake_changes.specs.FreshTokens.{AreTokensBelow}
 use Rattle.lake_standing.specs.Standing.{Stands, versions_at}
@@ -33,14 +34,18 @@ pub record Follows (opened : LakeStateValue) (history : List HistoryEntry) (pres
   pub versions : HasVersions (versions_after (versions_at opened history) entry) next
   pub tokens : AreTokensBelow next
   pub counted : AreCounted next
+  pub index : HasIndex next
 
 pub stands_more : (opened : LakeStateValue) (history : List HistoryEntry) (present : LakeStateValue) (entry : HistoryEntry) (next : LakeStateValue)
     → Stands opened history present → Follows opened history present entry next → Stands opened (history ++ entry ∷ []) next
 stands_more opened history present entry next stands follows = record {
   sound = stands.sound;
+  fresh_start = stands.fresh_start;
+  versions_below = stands.versions_below;
   legal = legal_more (state_of opened) history entry stands.legal (subst (λ s. Allows s entry) (sym stands.replayed) follows.allowed);
   replayed = replay_more (state_of opened) history entry ∙ ap (λ s. after s entry) stands.replayed ∙ sym follows.state;
   versions = subst (λ given. HasVersions given next) (sym (count_more (versions_of opened) history entry)) follows.versions;
   tokens = follows.tokens;
   counted = follows.counted;
+  index = follows.index;
 }

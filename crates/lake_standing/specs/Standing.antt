@@ -1,12 +1,14 @@
 -- A lake in memory stands for its history.
-use Rattle.std.specs.Prelude.{◌≡◌, ◌++◌, ◌∷◌, [], List}
+use Rattle.std.specs.Prelude.{◌≡◌, ◌++◌, ◌∷◌, false, [], List}
+use Rattle.std.specs.FinMap.{empty}
 use Rattle.lake_model.specs.declared.history.By.{By}
 use Rattle.lake_model.specs.declared.history.HistoryEntry.{HistoryEntry}
 use Rattle.lake_model.specs.declared.history.Operation.{Operation}
 use Rattle.lake_model.specs.History.{IsLegal, accepted_entry, faulted_entry, replay}
 use Rattle.lake_model.specs.Soundness.{IsSound}
-use Rattle.lake_model.specs.Versions.{VersionsGiven, count_versions}
+use Rattle.lake_model.specs.Versions.{AreBelowNext, VersionsGiven, count_versions}
 use Rattle.lake_state.specs.Counts.{AreCounted, AreFew, HasVersions, versions_of}
+use Rattle.lake_state.specs.Index.{HasIndex}
 use Rattle.lake_state.specs.Lakes.{LakeStateValue, state_of}
 use Rattle.lake_changes.specs.FreshTokens.{AreTokensBelow}
 use Rattle.lake_changes.specs.LakeChanges.{after_fault}
@@ -15,15 +17,25 @@ use Rattle.lake_changes.specs.LakeChanges.{after_fault}
 abbrev pub versions_at : LakeStateValue → List HistoryEntry → VersionsGiven
 versions_at opened history = count_versions (versions_of opened) history
 
--- A lake in memory stands for the replay of a legal history from the sound state that it was opened as. Its versions
--- are those that were given over the history, its tokens are fresh, and its counts are small.
+-- nothing has happened in a lake: it has no entries and no unfinished uploads, and the store hasn't failed
+pub record HasNoHistory (l : LakeStateValue) : Type 0 where
+  pub entries : l.entries ≡ 0
+  pub tickets : l.tickets ≡ empty
+  pub stopped : l.stopped ≡ false
+
+-- A lake in memory stands for the replay of a legal history from the sound state that it was opened as, in which nothing
+-- had happened and whose versions were below the next one. Its versions are those that were given over the history, its
+-- tokens are fresh, its counts are small, and its index tells of just what is kept.
 pub record Stands (opened : LakeStateValue) (history : List HistoryEntry) (present : LakeStateValue) : Type 0 where
   pub sound : IsSound (state_of opened)
+  pub fresh_start : HasNoHistory opened
+  pub versions_below : AreBelowNext (versions_of opened)
   pub legal : IsLegal (state_of opened) history
   pub replayed : replay (state_of opened) history ≡ state_of present
   pub versions : HasVersions (versions_at opened history) present
   pub tokens : AreTokensBelow present
   pub counted : AreCounted present
+  pub index : HasIndex present
 
 -- An operation may be made of a lake that stands for its history: there is room to count it, and the lake stands for the
 -- history with its entry after it was made, and for the history with its fault after the store failed.

@@ -1,8 +1,9 @@
 //! A lake in memory stands for its history: it is what the legal entries make of the state that it was opened as. Where
 //! no cause of a step holds, it goes on to do so after the step's operation was made of it.
 //!
-//! - `opening`: a sound lake stands for no entries.
+//! - `opening`: a sound lake in which nothing has happened stands for no entries.
 //! - `present`: what holds of a lake that stands for its history; `plain_names`: its names are like no id.
+//! - `repositories`: new repositories.
 //! - `writes`: tickets, and what is written to a branch; `names`: branches and tags that come and go, and settings.
 //!
 //! Each law is the contract of a function that does nothing.
@@ -12,10 +13,12 @@ pub mod names;
 pub mod opening;
 pub mod plain_names;
 pub mod present;
+pub mod repositories;
 pub mod writes;
 
 pub use names::{law_of_settings, laws_of_names};
-pub use opening::law_of_opening;
+pub use opening::{law_of_opening, law_of_versions_below};
 pub use plain_names::laws_of_plain_names;
-pub use present::law_of_present;
+pub use present::{law_of_entries, law_of_present};
+pub use repositories::law_of_repository;
 pub use writes::{laws_of_tickets, laws_of_writes};

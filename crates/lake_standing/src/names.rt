@@ -15,7 +15,7 @@ ghost use Rattle.lake_state.specs.Lakes.{LakeStateValue, state_of};
 ghost use Rattle.lake_changes.specs.LakeChanges.{after_branch_create, after_branch_delete, after_note_set, after_tag_create, after_tag_delete};
 ghost use Rattle.lake_standing.specs.Standing.{MayMake, Stands, versions_at};
 
-use lake_changes::{laws_of_counts, laws_of_few, laws_of_states, laws_of_tokens};
+use lake_changes::{laws_of_counts, laws_of_few, laws_of_indexes, laws_of_states, laws_of_tokens};
 use lake_laws::soundness::law_of_soundness;
 use step_laws::names::law_of_name_steps;
 use step_laws::notes::law_of_note_steps;
@@ -52,6 +52,7 @@ pub fn laws_of_names()
     laws_of_counts();
     laws_of_tokens();
     laws_of_few();
+    laws_of_indexes();
 }
 
 /// Where no cause holds, a setting of the name may be set, or the one that is there may be deleted.
@@ -68,4 +69,5 @@ pub fn law_of_settings()
     laws_of_counts();
     laws_of_tokens();
     laws_of_few();
+    laws_of_indexes();
 }

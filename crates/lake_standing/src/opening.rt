@@ -1,16 +1,26 @@
 //! A lake that was just opened.
 ghost use Rattle.std.specs.Prelude.{◌≡◌, []};
 ghost use Rattle.lake_model.specs.Soundness.{IsSound};
-ghost use Rattle.lake_state.specs.Counts.{AreCounted};
+ghost use Rattle.lake_model.specs.Versions.{AreBelowNext, VersionsGiven};
+ghost use Rattle.lake_state.specs.Counts.{AreCounted, HasVersions, versions_of};
+ghost use Rattle.lake_state.specs.Index.{HasIndex};
 ghost use Rattle.lake_state.specs.Lakes.{LakeStateValue, state_of};
 ghost use Rattle.lake_changes.specs.FreshTokens.{AreTokensBelow};
-ghost use Rattle.lake_standing.specs.Standing.{Stands};
+ghost use Rattle.lake_standing.specs.Standing.{HasNoHistory, Stands};
 
 use lake_state::law_of_versions;
 
-/// A sound lake whose tokens are fresh and whose counts are small stands for no entries.
+/// A sound lake in which nothing has happened stands for no entries, where its versions are below the next one, its
+/// tokens are fresh, its counts are small and its index tells of just what is kept.
 pub fn law_of_opening()
-    ensures { (l : LakeStateValue) → IsSound (state_of l) → AreTokensBelow l → AreCounted l → Stands l [] l }
+    ensures { (l : LakeStateValue) → IsSound (state_of l) → HasNoHistory l → AreBelowNext (versions_of l)
+        → AreTokensBelow l → AreCounted l → HasIndex l → Stands l [] l }
 {
     law_of_versions();
 }
+
+/// The versions of a lake are below the next one where they are those that were given, and those are.
+pub fn law_of_versions_below()
+    ensures { (given : VersionsGiven) (l : LakeStateValue) → HasVersions given l → AreBelowNext given
+        → AreBelowNext (versions_of l) }
+{}

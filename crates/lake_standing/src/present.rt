@@ -1,5 +1,5 @@
 //! What holds of a lake that stands for its history.
-ghost use Rattle.std.specs.Prelude.{List};
+ghost use Rattle.std.specs.Prelude.{◌≡◌, List, length};
 ghost use Rattle.lake_model.specs.declared.history.HistoryEntry.{HistoryEntry};
 ghost use Rattle.lake_model.specs.Soundness.{IsSound};
 ghost use Rattle.lake_state.specs.Lakes.{LakeStateValue, state_of};
@@ -14,3 +14,9 @@ pub fn law_of_present()
 {
     law_of_soundness();
 }
+
+/// A lake that stands for its history counts the entries of it, so the place of the next one is one more.
+pub fn law_of_entries()
+    ensures { (opened : LakeStateValue) (history : List HistoryEntry) (present : LakeStateValue)
+        → Stands opened history present → present.entries ≡ length history }
+{}

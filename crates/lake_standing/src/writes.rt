@@ -16,7 +16,7 @@ ghost use Rattle.lake_state.specs.Lakes.{LakeStateValue, state_of};
 ghost use Rattle.lake_changes.specs.LakeChanges.{after_copy, after_reset, after_seal, after_stage, after_ticket_drop, after_ticket_take};
 ghost use Rattle.lake_standing.specs.Standing.{MayMake, Stands, versions_at};
 
-use lake_changes::{laws_of_counts, laws_of_few, laws_of_states, laws_of_tokens};
+use lake_changes::{laws_of_counts, laws_of_few, laws_of_indexes, laws_of_states, laws_of_tokens};
 use lake_laws::soundness::law_of_soundness;
 use step_laws::tickets::law_of_ticket_steps;
 use step_laws::writes::law_of_write_steps;
@@ -40,6 +40,7 @@ pub fn laws_of_tickets()
     laws_of_counts();
     laws_of_tokens();
     laws_of_few();
+    laws_of_indexes();
 }
 
 /// Where no cause holds, a change may be staged whose number, where it puts one, is on a ticket of the seat; an entry
@@ -77,4 +78,5 @@ pub fn laws_of_writes()
     laws_of_counts();
     laws_of_tokens();
     laws_of_few();
+    laws_of_indexes();
 }

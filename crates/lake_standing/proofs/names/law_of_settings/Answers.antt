@@ -15,3 +15,4 @@ returns c opened history l by repo expected name note stands none named =
     (is_there l repo allowed.possible.0 allowed.possible.1))
     (c.laws_of_tokens.ensures.note_set l repo name note)
     (c.laws_of_few.ensures.note_set l repo name note) (c.laws_of_few.ensures.fault l)
+    (c.laws_of_indexes.ensures.note_set l repo name note) (c.laws_of_indexes.ensures.fault l)

@@ -16,6 +16,7 @@ returns-clause-create_branch c opened history l by repo name e commit stands pla
     (c.laws_of_counts.ensures.branch_create (versions_at opened history) l by repo name commit)
     (c.laws_of_tokens.ensures.branch_create l repo name commit)
     (c.laws_of_few.ensures.branch_create l repo name commit) (c.laws_of_few.ensures.fault l)
+    (c.laws_of_indexes.ensures.branch_create l repo name commit) (c.laws_of_indexes.ensures.fault l)
 
 pub returns-clause-delete_branch : goal.returns-clause-delete_branch
 returns-clause-delete_branch c opened history l by repo name stands none =
@@ -25,6 +26,7 @@ returns-clause-delete_branch c opened history l by repo name stands none =
     (c.laws_of_counts.ensures.branch_delete (versions_at opened history) l by repo name)
     (c.laws_of_tokens.ensures.branch_delete l repo name)
     (c.laws_of_few.ensures.branch_delete l repo name) (c.laws_of_few.ensures.fault l)
+    (c.laws_of_indexes.ensures.branch_delete l repo name) (c.laws_of_indexes.ensures.fault l)
 
 pub returns-clause-create_tag : goal.returns-clause-create_tag
 returns-clause-create_tag c opened history l by repo name e commit stands plain none leads =
@@ -36,6 +38,7 @@ returns-clause-create_tag c opened history l by repo name e commit stands plain 
     (c.laws_of_counts.ensures.tag_create (versions_at opened history) l by repo name commit)
     (c.laws_of_tokens.ensures.tag_create l repo name commit)
     (c.laws_of_few.ensures.tag_create l repo name commit) (c.laws_of_few.ensures.fault l)
+    (c.laws_of_indexes.ensures.tag_create l repo name commit) (c.laws_of_indexes.ensures.fault l)
 
 pub returns-clause-delete_tag : goal.returns-clause-delete_tag
 returns-clause-delete_tag c opened history l by repo name stands none =
@@ -45,3 +48,4 @@ returns-clause-delete_tag c opened history l by repo name stands none =
     (c.laws_of_counts.ensures.tag_delete (versions_at opened history) l by repo name)
     (c.laws_of_tokens.ensures.tag_delete l repo name)
     (c.laws_of_few.ensures.tag_delete l repo name) (c.laws_of_few.ensures.fault l)
+    (c.laws_of_indexes.ensures.tag_delete l repo name) (c.laws_of_indexes.ensures.fault l)

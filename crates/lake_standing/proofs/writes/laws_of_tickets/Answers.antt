@@ -13,6 +13,7 @@ returns-clause-take c opened history l by repo branch stands none =
     (c.laws_of_counts.ensures.ticket_take (versions_at opened history) l by repo branch l.next_number)
     (c.laws_of_tokens.ensures.ticket_take l by.seat)
     (c.laws_of_few.ensures.ticket_take l by.seat) (c.laws_of_few.ensures.fault l)
+    (c.laws_of_indexes.ensures.ticket_take l by.seat) (c.laws_of_indexes.ensures.fault l)
 
 pub returns-clause-drop : goal.returns-clause-drop
 returns-clause-drop c opened history l by number stands none ticket =
@@ -22,3 +23,4 @@ returns-clause-drop c opened history l by number stands none ticket =
     (c.laws_of_counts.ensures.ticket_drop (versions_at opened history) l by number)
     (c.laws_of_tokens.ensures.ticket_drop l number)
     (c.laws_of_few.ensures.ticket_drop l number) (c.laws_of_few.ensures.fault l)
+    (c.laws_of_indexes.ensures.ticket_drop l number) (c.laws_of_indexes.ensures.fault l)

@@ -15,6 +15,7 @@ returns-clause-stage c opened history l by repo branch version path change stand
     (c.laws_of_counts.ensures.stage (versions_at opened history) l by repo branch path change)
     (c.laws_of_tokens.ensures.stage l repo branch path change)
     (c.laws_of_few.ensures.stage l repo branch path change) (c.laws_of_few.ensures.fault l)
+    (c.laws_of_indexes.ensures.stage l repo branch path change) (c.laws_of_indexes.ensures.fault l)
 
 pub returns-clause-copy : goal.returns-clause-copy
 returns-clause-copy c opened history l by repo branch version path e source from entry stands none found leads =
@@ -26,6 +27,7 @@ returns-clause-copy c opened history l by repo branch version path e source from
     (c.laws_of_counts.ensures.copy (versions_at opened history) l by repo branch path source from entry)
     (c.laws_of_tokens.ensures.copy l repo branch path entry)
     (c.laws_of_few.ensures.copy l repo branch path entry) (c.laws_of_few.ensures.fault l)
+    (c.laws_of_indexes.ensures.copy l repo branch path entry) (c.laws_of_indexes.ensures.fault l)
 
 pub returns-clause-reset : goal.returns-clause-reset
 returns-clause-reset c opened history l by repo branch what stands none =
@@ -35,6 +37,7 @@ returns-clause-reset c opened history l by repo branch what stands none =
     (c.laws_of_counts.ensures.reset (versions_at opened history) l by repo branch what)
     (c.laws_of_tokens.ensures.reset l repo branch what)
     (c.laws_of_few.ensures.reset l repo branch what) (c.laws_of_few.ensures.fault l)
+    (c.laws_of_indexes.ensures.reset l repo branch what) (c.laws_of_indexes.ensures.fault l)
 
 pub returns-clause-seal : goal.returns-clause-seal
 returns-clause-seal c opened history l by repo branch why stands none =
@@ -44,3 +47,4 @@ returns-clause-seal c opened history l by repo branch why stands none =
     (c.laws_of_counts.ensures.seal (versions_at opened history) l by repo branch why)
     (c.laws_of_tokens.ensures.seal l repo branch)
     (c.laws_of_few.ensures.seal l repo branch) (c.laws_of_few.ensures.fault l)
+    (c.laws_of_indexes.ensures.seal l repo branch) (c.laws_of_indexes.ensures.fault l)
