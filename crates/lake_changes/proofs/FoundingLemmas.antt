@@ -1,6 +1,6 @@
 -- A new repository: the one file of its tree, what stands in its maps, and what it makes of a lake.
 use Rattle.std.proofs.Common.{◌≡◌, ◌+◌, ℕ, Bool, true, false, cond, List, [], ◌∷◌, map, length, refl, sym, ap, subst, ◌∙◌, arith}
-use Rattle.std.specs.Prelude.{Option, Some, None}
+use Rattle.std.specs.Prelude.{Some, None}
 use Rattle.std.specs.Option.{unwrap_or}
 use Rattle.std.specs.Str.{bytes_eq}
 use Rattle.std.specs.Cmp.Lexicographic.{same_text}
@@ -28,7 +28,7 @@ use Rattle.lake_state.specs.Lakes.{LakeStateValue, state_of}
 use Rattle.lake_changes.specs.FreshTokens.{AreTokensBelow, HasTokensBelow}
 use Rattle.lake_changes.specs.LakeChanges.{after_repository_create}
 use Rattle.lake_changes.proofs.ChangedLemmas.{all_inserted}
-use Rattle.lake_changes.proofs.CountLemmas.{AreVersionsOf, HasVersionsIn, branch_begins, lake_versions, version_elsewhere, versions_of}
+use Rattle.lake_changes.proofs.CountLemmas.{AreVersionsOf, HasVersionsIn, branch_begins, version_elsewhere}
 use Rattle.lake_changes.proofs.StateLemmas.{new_seen, with_one_more}
 use Rattle.lake_changes.proofs.TokenLemmas.{below_later, new_below}
 
@@ -108,8 +108,8 @@ module _ (l : LakeStateValue) (repo branch : List ℕ) (date : ℕ) where
   pub created_seen : state_of (after_repository_create repo branch date l) ≡ with_one_more (after_creation repo branch date (state_of l))
   created_seen =
       let repositories =
-          map_values_insert repository_of l.repositories repo founded
-          ∙ ap (insert (state_of l).repositories repo) (founded_seen l.cut date branch l.next_version l.next_token) in
+      map_values_insert repository_of l.repositories repo founded
+      ∙ ap (insert (state_of l).repositories repo) (founded_seen l.cut date branch l.next_version l.next_token) in
       λ i. record (with_one_more (state_of l)) { repositories = repositories i }
 
   -- its branch has the next version

@@ -1,5 +1,5 @@
 -- The index of a lake goes on to tell of just what is kept.
-use Rattle.std.proofs.Common.{◌≡◌, ℕ, Bool, true, false, cond, List, [], ◌∷◌, refl, sym, ap, subst, ◌∙◌, ◌⊎◌, inl, inr}
+use Rattle.std.proofs.Common.{◌≡◌, ℕ, List, refl, sym, ap, subst, ◌∙◌, ◌⊎◌}
 use Rattle.std.specs.Prelude.{Option, Some, None, IsSome, option_map, option_and_then}
 use Rattle.std.specs.Option.{option_map_or, unwrap_or}
 use Rattle.std.specs.FinMap.{empty, get, insert}
@@ -11,7 +11,7 @@ use Rattle.lake_values.specs.Commit.{CommitRecordValue}
 use Rattle.lake_values.specs.KeyMap.{KeyMapValue}
 use Rattle.lake_values.specs.declared.entry.Change.{Change}
 use Rattle.lake_format.specs.Cutting.{files}
-use Rattle.lake_format.specs.Spelling.{commit_spelling, file_name}
+use Rattle.lake_format.specs.Spelling.{commit_spelling}
 use Rattle.lake_format.specs.declared.cut.Cut.{Cut}
 use Rattle.meta_range.specs.Ranges.{TreeValue}
 use Rattle.byte_map.specs.Values.{map_values}
@@ -19,7 +19,7 @@ use Rattle.byte_map.proofs.ByteMapLemmas.{insert_same}
 use Rattle.byte_map.proofs.ValuesLemmas.{get_map_values, map_values_insert}
 use Rattle.lake_model.specs.Commits.{AreKept}
 use Rattle.lake_model.specs.Parts.{changed_at}
-use Rattle.lake_model.specs.State.{Repository, HasCommit, map_of}
+use Rattle.lake_model.specs.State.{Repository, map_of}
 use Rattle.lake_state.specs.Index.{HasIndex, indexed_commit}
 use Rattle.lake_state.specs.Repositories.{RepositoryStateValue, repository_of}
 use Rattle.lake_state.specs.Lakes.{LakeStateValue, state_of}
@@ -128,7 +128,7 @@ module _ (l m : LakeStateValue) (same : map_values held m.repositories ≡ map_v
   same_found : (id : Digest) → indexed_commit now id ≡ indexed_commit l id
   same_found id =
       let each = λ (repo : List ℕ). found_in id m.repositories repo
-          ∙ ap (λ map. option_and_then (λ (h : Held). commit_of h.commits id) (get map repo)) same ∙ sym (found_in id l.repositories repo) in
+      ∙ ap (λ map. option_and_then (λ (h : Held). commit_of h.commits id) (get map repo)) same ∙ sym (found_in id l.repositories repo) in
       λ i. option_and_then (λ repo. each repo i) (get l.names.homes id.0)
 
   -- the same is kept

@@ -1,23 +1,21 @@
 -- The index of a lake tells of a new repository's first commit and of the file of its tree.
-use Rattle.std.proofs.Common.{◌≡◌, ℕ, Bool, true, false, cond, List, [], ◌∷◌, refl, sym, ap, subst, ◌∙◌, ◌⊎◌, inl, inr}
+use Rattle.std.proofs.Common.{◌≡◌, ℕ, Bool, true, false, cond, List, [], refl, sym, ap, subst, ◌∙◌, inl, inr}
 use Rattle.std.proofs.lemmas.Slice.Eq.{bytes_eq-Decides}
-use Rattle.std.specs.Prelude.{Option, Some, None, IsSome, option_map, option_and_then}
+use Rattle.std.specs.Prelude.{Option, Some, None, option_map, option_and_then}
 use Rattle.std.specs.Str.{bytes_eq}
 use Rattle.std.specs.Cmp.Lexicographic.{same_text}
 use Rattle.std.specs.FinMap.{empty, get, insert}
 use Rattle.std.specs.List.{Contains}
-use Rattle.lake_base.specs.Maps.{ByteMap}
 use Rattle.lake_base.specs.declared.digest.Digest.{Digest}
 use Rattle.lake_values.specs.Ancestry.{commit_of}
 use Rattle.lake_values.specs.Commit.{CommitRecordValue}
-use Rattle.lake_values.specs.KeyMap.{KeyMapValue}
 use Rattle.lake_values.proofs.OrderLemmas.{Contains-first, Contains-later, Contains-nothing, first_or_later}
 use Rattle.lake_format.specs.Cutting.{files, tree_id}
-use Rattle.lake_format.specs.Spelling.{commit_id, commit_spelling, file_name}
+use Rattle.lake_format.specs.Spelling.{commit_spelling, file_name}
 use Rattle.meta_range.specs.Ranges.{TreeValue, first_file}
 use Rattle.byte_map.proofs.ByteMapLemmas.{get_insert, get_inserted}
 use Rattle.byte_map.proofs.ValuesLemmas.{get_map_values}
-use Rattle.lake_model.specs.Commits.{IsAdmissible, bare_repository, bytes_of, first_draft}
+use Rattle.lake_model.specs.Commits.{IsAdmissible, bare_repository, first_draft}
 use Rattle.lake_model.specs.Soundness.{IsSound}
 use Rattle.lake_model.specs.State.{HasCommit, map_of}
 use Rattle.lake_state.specs.Founding.{first_id, first_record, first_tree}
@@ -159,8 +157,8 @@ module _ (l : LakeStateValue) (repo branch : List ℕ) (date : ℕ) (ready : IsR
       let same = one_there i bytes within in
       file_found (file_name bytes).0 bytes (λ tie. same)
       (λ apart. absurd (let tied : bytes_eq (file_name bytes).0 (tree_id l.cut empty).0 ≡ true =
-          (bytes_eq-Decides (file_name bytes).0 (tree_id l.cut empty).0).1
-          (ap (λ (b : List ℕ). (file_name b).0) (sym same) ∙ ap (λ (d : Digest). d.0) (file_named l.cut)) in cc))
+      (bytes_eq-Decides (file_name bytes).0 (tree_id l.cut empty).0).1
+      (ap (λ (b : List ℕ). (file_name b).0) (sym same) ∙ ap (λ (d : Digest). d.0) (file_named l.cut)) in cc))
 
   -- a file that was found is found
   old_file : (name bytes : List ℕ) → get l.names.files name ≡ Some bytes → get now.names.files name ≡ Some bytes

@@ -8,6 +8,7 @@ ghost use Rattle.lake_changes.specs.FreshTokens.{AreTokensBelow};
 ghost use Rattle.lake_state.specs.Counts.{AreFew};
 
 use crate::branch::branch_at;
+use crate::founding::{NewRepository, create_repository, make_repository_room};
 use crate::repository::Room;
 use crate::{lake, laws_of_tokens};
 use branch_record::Looked;
@@ -15,13 +16,17 @@ use byte_map::ByteMap;
 use commit_graph::Graph;
 use lake_base::{Digest, NameFault, NoMemory, Path, RefName, RepoName, Text, TryCopy};
 use lake_format::USUAL_CUT;
-use lake_state::{LakeState, RepositoryState};
-use lake_values::{Change, Entry, NoteName, Pairs, Place, ResetWhat};
+use lake_state::{FilePlace, LakeState, NameIndex, RepositoryState};
+use lake_values::{Change, Entry, KeyMap, NoteName, Pairs, Place, ResetWhat};
+use meta_range::Tree;
 use std::alloc::Global;
 use std::collections::BTreeMap;
+use std::sync::Arc;
 use std::test::Fail;
 
 const HEAD: Digest = Digest([1; 32]);
+
+const FILE: Digest = Digest([2; 32]);
 
 // What is done to the one repository, and to its branch.
 #[derive(Clone, Copy, Debug)]
@@ -104,6 +109,7 @@ fn a_lake(alloc: Global, names: &Names) -> Result<LakeState, NoMemory>
     Ok(LakeState {
         cut: USUAL_CUT,
         repositories,
+        names: NameIndex::new(alloc),
         tickets: BTreeMap::new(alloc),
         gone: BTreeMap::new(alloc),
         stopped: false,
@@ -261,5 +267,49 @@ fn each_change_is_made(rt: HostRuntime) -> Result<(), Fail> {
         assert!(rt; read(&lake, &names) == Some(found), "read after {step:?}");
     }
     assert!(rt; lake.stopped);
+    Ok(())
+}
+
+// Where the one file of the tree of the empty map is kept.
+fn empty_file(alloc: Global) -> Result<FilePlace, NoMemory> {
+    let tree = Tree::build(alloc, &KeyMap::new(alloc), &USUAL_CUT)?;
+    let tree = Arc::new(alloc, tree)?;
+    Ok(FilePlace::of(tree, 0))
+}
+
+// Makes room for a repository of a name, and puts the one with the branch there.
+fn create_one(
+    alloc: Global,
+    lake: &mut LakeState,
+    names: &Names,
+    repo: &RepoName,
+) -> Result<(), Fail>
+    requires { AreFew (lake_value lake.old) }
+{
+    let new = NewRepository {
+        repository: a_repository(alloc, names)?,
+        commit: HEAD,
+        home: repo.copy(alloc)?,
+        file: FILE,
+        place: empty_file(alloc)?,
+    };
+    make_repository_room(alloc, lake, repo, &HEAD, &FILE)?;
+    create_repository(lake, repo, new);
+    Ok(())
+}
+
+#[test]
+fn a_repository_is_put_in(rt: HostRuntime) -> Result<(), Fail> {
+    let alloc = rt.alloc();
+    let names = names_of(alloc)?;
+    let repo = RepoName::read(alloc, b"second")?;
+    let mut lake = a_lake(alloc, &names)?;
+    assert!(rt; lake.repository(&repo).is_none() && lake.home(&HEAD).is_none());
+    assert!(rt; are_few(&lake));
+    create_one(alloc, &mut lake, &names, &repo)?;
+    assert!(rt; counts(&lake) == [1, 1, 1, 3, 12, 0]);
+    assert!(rt; lake.repository(&repo).is_some());
+    assert!(rt; lake.home(&HEAD) == Some(&repo));
+    assert!(rt; lake.file(&FILE).is_some() && lake.file(&HEAD).is_none());
     Ok(())
 }

@@ -20,15 +20,15 @@ returns c branch date is =
     let after = after_repository_create repo branch date (lake_value l) in
     let said = option_map repository_value in
     let repositories =
-        ap (some_values said) c.put_in_place.ensures
-        ∙ some_values_insert said l.repositories repo (Some new.repository) _ (ap Some is.repository) in
+    ap (some_values said) c.put_in_place.ensures
+    ∙ some_values_insert said l.repositories repo (Some new.repository) _ (ap Some is.repository) in
     let homes =
-        ap (some_values (λ home. home)) c.put_in_place-2.ensures
-        ∙ some_values_insert (λ home. home) l.names.homes new.commit.0 (Some new.home) repo (ap Some is.home)
-        ∙ ap (λ (id : Digest). insert (lake_value l).names.homes id.0 repo) is.commit in
+    ap (some_values (λ home. home)) c.put_in_place-2.ensures
+    ∙ some_values_insert (λ home. home) l.names.homes new.commit.0 (Some new.home) repo (ap Some is.home)
+    ∙ ap (λ (id : Digest). insert (lake_value l).names.homes id.0 repo) is.commit in
     let first = first_file (files l.cut empty) in
     let places =
-        ap (some_values (λ place. place)) c.put_in_place-3.ensures
-        ∙ some_values_insert (λ place. place) l.names.files new.file.0 (Some new.place) first (ap Some is.place)
-        ∙ ap (λ (name : Digest). insert (lake_value l).names.files name.0 first) is.file in
+    ap (some_values (λ place. place)) c.put_in_place-3.ensures
+    ∙ some_values_insert (λ place. place) l.names.files new.file.0 (Some new.place) first (ap Some is.place)
+    ∙ ap (λ (name : Digest). insert (lake_value l).names.files name.0 first) is.file in
     λ i. record after { repositories = repositories i; names = record { homes = homes i; files = places i } }
