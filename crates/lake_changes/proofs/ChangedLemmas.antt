@@ -50,15 +50,20 @@ module _ {X : Type 0} (P : List ℕ → X → Type 0) (map : ByteMap X) (name : 
     pub all_changed : (q : List ℕ) (y : X) → get (changed_at name change map) q ≡ Some y → P q y
     all_changed = changed_by (get map name) refl
 
-module _ {X : Type 0} (map : ByteMap X) (name : List ℕ) (change : X → X) where
+module _ {X : Type 0} (map : ByteMap X) (name : List ℕ) where
   unput : (x : X) (q : List ℕ) (test : Bool) → cond test (Some x) (get map q) ≡ None → get map q ≡ None
   unput x q true none = absurd cc
   unput x q false none = none
 
-  none_by : (o : Option X) (q : List ℕ) → get (option_map_or (λ x. insert map name (change x)) o map) q ≡ None → get map q ≡ None
-  none_by None q none = none
-  none_by (Some x) q none = unput (change x) q (bytes_eq q name) (sym (get_insert map name (change x) q) ∙ none)
+  -- where nothing is after one was put, nothing was
+  pub none_inserted : (x : X) (q : List ℕ) → get (insert map name x) q ≡ None → get map q ≡ None
+  none_inserted x q none = unput x q (bytes_eq q name) (sym (get_insert map name x q) ∙ none)
 
-  -- where nothing is after a change, nothing was
-  pub none_changed : (q : List ℕ) → get (changed_at name change map) q ≡ None → get map q ≡ None
-  none_changed = none_by (get map name)
+  module _ (change : X → X) where
+    none_by : (o : Option X) (q : List ℕ) → get (option_map_or (λ x. insert map name (change x)) o map) q ≡ None → get map q ≡ None
+    none_by None q none = none
+    none_by (Some x) q none = none_inserted (change x) q none
+
+    -- where nothing is after a change, nothing was
+    pub none_changed : (q : List ℕ) → get (changed_at name change map) q ≡ None → get map q ≡ None
+    none_changed = none_by (get map name)

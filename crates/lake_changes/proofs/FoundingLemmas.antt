@@ -27,7 +27,7 @@ use Rattle.lake_state.specs.Repositories.{RepositoryStateValue, repository_of}
 use Rattle.lake_state.specs.Lakes.{LakeStateValue, state_of}
 use Rattle.lake_changes.specs.FreshTokens.{AreTokensBelow, HasTokensBelow}
 use Rattle.lake_changes.specs.LakeChanges.{after_repository_create}
-use Rattle.lake_changes.proofs.ChangedLemmas.{all_inserted}
+use Rattle.lake_changes.proofs.ChangedLemmas.{all_inserted, none_inserted}
 use Rattle.lake_changes.proofs.CountLemmas.{AreVersionsOf, HasVersionsIn, branch_begins, version_elsewhere}
 use Rattle.lake_changes.proofs.StateLemmas.{new_seen, with_one_more}
 use Rattle.lake_changes.proofs.TokenLemmas.{below_later, new_below}
@@ -125,12 +125,8 @@ module _ (l : LakeStateValue) (repo branch : List ℕ) (date : ℕ) where
           branches = λ name b there. version_elsewhere given repo branch q name apart ∙ has.branches q r name b is there;
           settings = has.settings q r is;
         }) q r is;
-    unset = λ q nothing. has.unset q (nowhere q (bytes_eq q repo) (sym (get_insert l.repositories repo founded q) ∙ nothing));
+    unset = λ q nothing. has.unset q (none_inserted l.repositories repo founded q nothing);
   }
-    where
-      nowhere : (q : List ℕ) (test : Bool) → cond test (Some founded) (get l.repositories q) ≡ None → get l.repositories q ≡ None
-      nowhere q true nothing = absurd cc
-      nowhere q false nothing = nothing
 
   -- its token is below the one after it
   pub created_below : AreTokensBelow l → AreTokensBelow (after_repository_create repo branch date l)

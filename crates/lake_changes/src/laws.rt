@@ -108,7 +108,8 @@ pub fn laws_of_counts()
         → IsSome (get l.repositories repo)
         → HasVersions (versions_after given (accepted_entry by (NoteSet repo name note)))
         (after_note_set repo name note l) }
-    ensures repository_create { (given : VersionsGiven) (l : LakeStateValue) (by : By) (repo branch : List ℕ) (date : ℕ)
+    ensures repository_create { (given : VersionsGiven) (l : LakeStateValue)
+        (by : By) (repo branch : List ℕ) (date : ℕ)
         → HasVersions given l
         → get l.repositories repo ≡ None
         → HasVersions (versions_after given (accepted_entry by (RepoCreate repo branch date)))

@@ -1,11 +1,11 @@
 -- The versions of a lake that was just opened are below the next one.
-use Rattle.std.proofs.Common.{◌≡◌, ◌<◌, ℕ, List, refl, sym, ap, ◌∙◌, arith}
+use Rattle.std.proofs.Common.{◌≡◌, ◌<◌, ℕ, List, refl, arith}
 use Rattle.std.specs.Prelude.{Option, Some, None, option_map, option_and_then}
 use Rattle.std.specs.Option.{unwrap_or}
 use Rattle.std.specs.FinMap.{get}
 use Rattle.byte_map.specs.Values.{map_values}
 use Rattle.byte_map.proofs.ValuesLemmas.{get_map_values}
-use Rattle.lake_model.specs.Versions.{AreBelowNext, VersionsGiven, branch_version, settings_version}
+use Rattle.lake_model.specs.Versions.{AreBelowNext, VersionsGiven}
 use Rattle.lake_state.specs.Branches.{BranchStateValue}
 use Rattle.lake_state.specs.Counts.{HasVersions, versions_of}
 use Rattle.lake_state.specs.Repositories.{RepositoryStateValue}

@@ -24,8 +24,8 @@ pub record HasNoHistory (l : LakeStateValue) : Type 0 where
   pub stopped : l.stopped ≡ false
 
 -- A lake in memory stands for the replay of a legal history from the sound state that it was opened as, in which nothing
--- had happened and whose versions were below the next one. Its versions are those that were given over the history, its
--- tokens are fresh, its counts are small, and its index tells of just what is kept.
+-- had happened and versions were below the next one. Its versions are those that were given over the history, its tokens
+-- are fresh, its counts are small, and its index tells of just what is kept.
 pub record Stands (opened : LakeStateValue) (history : List HistoryEntry) (present : LakeStateValue) : Type 0 where
   pub sound : IsSound (state_of opened)
   pub fresh_start : HasNoHistory opened
