@@ -1,2 +1,3 @@
+pub mod FirstCommits
 pub mod Parts
 pub mod Puts

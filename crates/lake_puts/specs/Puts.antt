@@ -1,10 +1,11 @@
 -- The puts by which each change of a lake is kept, made of what the lake is before it. Where a branch or a repository
 -- isn't there, there are none.
-use Rattle.std.specs.Prelude.{◌+◌, ℕ, List, [], ◌∷◌, ◌++◌, map, filter, Option, Some, None, option_and_then}
+use Rattle.std.specs.Prelude.{◌+◌, ℕ, false, List, [], ◌∷◌, ◌++◌, map, filter, Option, Some, None, option_and_then}
 use Rattle.std.specs.Option.{option_map_or}
 use Rattle.std.specs.List.{flat_map}
-use Rattle.std.specs.FinMap.{get, keys}
+use Rattle.std.specs.FinMap.{empty, get, keys}
 use Rattle.lake_base.specs.declared.digest.Digest.{Digest}
+use Rattle.lake_values.specs.Commit.{CommitRecordValue}
 use Rattle.lake_values.specs.Reset.{drops_path}
 use Rattle.lake_values.specs.declared.commit.ResetWhat.{ResetWhat}
 use Rattle.lake_values.specs.declared.commit.ResetWhat.TheVariants.{All}
@@ -13,6 +14,8 @@ use Rattle.lake_values.specs.declared.settings.Note.{Note}
 use Rattle.lake_values.specs.declared.settings.Note.TheVariants as setting
 use Rattle.lake_values.specs.declared.settings.NoteName.{NoteName}
 use Rattle.branch_record.specs.Tokens.{TokenMap, changes_under}
+use Rattle.lake_format.specs.Cutting.{files}
+use Rattle.lake_format.specs.Spelling.{file_name}
 use Rattle.hook_rules.specs.HookForms.{hooks_text, protection_text}
 use Rattle.pair_format.specs.declared.key.OwnedKey.{OwnedKey}
 use Rattle.pair_format.specs.declared.key.OwnedKey.TheVariants as key
@@ -23,6 +26,7 @@ use Rattle.keeper.specs.declared.put.Put.{Put}
 use Rattle.lake_state.specs.Branches.{BranchStateValue, new_branch, tokens_of, with_fresh}
 use Rattle.lake_state.specs.Repositories.{RepositoryStateValue}
 use Rattle.lake_state.specs.Lakes.{LakeStateValue}
+use Rattle.lake_state.specs.Founding.{first_id, first_record, founded_repository}
 
 -- ---- puts
 
@@ -45,6 +49,23 @@ branch_put repo name b = spelled_put (stored.Branch repo name b.version b.head b
 -- of a repository
 abbrev pub repository_put : List ℕ → RepositoryStateValue → Put
 repository_put repo r = spelled_put (stored.Repository repo r.created r.default_branch r.settings)
+
+-- of a commit, which isn't expired
+abbrev pub commit_put : List ℕ → Digest → CommitRecordValue → Put
+commit_put repo id commit = spelled_put (stored.Commit repo id false commit)
+
+-- of a metarange, under its name
+abbrev pub metarange_put : List ℕ → Put
+metarange_put bytes = spelled_put (stored.MetaRange (file_name bytes) bytes)
+
+-- of a range, under its name
+abbrev pub range_put : List ℕ → Put
+range_put bytes = spelled_put (stored.Range (file_name bytes) bytes)
+
+-- of the files of a tree: the metarange, and then the ranges in order
+abbrev pub file_puts : List (List ℕ) → List Put
+file_puts [] = []
+file_puts (metarange ∷ ranges) = metarange_put metarange ∷ map range_put ranges
 
 -- ---- numbers, and the changes of a branch
 
@@ -87,6 +108,16 @@ seal_puts repo name l =
     (branch_at repo name l) []
 
 -- ---- names
+
+-- A repository is made at a date: it, its default branch, its first commit and the files of that one's tree, and the
+-- counts.
+abbrev pub create_repository_puts : List ℕ → List ℕ → ℕ → LakeStateValue → List Put
+create_repository_puts repo branch date l =
+    repository_put repo (founded_repository l.cut date branch l.next_version l.next_token)
+    ∷ branch_put repo branch (new_branch l.next_version (first_id l.cut date) l.next_token)
+    ∷ commit_put repo (first_id l.cut date) (first_record l.cut date)
+    ∷ (file_puts (files l.cut empty)
+    ++ counts_put (record l { next_version = l.next_version + 1; next_token = l.next_token + 1 }) ∷ [])
 
 -- a branch is made
 abbrev pub create_branch_puts : List ℕ → List ℕ → Digest → LakeStateValue → List Put

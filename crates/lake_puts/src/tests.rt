@@ -13,7 +13,7 @@ use commit_graph::Graph;
 use keeper::Put;
 use lake_base::{Digest, NoMemory, Path, RefName, RepoName, Sequence, Text, TryCopy};
 use lake_format::USUAL_CUT;
-use lake_state::{BranchState, LakeState, RepositoryState};
+use lake_state::{BranchState, LakeState, NameIndex, RepositoryState};
 use lake_values::{Change, Entry, HookRules, Note, NoteName, Pairs, Place, Protection, ResetWhat};
 use std::alloc::Global;
 use std::collections::BTreeMap;
@@ -91,6 +91,7 @@ fn lake(alloc: Global, repo: RepoName) -> Result<LakeState, Fail> {
     Ok(LakeState {
         cut: USUAL_CUT,
         repositories,
+        names: NameIndex::new(alloc),
         tickets: BTreeMap::new(alloc),
         gone: BTreeMap::new(alloc),
         stopped: false,
