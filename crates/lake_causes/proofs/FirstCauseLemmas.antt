@@ -23,6 +23,11 @@ none_first : (o : Option StepFault) (later : List (Option StepFault)) → first_
 none_first None later none = (refl, none)
 none_first (Some fault) later none = absurd cc
 
+-- the last one is the first
+last : (o answer : Option StepFault) → o ≡ answer → first_of (o ∷ []) ≡ answer
+last None answer is = is
+last (Some fault) answer is = is
+
 -- neither holds of what every change asks
 abbrev pub PassesChange : Causes → Type 0
 PassesChange c = (c.stopped ≡ None) × (c.full ≡ None)
@@ -105,8 +110,23 @@ module _ (c : Causes) (change : PassesChange c) where
                   pub expired_refuses : (fault : StepFault) → c.expired ≡ Some fault → first_cause c ≡ Some fault
                   expired_refuses fault is = path_passed (Some fault) (stop c.expired _ fault is)
 
+                  pub clash_tells : c.expired ≡ None → (answer : Option StepFault) → c.clash ≡ answer → first_cause c ≡ answer
+                  clash_tells expired answer is = path_passed answer (skip c.expired _ answer expired (last c.clash answer is))
+
                   pub nothing_refuses : c.expired ≡ None → c.clash ≡ None → first_cause c ≡ None
                   nothing_refuses expired clash = path_passed None (skip c.expired _ None expired (skip c.clash [] None clash refl))
+
+-- what every change is refused for is the first cause of all
+change_first : (stopped full : Option StepFault) (others later : List (Option StepFault)) (fault : StepFault) → first_of others ≡ None
+    → first_of (stopped ∷ full ∷ others) ≡ Some fault → first_of (stopped ∷ full ∷ later) ≡ Some fault
+change_first (Some one) full others later fault none is = is
+change_first None (Some one) others later fault none is = is
+change_first None None others later fault none is = absurd cc
+
+pub change_refuses : (state : State) (later : List (Option StepFault)) (fault : StepFault) → first_cause (causes_of_change state) ≡ Some fault
+    → first_of ((causes_of_change state).stopped ∷ (causes_of_change state).full ∷ later) ≡ Some fault
+change_refuses state later fault is =
+    change_first (causes_of_change state).stopped (causes_of_change state).full _ later fault refl is
 
 -- what another test told is told: it is the first cause
 pub refused : {X : Type 0} (P : X → Type 0) (c : Causes) (answer : Result X StepFault) (told fault : StepFault)

@@ -1,8 +1,10 @@
+pub mod ClashLemmas
 pub mod CommonLemmas
 pub mod CopyingLemmas
 pub mod CreatingLemmas
 pub mod ExpressionLemmas
 pub mod FirstCauseLemmas
 pub mod NamingLemmas
+pub mod RepositoriesLemmas
 pub mod SmallLakeLemmas
 pub mod WritingLemmas

@@ -1,16 +1,18 @@
 //! Why a change of a lake in memory is refused: each test answers the first cause that holds, in the one order, or that
-//! none does. No test takes memory.
+//! none does. No test takes memory, but that of a new repository.
 //!
 //! - `common`: what many changes ask: that the lake isn't stopped and has room, that a repository and a branch are
 //!   there, that a branch is unprotected.
 //! - `writing`: what changes of a branch ask.
 //! - `naming`: what ask branches and tags that come and go, and settings.
+//! - `repositories`: what asks a repository that is to be made.
 //! - `copying`: what a copy asks, and the entry that it finds.
 #![tactic(auto)]
 
 mod common;
 pub mod copying;
 pub mod naming;
+pub mod repositories;
 #[cfg(test)]
 mod tests;
 pub mod writing;
@@ -20,4 +22,5 @@ pub use copying::{Copied, test_copy};
 pub use naming::{
     test_create_branch, test_create_tag, test_delete_branch, test_delete_tag, test_set_note,
 };
+pub use repositories::test_create_repository;
 pub use writing::{test_seal, test_stage, test_write};

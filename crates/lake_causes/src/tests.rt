@@ -1,4 +1,5 @@
 //! Each refusal once, and where two causes hold, the one that is answered.
+mod clashes;
 mod small_lake;
 
 ghost use Rattle.lake_model.specs.Soundness.{IsSound};

@@ -21,7 +21,7 @@ use commit_graph::Graph;
 use lake_base::{Digest, Path, RefName, RepoName, Sequence, Text, TryCopy};
 use lake_format::USUAL_CUT;
 use lake_model::history::HISTORY_LIMIT;
-use lake_state::{BranchState, LakeState, RepositoryState};
+use lake_state::{BranchState, LakeState, NameIndex, RepositoryState};
 use lake_values::{
     Change, Changes, CommitId, CommitRecord, Entry, KeyMap, Pairs, Place, Protection,
 };
@@ -232,6 +232,7 @@ pub(super) fn small_lake(alloc: Global, like: Like) -> Result<LakeState, Fail>
     Ok(LakeState {
         cut: USUAL_CUT,
         repositories,
+        names: NameIndex::new(alloc),
         tickets: BTreeMap::new(alloc),
         gone: BTreeMap::new(alloc),
         stopped: like == Like::Stopped,

@@ -20,4 +20,4 @@ returns c =
     ∙ map_values_insert repository_of empty name (repository_value r)
     ∙ ap (λ m. insert m name (repository_of (repository_value r))) (map_values_empty repository_of) in
     lake_sound _ name (repository_of (repository_value r)) alone c.in_ok-repository.ensures.0 c.in_ok-repository.ensures.1
-    (ap tickets_of c.new.ensures.empty) (ap from_entries c.new-2.ensures.empty)
+    (ap tickets_of c.new-2.ensures.empty) (ap from_entries c.new-3.ensures.empty)

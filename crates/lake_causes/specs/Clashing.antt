@@ -1,0 +1,54 @@
+-- The clashes of new bytes with those that are kept, as the index of a lake in memory finds them.
+use Rattle.std.specs.Prelude.{◌≡◌, ◌⊎◌, ℕ, List, [], ◌∷◌, Option, Some, None, option_map, Result, MatchResult, if◌then◌else◌}
+use Rattle.std.specs.Option.{option_or}
+use Rattle.std.specs.Str.{bytes_eq}
+use Rattle.std.specs.FinMap.{get}
+use Rattle.lake_base.specs.declared.digest.Digest.{Digest}
+use Rattle.lake_format.specs.Spelling.{commit_spelling, file_name}
+use Rattle.lake_model.specs.declared.fault.StepFault.{StepFault}
+use Rattle.lake_model.specs.declared.fault.StepFault.TheVariants.{NoMemory}
+use Rattle.lake_model.specs.State.{State}
+use Rattle.lake_model.specs.Commits.{bare_repository, first_draft}
+use Rattle.lake_model.specs.Refusals.{Clash, IsClashOrNone, first_cause}
+use Rattle.lake_model.specs.Steps.{create_repository_causes}
+use Rattle.lake_state.specs.Index.{indexed_commit}
+use Rattle.lake_state.specs.Lakes.{LakeStateValue}
+
+-- what a test answers that takes memory: it passed where there is no cause; else its answer is the cause; or memory ran
+-- out
+abbrev pub TellsOrFails : {X : Type 0} → Option StepFault → Result X StepFault → Type 0
+TellsOrFails cause answer =
+    MatchResult answer (λ x. cause ≡ None) (λ fault. (fault ≡ NoMemory) ⊎ (cause ≡ Some fault))
+
+-- What the test of a repository answers that is to be made: for a clash of its first commit that is there, or for none
+-- where there is none, it tells the first cause.
+pub record AsksToCreate {X : Type 0} (state : State) (repo branch : List ℕ) (date : ℕ) (answer : Result X StepFault) : Type 0 where
+  pub clash : Option Clash
+  pub there : IsClashOrNone state (bare_repository date branch) (first_draft date) clash
+  pub tells : TellsOrFails (first_cause (create_repository_causes state repo clash)) answer
+
+-- ---- in the hands of the code
+
+-- what is found, where it isn't these bytes
+abbrev pub other_than : List ℕ → Option (List ℕ) → Option (List ℕ)
+other_than new None = None
+other_than new (Some kept) = if bytes_eq kept new then None else Some kept
+
+-- the bytes of the commit that the index finds of an id
+abbrev pub indexed_content : LakeStateValue → Digest → Option (List ℕ)
+indexed_content l id = option_map commit_spelling (indexed_commit l id)
+
+-- bytes that the index finds under a name, other than these: those of a commit, or else those of a file
+abbrev pub other_content : LakeStateValue → Digest → List ℕ → Option (List ℕ)
+other_content l name new =
+    option_or (other_than new (indexed_content l name)) (other_than new (get l.names.files name.0))
+
+-- the clash of new bytes with those that the index finds
+abbrev pub indexed_clash : LakeStateValue → List ℕ → Option Clash
+indexed_clash l new =
+    option_map (λ kept. record { name = file_name new; kept = kept; new = new }) (other_content l (file_name new) new)
+
+-- the first clash of some new bytes
+abbrev pub first_clash : LakeStateValue → List (List ℕ) → Option Clash
+first_clash l [] = None
+first_clash l (new ∷ later) = option_or (indexed_clash l new) (first_clash l later)
