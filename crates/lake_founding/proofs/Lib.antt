@@ -1,2 +1,1 @@
 pub mod FoundingLemmas
-pub mod PutsLemmas

@@ -1,55 +1,86 @@
-//! The fresh lake.
-ghost use Rattle.std.specs.Prelude.{◌≡◌, IfOk, codes, option_map};
-ghost use Rattle.std.specs.FinMap.{empty, insert};
-ghost use Rattle.byte_map.specs.Values.{some_values};
+//! The fresh lake, and the puts by which it is kept.
+ghost use Rattle.std.specs.Prelude.{◌≡◌, IfOk, codes};
+ghost use Rattle.lake_state.specs.Founding.{fresh_lake};
 ghost use Rattle.lake_state.specs.Lakes.{lake_value};
-ghost use Rattle.lake_state.specs.Repositories.{repository_value};
-ghost use Rattle.lake_founding.specs.Founding.{fresh_lake};
+ghost use Rattle.lake_founding.specs.Founding.{bare_lake, fresh_puts};
 
+use crate::commits::first_commit;
 use crate::repositories::new_repository;
 use byte_map::ByteMap;
+use keeper::Put;
 use lake_base::{NoMemory, RefName, RepoName};
+use lake_changes::founding::{create_repository, make_repository_room};
 use lake_format::Cut;
-use lake_state::{LakeState, RepositoryState};
+use lake_puts::create_repository_puts;
+use lake_state::{LakeState, NameIndex};
 use std::alloc::Global;
 use std::collections::BTreeMap;
 
 /// A fresh lake of a cut: the repository `quickstart`, with the branch `main` at a first commit of the date 0.
-#[tactic(auto, unfolding(lake_state::specs::Lakes::lake_value))]
 pub fn fresh_lake(alloc: Global, cut: Cut) -> Result<LakeState, NoMemory>
     ensures { IfOk result (λ lake. lake_value lake ≡ fresh_lake cut) }
 {
-    let repository = new_repository(alloc, cut, main_branch(alloc)?, 0, 1, 0)?;
-    let repositories = repositories_of(alloc, repository)?;
-    Ok(LakeState {
+    let mut lake = bare_lake(alloc, cut);
+    let repo = first_repo(alloc)?;
+    let branch = main_branch(alloc)?;
+    let first = first_commit(alloc, 0)?;
+    let new = new_repository(alloc, &lake, &repo, branch, first)?;
+    make_repository_room(alloc, &mut lake, &repo, &new.commit, &new.file)?;
+    create_repository(&mut lake, &repo, new);
+    begin_history(&mut lake);
+    Ok(lake)
+}
+
+/// The puts by which a fresh lake of a cut is kept.
+pub fn fresh_puts(alloc: Global, cut: Cut) -> Result<Vec<Put>, NoMemory>
+    ensures { IfOk result (λ puts. puts.items ≡ fresh_puts cut) }
+{
+    let lake = bare_lake(alloc, cut);
+    let repo = first_repo(alloc)?;
+    let branch = main_branch(alloc)?;
+    let first = first_commit(alloc, 0)?;
+    create_repository_puts(
+        alloc,
+        &lake,
+        &repo,
+        &branch,
+        &first.commit,
+        first.content.name,
+        &first.tree,
+    )
+}
+
+// A lake before its first repository. It takes no memory.
+#[tactic(auto, unfolding(lake_state::specs::Lakes::lake_value))]
+fn bare_lake(alloc: Global, cut: Cut) -> LakeState
+    ensures { lake_value result ≡ bare_lake cut }
+{
+    LakeState {
         cut,
-        repositories,
+        repositories: ByteMap::new(alloc),
+        names: NameIndex::new(alloc),
         tickets: BTreeMap::new(alloc),
         gone: BTreeMap::new(alloc),
         stopped: false,
         entries: 0,
         references: 0,
         next_number: 0,
-        next_version: 2,
-        next_token: 1,
-    })
+        next_version: 1,
+        next_token: 0,
+    }
 }
 
-// The first repository under its name.
-fn repositories_of(
-    alloc: Global,
-    repository: RepositoryState,
-) -> Result<ByteMap<RepoName, Option<RepositoryState>>, NoMemory>
-    ensures { IfOk result (λ repositories. some_values (option_map repository_value) repositories
-        ≡ insert empty (codes "quickstart") (repository_value repository)) }
+// The history of the lake begins here.
+#[tactic(auto, unfolding(lake_state::specs::Lakes::lake_value))]
+fn begin_history(lake: &mut LakeState)
+    ensures { lake_value lake.new ≡ record (lake_value lake.old) { entries = 0; references = 0 } }
 {
-    let mut repositories = ByteMap::new(alloc);
-    repositories.insert(first_repo(alloc)?, Some(repository))?;
-    Ok(repositories)
+    lake.entries = 0;
+    lake.references = 0;
 }
 
-// The name of its repository.
-pub(crate) fn first_repo(alloc: Global) -> Result<RepoName, NoMemory>
+// The name of the first repository.
+fn first_repo(alloc: Global) -> Result<RepoName, NoMemory>
     ensures { IfOk result (λ name. name ≡ codes "quickstart") }
 {
     match RepoName::read(alloc, b"quickstart") {
@@ -60,7 +91,7 @@ pub(crate) fn first_repo(alloc: Global) -> Result<RepoName, NoMemory>
 }
 
 // The name of its branch.
-pub(crate) fn main_branch(alloc: Global) -> Result<RefName, NoMemory>
+fn main_branch(alloc: Global) -> Result<RefName, NoMemory>
     ensures { IfOk result (λ name. name ≡ codes "main") }
 {
     match RefName::read(alloc, b"main") {

@@ -1,9 +1,8 @@
 //! What stands in a lake before its history: the fresh lake, with its first repository.
 //!
-//! - `commits`: the first commit of a repository, and its tree.
+//! - `commits`: the first commit of a repository, its tree, and the bytes of both.
 //! - `repositories`: a new repository.
-//! - `lakes`: the fresh lake.
-//! - `puts`: the puts by which the fresh lake is kept.
+//! - `lakes`: the fresh lake, and the puts by which it is kept.
 //! - `laws`: they stand for those of the one-thread lake, and what every lake in memory keeps holds of the fresh one.
 //!
 //! The promise to the layer above: a history that begins with the fresh lake begins with the one of `lake_model`.
@@ -12,13 +11,11 @@
 pub mod commits;
 pub mod lakes;
 mod laws;
-pub mod puts;
 pub mod repositories;
 #[cfg(test)]
 mod tests;
 
-pub use commits::first_commit;
-pub use lakes::fresh_lake;
+pub use commits::{FirstCommit, first_commit};
+pub use lakes::{fresh_lake, fresh_puts};
 pub use laws::laws_of_founding;
-pub use puts::fresh_puts;
 pub use repositories::new_repository;

@@ -2,41 +2,86 @@
 ghost use Rattle.std.specs.Prelude.{◌≡◌, IfOk, option_map};
 ghost use Rattle.std.specs.FinMap.{empty, insert};
 ghost use Rattle.lake_format.specs.Spelling.{commit_id};
+ghost use Rattle.lake_format.specs.declared.cut.Cut.{Cut as AnyCut};
 ghost use Rattle.byte_map.specs.Values.{map_values, some_values};
+ghost use Rattle.lake_changes.specs.NewRepositories.{IsNew};
 ghost use Rattle.lake_state.specs.Branches.{branch_value, new_branch};
+ghost use Rattle.lake_state.specs.Founding.{founded_repository};
+ghost use Rattle.lake_state.specs.Lakes.{lake_value};
 ghost use Rattle.lake_state.specs.Repositories.{repository_value};
-ghost use Rattle.lake_founding.specs.Founding.{founded_repository};
+ghost use Rattle.lake_puts.specs.FirstCommits.{IsFirstCommit};
+ghost use Rattle.lake_founding.specs.Founding.{IsFirst};
 
-use crate::commits::first_commit;
+use crate::commits::FirstCommit;
 use branch_record::{BranchRecord, Tokens};
 use byte_map::ByteMap;
 use commit_graph::Graph;
-use lake_base::{NoMemory, RefName, TryCopy};
-use lake_format::Cut;
-use lake_state::{BranchState, RepositoryState};
+use lake_base::{NoMemory, RefName, RepoName, TryCopy};
+use lake_changes::founding::NewRepository;
+use lake_state::{BranchState, FilePlace, LakeState, RepositoryState};
 use lake_values::{CommitId, CommitRecord};
 use meta_range::Tree;
 use std::alloc::Global;
 use std::sync::Arc;
 
-/// A new repository, with its default branch at its first commit: it is made at a date, in seconds since 1970, and its
-/// branch has a version and stages under a token.
+/// A new repository that isn't in the lake yet, with its default branch at its first commit: it is made at that one's
+/// date, and its branch has the version and the staging token that the lake gives out next.
+#[tactic(auto, unfolding(lake_state::specs::Lakes::lake_value))]
 pub fn new_repository(
     alloc: Global,
-    cut: Cut,
+    lake: &LakeState,
+    repo: &RepoName,
     branch: RefName,
-    date: u64,
+    first: FirstCommit,
+) -> Result<NewRepository, NoMemory>
+    requires { IsFirst (lake_value lake.now).cut first.commit.date first }
+    ensures { IfOk result (IsNew repo.now branch first.commit.date (lake_value lake.now)) }
+{
+    let FirstCommit {
+        commit,
+        content,
+        tree,
+        metarange,
+    } = first;
+    let home = repo.copy(alloc)?;
+    let place = FilePlace::of(tree.clone()?, 0);
+    let repository = repository_of(
+        alloc,
+        branch,
+        commit,
+        content.name,
+        tree,
+        lake.next_version,
+        lake.next_token,
+    )?;
+    Ok(NewRepository {
+        repository,
+        commit: content.name,
+        home,
+        file: metarange.name,
+        place,
+    })
+}
+
+// The repository of a first commit with this id and this tree.
+fn repository_of(
+    alloc: Global,
+    branch: RefName,
+    commit: CommitRecord,
+    id: CommitId,
+    tree: Arc<Tree, Global>,
     version: u64,
     token: u64,
 ) -> Result<RepositoryState, NoMemory>
-    ensures { IfOk result (λ r. repository_value r ≡ founded_repository cut date branch version token) }
+    ensures { IfOk result (λ r. (cut : AnyCut) → IsFirstCommit cut commit id tree.value
+        → repository_value r ≡ founded_repository cut commit.date branch version token) }
 {
-    let (commit, tree) = first_commit(alloc, cut, date)?;
-    let (graph, id) = graph_of(alloc, commit)?;
+    let created = commit.date;
+    let graph = graph_of(alloc, commit)?;
     let branches = branches_of(alloc, &branch, new_branch(alloc, version, id, token))?;
     let trees = trees_of(alloc, id, tree)?;
     Ok(RepositoryState {
-        created: date,
+        created,
         default_branch: branch,
         settings: 0,
         branches,
@@ -50,14 +95,13 @@ pub fn new_repository(
     })
 }
 
-// The graph of a first commit, and its id.
-fn graph_of(alloc: Global, commit: CommitRecord) -> Result<(Graph, CommitId), NoMemory>
-    ensures graph { IfOk result (λ made. made.0 ≡ insert empty (commit_id commit).0 commit) }
-    ensures id { IfOk result (λ made. made.1 ≡ commit_id commit) }
+// The graph of a first commit.
+fn graph_of(alloc: Global, commit: CommitRecord) -> Result<Graph, NoMemory>
+    ensures { IfOk result (λ graph. graph ≡ insert empty (commit_id commit).0 commit) }
 {
     let mut graph = Graph::new(alloc);
     match graph.add(alloc, commit) {
-        Ok(id) => Ok((graph, id)),
+        Ok(_) => Ok(graph),
         // A first commit has no parent that could miss, the generation that is due, and no other of its name.
         Err(_) => Err(NoMemory),
     }
@@ -91,11 +135,11 @@ fn branches_of(
 fn trees_of(
     alloc: Global,
     id: CommitId,
-    tree: Tree,
+    tree: Arc<Tree, Global>,
 ) -> Result<ByteMap<CommitId, Arc<Tree, Global>>, NoMemory>
-    ensures { IfOk result (λ trees. map_values (λ tree. tree.value) trees ≡ insert empty id.0 tree) }
+    ensures { IfOk result (λ trees. map_values (λ tree. tree.value) trees ≡ insert empty id.0 tree.value) }
 {
     let mut trees = ByteMap::new(alloc);
-    trees.insert(id, Arc::new(alloc, tree)?)?;
+    trees.insert(id, tree)?;
     Ok(trees)
 }

@@ -1,4 +1,5 @@
-use Rattle.lake_founding.proofs.FoundingLemmas.{founded_seen, fresh_below, fresh_has, fresh_seen}
+use Rattle.lake_changes.proofs.FoundingLemmas.{founded_seen}
+use Rattle.lake_founding.proofs.FoundingLemmas.{fresh_below, fresh_has, fresh_index, fresh_seen}
 use Rattle.lake_founding.proofs.laws.laws_of_founding.Goals as goal
 
 pub returns-clause-repository : goal.returns-clause-repository
@@ -12,3 +13,6 @@ returns-clause-versions c = fresh_has
 
 pub returns-clause-tokens : goal.returns-clause-tokens
 returns-clause-tokens c = fresh_below
+
+pub returns-clause-index : goal.returns-clause-index
+returns-clause-index c cut = fresh_index cut c.laws_of_indexes.ensures.repository_create

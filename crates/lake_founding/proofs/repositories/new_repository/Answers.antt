@@ -1,30 +1,26 @@
-use Rattle.std.proofs.Common.{None, ap, ◌∙◌}
-use Rattle.std.specs.FinMap.{empty, insert}
-use Rattle.byte_map.specs.Values.{some_values}
-use Rattle.byte_map.proofs.ValuesLemmas.{some_values_empty}
-use Rattle.lake_format.specs.Spelling.{commit_id}
-use Rattle.lake_state.specs.Branches.{new_branch}
-use Rattle.lake_founding.proofs.FoundingLemmas.{first_named}
+use Rattle.std.proofs.Common.{◌<◌, length, ap, sym, subst, ◌∙◌}
+use Rattle.lake_format.specs.Cutting.{files}
+use Rattle.meta_range.specs.Ranges.{TreeValue}
+use Rattle.lake_changes.proofs.FoundingLemmas.{file_named, one_file}
+use Rattle.lake_state.specs.FilePlaces.{file_at}
+use Rattle.lake_state.specs.Lakes.{lake_value}
+use Rattle.lake_founding.proofs.FoundingLemmas.{has_file, is_first_commit}
 use Rattle.lake_founding.proofs.repositories.new_repository.Goals as goal
 
+pub of-place-requires : goal.of-place-requires
+of-place-requires c =
+    subst (λ (t : TreeValue). 0 < length t.files) (sym (c.in_ok-clone.ensures.cases ∙ c.requires.tree)) (has_file (lake_value c.args.lake.now).cut)
+
 pub returns : goal.returns
+unfolding lake_value
 returns c =
-    let commit = c.in_ok-commit.ensures.record in
-    let id = c.in_ok-graph.ensures.id ∙ ap commit_id commit ∙ first_named c.args.cut c.args.date in
-    let branch = c.new_branch.ensures ∙ ap (λ id. new_branch c.args.version id c.args.token) id in
-    let branches = c.in_ok-branches.ensures ∙ ap (insert empty c.args.branch) branch in
-    let tags = ap (some_values (λ tag. tag)) c.new.ensures ∙ some_values_empty (λ tag. tag) in
-    let named = ap commit_id commit ∙ first_named c.args.cut c.args.date in
-    let commits = c.in_ok-graph.ensures.graph ∙ (λ i. insert empty (named i).0 (commit i)) in
-    let trees = c.in_ok-trees.ensures ∙ (λ i. insert empty (id i).0 (c.in_ok-commit.ensures.tree i)) in
-    λ i. record {
-      created = c.args.date;
-      default_branch = c.args.branch;
-      settings = 0;
-      branches = branches i;
-      tags = tags i;
-      commits = commits i;
-      trees = trees i;
-      expired = c.new-2.ensures i;
-      notes = record { retention = None; protection = None; hooks = None };
+    let cut = (lake_value c.args.lake.now).cut in
+    let is = is_first_commit cut c.args.first.commit.date c.args.first c.requires in
+    record {
+      repository = c.in_ok-repository.ensures cut is;
+      commit = is.name;
+      home = c.in_ok-home.ensures.equal;
+      file = ap (λ file. file.name) c.requires.metarange ∙ file_named cut;
+      place = c.of-place.ensures ∙ ap (λ (t : TreeValue). file_at t.files 0) (c.in_ok-clone.ensures.cases ∙ c.requires.tree)
+          ∙ ap (λ all. file_at all 0) (one_file cut);
     }

@@ -13,7 +13,6 @@ shared tree = tree.value
 
 pub returns : goal.returns
 returns c =
-    let tree = c.in_ok-new.field-0 in
-    ap (map_values shared) (c.in_ok-insert.ensures.inserted ∙ ap (λ m. insert m c.args.id.0 tree) c.new-trees.ensures)
-    ∙ map_values_insert shared empty c.args.id.0 tree
-    ∙ (λ i. insert (map_values_empty shared i) c.args.id.0 (c.in_ok-new.ensures.ok i))
+    ap (map_values shared) (c.in_ok-insert.ensures.inserted ∙ ap (λ m. insert m c.args.id.0 c.args.tree) c.new-trees.ensures)
+    ∙ map_values_insert shared empty c.args.id.0 c.args.tree
+    ∙ (λ i. insert (map_values_empty shared i) c.args.id.0 c.args.tree.value)

@@ -3,14 +3,13 @@ use Rattle.std.specs.FinMap.{empty}
 use Rattle.lake_format.specs.Spelling.{file_name}
 use Rattle.meta_range.specs.Ranges.{TreeValue, first_file}
 use Rattle.meta_range.proofs.LawLemmas.{first_is}
-use Rattle.lake_founding.specs.Founding.{first_record}
-use Rattle.lake_founding.proofs.commits.first_commit.Goals as goal
+use Rattle.lake_state.specs.Founding.{first_record}
+use Rattle.lake_founding.proofs.commits.commit_of.Goals as goal
 
-pub returns-clause-record : goal.returns-clause-record
+pub returns : goal.returns
 unfolding first_record
-returns-clause-record c =
-    let tree = c.in_ok-tree.ensures c.args.cut in
-    let name = c.name.ensures ∙ ap (λ (t : TreeValue). file_name (first_file t.files)) tree ∙ sym (first_is c.args.cut empty) in
+returns c cut is =
+    let name = c.name.ensures ∙ ap (λ (t : TreeValue). file_name (first_file t.files)) is ∙ sym (first_is cut empty) in
     let parents = c.of.ensures ∙ c.new.ensures.items in
     let committer = c.of-2.ensures ∙ c.in_ok-from_str.ensures.ok in
     let message = c.of-3.ensures ∙ c.in_ok-from_str-2.ensures.ok in
