@@ -17,7 +17,7 @@ use Rattle.lake_state.specs.Lakes.{LakeStateValue}
 use Rattle.lake_core.specs.declared.open_fault.OpenFault.{OpenFault}
 use Rattle.lake_core.specs.OpenFaults.{open_fault_of}
 use Rattle.lake_core.specs.Opening.{IsUnopened}
-use Rattle.lake_core.specs.Steps.{KeeperView}
+use Rattle.lake_keeping.specs.Views.{KeeperView}
 use Rattle.lake_standing.specs.Standing.{Stands}
 
 -- a number that isn't 0

@@ -24,8 +24,9 @@ use Rattle.lake_state.specs.Lakes.{LakeStateValue, lake_value}
 use Rattle.lake_changes.specs.LakeChanges.{after_fault, after_stage, without_ticket}
 use Rattle.lake_standing.specs.Standing.{MayMake, Stands}
 use Rattle.lake_core.specs.Lakes.{LakeValue, state, versions}
-use Rattle.lake_core.specs.Steps.{IsMade, KeeperView, Leaves, Making}
-use Rattle.lake_core.specs.Keeping.{AreKept, Keeps, Parts}
+use Rattle.lake_keeping.specs.Views.{KeeperView}
+use Rattle.lake_core.specs.Steps.{IsMade, Leaves, Making}
+use Rattle.lake_keeping.specs.Keeping.{HasKept, Keeps, Parts}
 
 module _ {opened : LakeStateValue} {history : List HistoryEntry} {l : LakeStateValue} {by : By} {operation : Operation}
     {make : LakeStateValue → LakeStateValue} (may : MayMake opened history l by operation make) where
@@ -288,7 +289,7 @@ module _ {K : Type 0} (view : KeeperView K) (by : By) (make : LakeState → Opti
 
   -- it was made
   pub made_leaves : (next : LakeState)
-      → AreKept view by made puts (record { keeper = keeper; history = history; present = ready }) after
+      → HasKept view by made puts (record { keeper = keeper; history = history; present = ready }) after
       → lake_value next ≡ making.after (lake_value present)
       → IsSomeAnd (make lake.present) (λ m. IsMade view by m lake
       (record { opened = opened; history = after.history; present = next; keeper = after.keeper }))

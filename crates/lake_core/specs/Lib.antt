@@ -1,7 +1,6 @@
 pub mod Lakes
 pub mod Steps
 pub mod Makings
-pub mod Keeping
 pub mod Ready
 pub mod Opening
 pub mod OpenFaults

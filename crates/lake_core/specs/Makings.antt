@@ -9,12 +9,12 @@ use Rattle.lake_values.specs.declared.settings.Note.{Note}
 use Rattle.lake_values.specs.declared.settings.NoteName.{NoteName}
 use Rattle.commit_graph.specs.Expressions.{RefExprValue}
 use Rattle.lake_model.specs.declared.history.CopySource.{CopySource}
-use Rattle.lake_model.specs.declared.history.Operation.TheVariants.{BranchCreate, BranchDelete, Copy, NoteSet, Reset, Seal, Stage, TagCreate, TagDelete, TicketDrop, TicketTake}
+use Rattle.lake_model.specs.declared.history.Operation.TheVariants.{BranchCreate, BranchDelete, Copy, NoteSet, RepoCreate, Reset, Seal, Stage, TagCreate, TagDelete, TicketDrop, TicketTake}
 use Rattle.lake_model.specs.declared.history.SealFor.{SealFor}
 use Rattle.lake_model.specs.Steps.{copied_entry, copy_source, in_it, target_in}
 use Rattle.lake_state.specs.Lakes.{LakeStateValue, state_of}
-use Rattle.lake_changes.specs.LakeChanges.{after_branch_create, after_branch_delete, after_copy, after_note_set, after_reset, after_seal, after_stage, after_tag_create, after_tag_delete, after_ticket_drop, after_ticket_take}
-use Rattle.lake_puts.specs.Puts.{create_branch_puts, create_tag_puts, delete_branch_puts, delete_tag_puts, reset_puts, seal_puts, set_note_puts, stage_puts, ticket_puts}
+use Rattle.lake_changes.specs.LakeChanges.{after_branch_create, after_branch_delete, after_copy, after_note_set, after_repository_create, after_reset, after_seal, after_stage, after_tag_create, after_tag_delete, after_ticket_drop, after_ticket_take}
+use Rattle.lake_puts.specs.Puts.{create_branch_puts, create_repository_puts, create_tag_puts, delete_branch_puts, delete_tag_puts, reset_puts, seal_puts, set_note_puts, stage_puts, ticket_puts}
 use Rattle.lake_core.specs.Steps.{Making}
 
 -- a number is given out to a seat
@@ -65,6 +65,14 @@ seal repo branch why l = record {
   operation = Seal repo branch why;
   after = after_seal repo branch;
   puts = seal_puts repo branch l;
+}
+
+-- a repository is made at a date
+abbrev pub create_repo : List ℕ → List ℕ → ℕ → LakeStateValue → Making
+create_repo repo branch date l = record {
+  operation = RepoCreate repo branch date;
+  after = after_repository_create repo branch date;
+  puts = create_repository_puts repo branch date l;
 }
 
 -- a branch is made at a commit

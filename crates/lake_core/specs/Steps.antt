@@ -1,7 +1,7 @@
 -- What a change leaves of a lake.
-use Rattle.std.specs.Prelude.{◌≡◌, ◌≤◌, ◌++◌, ◌∷◌, [], ℕ, List, Option, Some, is_some, Result, Ok, Err, IfSome, IsSomeAnd}
+use Rattle.std.specs.Prelude.{◌≡◌, ◌++◌, ◌∷◌, [], List, Option, Some, Result, Ok, Err, IfSome, IsSomeAnd}
 use Rattle.lake_base.specs.Outside.{Rose}
-use Rattle.keeper.specs.Keepers.{KeptPairs, MayHaveMade, pairs_after}
+use Rattle.keeper.specs.Keepers.{MayHaveMade, pairs_after}
 use Rattle.keeper.specs.declared.put.Put.{Put}
 use Rattle.lake_model.specs.declared.fault.StepFault.{StepFault}
 use Rattle.lake_model.specs.declared.fault.StepFault.TheVariants.{StoreFault, NoMemory}
@@ -10,6 +10,7 @@ use Rattle.lake_model.specs.declared.history.Operation.{Operation}
 use Rattle.lake_model.specs.History.{accepted_entry, faulted_entry}
 use Rattle.lake_state.specs.Lakes.{LakeStateValue, lake_value}
 use Rattle.lake_changes.specs.LakeChanges.{after_fault}
+use Rattle.lake_keeping.specs.Views.{IsLaterKeeper, KeeperView}
 use Rattle.lake_core.specs.Lakes.{LakeValue}
 
 -- a change: its operation, what becomes of the lake in memory, and the puts by which that is kept
@@ -17,16 +18,6 @@ pub record Making : Type 0 where
   pub operation : Operation
   pub after : LakeStateValue → LakeStateValue
   pub puts : List Put
-
--- what contracts see of a keeper: the pairs that it keeps, where it tells them, and its count of faults
-pub record KeeperView (K : Type 0) : Type 0 where
-  pub kept : K → Option KeptPairs
-  pub faults : K → ℕ
-
--- a keeper later on: it tells its pairs where it did, and its count of faults didn't fall
-pub record IsLaterKeeper {K : Type 0} (view : KeeperView K) (old new : K) : Type 0 where
-  pub told : is_some (view.kept new) ≡ is_some (view.kept old)
-  pub later : view.faults old ≤ view.faults new
 
 -- It was made: the history has its one entry more, and the keeper made its puts.
 pub record IsMade {K : Type 0} (view : KeeperView K) (by : By) (made : Making) (old new : LakeValue K) : Type 0 where

@@ -16,7 +16,6 @@ ghost use Rattle.lake_core.specs.Makings.{create_branch, delete_branch, reset, s
 ghost use Rattle.lake_core.specs.Ready.{IsReady};
 ghost use Rattle.lake_core.specs.Steps.{Leaves};
 
-use crate::keeping::{keep, place};
 use crate::lake::Lake;
 use crate::ready::Ready;
 use commit_graph::RefExpr;
@@ -25,6 +24,7 @@ use lake_base::{NoMemory, RefName, RepoName, TryCopy};
 use lake_causes::{test_create_branch, test_delete_branch, test_seal, test_write};
 use lake_changes::lake as change;
 use lake_changes::repository::Room;
+use lake_keeping::{keep, place};
 use lake_model::{By, Operation, SealFor, StepFault, Versions};
 use lake_puts::{create_branch_puts, delete_branch_puts, reset_puts, seal_puts};
 use lake_standing::{law_of_present, laws_of_names, laws_of_plain_names, laws_of_writes};

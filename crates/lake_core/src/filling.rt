@@ -1,7 +1,7 @@
 //! The pairs of a fresh lake, which a keeper without pairs is given.
 ghost use Rattle.std.specs.Prelude.{◌≡◌, [], true, false, MatchResult};
 ghost use Rattle.lake_state.specs.Lakes.{lake_value};
-ghost use Rattle.lake_founding.specs.Founding.{fresh_lake};
+ghost use Rattle.lake_state.specs.Founding.{fresh_lake};
 ghost use Rattle.lake_core.specs.Opening.{IsFilled, IsUnopened};
 
 use crate::open_fault::OpenFault;

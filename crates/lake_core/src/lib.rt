@@ -1,8 +1,8 @@
 //! The lake: one step at a time, on a value that stands for its history.
 //!
 //! - `lake`: the lake, and its keeper; `opening`: a lake that is opened, by `filling` a keeper without pairs.
-//! - `keeping`: what each change does to its keeper and its history; `ready`: what it has ready before that.
-//! - `tickets`, `paths`, `branches`, `tags`, `notes`: the changes.
+//! - `ready`: what a change has ready before it is kept.
+//! - `repositories`, `tickets`, `paths`, `branches`, `tags`, `notes`: the changes.
 //! - `readings`: the readings.
 //!
 //! Each change has four blocks: it tests what may refuse it, in the one order; takes its memory; keeps its puts and its
@@ -15,7 +15,6 @@
 
 pub mod branches;
 mod filling;
-mod keeping;
 pub mod lake;
 pub mod notes;
 mod open_fault;
@@ -23,6 +22,7 @@ pub mod opening;
 pub mod paths;
 pub mod readings;
 mod ready;
+pub mod repositories;
 pub mod tags;
 pub mod tickets;
 

@@ -16,13 +16,13 @@ ghost use Rattle.lake_core.specs.Makings.{set_note};
 ghost use Rattle.lake_core.specs.Ready.{IsReady};
 ghost use Rattle.lake_core.specs.Steps.{Leaves};
 
-use crate::keeping::{keep, place};
 use crate::lake::Lake;
 use crate::ready::Ready;
 use keeper::Keeper;
 use lake_base::{NoMemory, RepoName, TryCopy};
 use lake_causes::test_set_note;
 use lake_changes::lake as change;
+use lake_keeping::{keep, place};
 use lake_model::{By, Operation, StepFault};
 use lake_puts::set_note_puts;
 use lake_standing::{law_of_settings, laws_of_plain_names};

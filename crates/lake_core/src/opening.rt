@@ -9,7 +9,8 @@ use keeper::Keeper;
 use lake_format::Cut;
 use lake_founding::laws_of_founding;
 use lake_laws::soundness::law_of_soundness;
-use lake_standing::law_of_opening;
+use lake_laws::versions::law_of_next_versions;
+use lake_standing::{law_of_opening, law_of_versions_below};
 use std::alloc::Global;
 use std::snapshot::Snapshot;
 
@@ -26,6 +27,8 @@ impl<K: Keeper> Lake<K> {
             Ok(present) => {
                 laws_of_founding();
                 law_of_soundness();
+                law_of_next_versions();
+                law_of_versions_below();
                 law_of_opening();
                 Ok(Lake {
                     alloc,

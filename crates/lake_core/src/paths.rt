@@ -15,7 +15,6 @@ ghost use Rattle.lake_core.specs.Makings.{copy, stage};
 ghost use Rattle.lake_core.specs.Ready.{IsReady};
 ghost use Rattle.lake_core.specs.Steps.{Leaves};
 
-use crate::keeping::{keep, place};
 use crate::lake::Lake;
 use crate::ready::Ready;
 use commit_graph::RefExpr;
@@ -24,6 +23,7 @@ use lake_base::{NoMemory, Path, RefName, RepoName, TryCopy};
 use lake_causes::{Copied, test_copy, test_stage};
 use lake_changes::lake as change;
 use lake_changes::repository::Room;
+use lake_keeping::{keep, place};
 use lake_model::{By, CopySource, Operation, StepFault};
 use lake_puts::{copy_puts, stage_puts};
 use lake_standing::{law_of_present, laws_of_writes};

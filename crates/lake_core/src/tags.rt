@@ -13,7 +13,6 @@ ghost use Rattle.lake_core.specs.Makings.{create_tag, delete_tag};
 ghost use Rattle.lake_core.specs.Ready.{IsReady};
 ghost use Rattle.lake_core.specs.Steps.{Leaves};
 
-use crate::keeping::{keep, place};
 use crate::lake::Lake;
 use crate::ready::Ready;
 use commit_graph::RefExpr;
@@ -22,6 +21,7 @@ use lake_base::{NoMemory, RefName, RepoName, TryCopy};
 use lake_causes::{test_create_tag, test_delete_tag};
 use lake_changes::lake as change;
 use lake_changes::repository::Room;
+use lake_keeping::{keep, place};
 use lake_model::{By, Operation, StepFault};
 use lake_puts::{create_tag_puts, delete_tag_puts};
 use lake_standing::{law_of_present, laws_of_names, laws_of_plain_names};

@@ -13,13 +13,13 @@ ghost use Rattle.lake_core.specs.Makings.{drop_ticket, take_ticket};
 ghost use Rattle.lake_core.specs.Ready.{IsReady};
 ghost use Rattle.lake_core.specs.Steps.{Leaves};
 
-use crate::keeping::{keep, place};
 use crate::lake::Lake;
 use crate::ready::Ready;
 use keeper::Keeper;
 use lake_base::{NoMemory, RefName, RepoName, TryCopy};
 use lake_causes::{test_change, test_write};
 use lake_changes::lake as change;
+use lake_keeping::{keep, place};
 use lake_model::{By, Operation, StepFault};
 use lake_puts::ticket_puts;
 use lake_standing::laws_of_tickets;

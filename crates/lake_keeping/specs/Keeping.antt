@@ -12,7 +12,7 @@ use Rattle.lake_model.specs.History.{accepted_entry, faulted_entry}
 use Rattle.lake_state.specs.declared.lake.LakeState.{LakeState}
 use Rattle.lake_state.specs.Lakes.{lake_value}
 use Rattle.lake_changes.specs.LakeChanges.{after_fault}
-use Rattle.lake_core.specs.Steps.{IsLaterKeeper, KeeperView}
+use Rattle.lake_keeping.specs.Views.{IsLaterKeeper, KeeperView}
 
 -- the parts of a lake that keeping changes
 pub record Parts (K : Type 0) : Type 0 where
@@ -21,14 +21,14 @@ pub record Parts (K : Type 0) : Type 0 where
   pub present : LakeState
 
 -- the puts were made, and the entry stands; the lake in memory, with its room, is as it was
-pub record AreKept {K : Type 0} (view : KeeperView K) (by : By) (operation : Operation) (puts : List Put) (old new : Parts K) : Type 0 where
+pub record HasKept {K : Type 0} (view : KeeperView K) (by : By) (operation : Operation) (puts : List Put) (old new : Parts K) : Type 0 where
   pub history : new.history ≡ old.history ++ accepted_entry by operation ∷ []
   pub present : new.present ≡ old.present
   pub kept : IfSome (view.kept old.keeper) (λ before. view.kept new.keeper ≡ Some (pairs_after puts before))
   pub keeper : IsLaterKeeper view old.keeper new.keeper
 
 -- the store failed, and its fault stands
-pub record AreFaulted {K : Type 0} (view : KeeperView K) (by : By) (operation : Operation) (puts : List Put) (old new : Parts K) : Type 0 where
+pub record HasFailed {K : Type 0} (view : KeeperView K) (by : By) (operation : Operation) (puts : List Put) (old new : Parts K) : Type 0 where
   pub history : new.history ≡ old.history ++ faulted_entry by operation ∷ []
   pub present : lake_value new.present ≡ after_fault (lake_value old.present)
   pub kept : IfSome (view.kept old.keeper) (λ before. IfSome (view.kept new.keeper) (MayHaveMade puts before))
@@ -36,7 +36,7 @@ pub record AreFaulted {K : Type 0} (view : KeeperView K) (by : By) (operation : 
   pub keeper : IsLaterKeeper view old.keeper new.keeper
 
 -- memory ran out, and nothing changed
-pub record AreAsBefore {K : Type 0} (view : KeeperView K) (old new : Parts K) : Type 0 where
+pub record IsUnchanged {K : Type 0} (view : KeeperView K) (old new : Parts K) : Type 0 where
   pub history : new.history ≡ old.history
   pub present : new.present ≡ old.present
   pub kept : view.kept new.keeper ≡ view.kept old.keeper
@@ -44,7 +44,7 @@ pub record AreAsBefore {K : Type 0} (view : KeeperView K) (old new : Parts K) : 
 
 -- what keeping leaves; it is refused for nothing else
 abbrev pub Keeps : {K X : Type 0} → KeeperView K → By → Operation → List Put → Result X StepFault → Parts K → Parts K → Type 0
-Keeps view by operation puts (Ok x) old new = AreKept view by operation puts old new
-Keeps view by operation puts (Err StoreFault) old new = AreFaulted view by operation puts old new
-Keeps view by operation puts (Err NoMemory) old new = AreAsBefore view old new
+Keeps view by operation puts (Ok x) old new = HasKept view by operation puts old new
+Keeps view by operation puts (Err StoreFault) old new = HasFailed view by operation puts old new
+Keeps view by operation puts (Err NoMemory) old new = IsUnchanged view old new
 Keeps view by operation puts (Err fault) old new = ⊥

@@ -2,7 +2,7 @@
 ghost use Rattle.std.specs.Prelude.{◌≡◌, ◌<◌, ◌++◌, ◌∷◌, [], vec_capacity, vec_len};
 ghost use Rattle.lake_state.specs.Counts.{AreFew};
 ghost use Rattle.lake_state.specs.Lakes.{lake_value};
-ghost use Rattle.lake_core.specs.Keeping.{Keeps};
+ghost use Rattle.lake_keeping.specs.Keeping.{Keeps};
 
 use keeper::{Keeper, Put};
 use lake_base::Trouble;
@@ -10,9 +10,9 @@ use lake_changes::lake::stop;
 use lake_model::{By, EntryKind, HistoryEntry, Operation, StepFault};
 use lake_state::LakeState;
 
-// Makes the puts, and then appends the entry of the operation. Where the store fails its fault is appended, and the lake
-// is stopped. StoreFault, NoMemory.
-pub(crate) fn keep<K: Keeper>(
+/// Makes the puts by one call of the keeper, and then appends the entry of the operation, for which it takes the room
+/// before. Where the store fails its fault is appended, and the lake is stopped. StoreFault, NoMemory.
+pub fn keep<K: Keeper>(
     keeper: &mut K,
     history: &mut Vec<HistoryEntry>,
     present: &mut LakeState,
@@ -48,9 +48,9 @@ fn append(history: &mut Vec<HistoryEntry>, by: By, kind: EntryKind)
     let _ = history.push(HistoryEntry { by, kind });
 }
 
-// The place of the last entry. It takes no memory.
+/// The place of the last entry. It takes no memory.
 #[tactic(auto, unfolding(lake_state::specs::Lakes::lake_value))]
-pub(crate) fn place(lake: &LakeState) -> u64
+pub fn place(lake: &LakeState) -> u64
     ensures { result ≡ (lake_value lake.now).entries }
 {
     lake.entries

@@ -1,0 +1,141 @@
+-- What the step of a new repository answers, and what it leaves where it is refused.
+use Rattle.std.proofs.Common.{◌≡◌, ◌+◌, ℕ, List, ◌⊎◌, inl, inr, refl, sym, ap, subst, ◌∙◌, arith}
+use Rattle.std.specs.Prelude.{Option, Some, Result, Ok, Err, IsErrAnd}
+use Rattle.keeper.specs.declared.put.Put.{Put}
+use Rattle.lake_base.specs.declared.digest.Digest.{Digest}
+use Rattle.lake_model.specs.declared.fault.StepFault.{StepFault}
+use Rattle.lake_model.specs.declared.fault.StepFault.TheVariants.{NoMemory}
+use Rattle.lake_model.specs.declared.history.By.{By}
+use Rattle.lake_model.specs.declared.history.Operation.{Operation}
+use Rattle.lake_model.specs.declared.history.Operation.TheVariants.{RepoCreate}
+use Rattle.lake_model.specs.State.{State}
+use Rattle.lake_model.specs.Commits.{bare_repository, first_draft}
+use Rattle.lake_model.specs.Refusals.{Clash, GivesOrFails, IsClashOrNone, IsRefusal, first_cause}
+use Rattle.lake_model.specs.Steps.{IsCreateRepositoryReply, create_repository_causes, next_place}
+use Rattle.lake_causes.specs.Clashing.{AsksToCreate}
+use Rattle.lake_changes.specs.LakeChanges.{after_repository_create}
+use Rattle.lake_changes.specs.LakeRoom.{HasRepositoryRoom}
+use Rattle.lake_changes.specs.NewRepositories.{IsNew}
+use Rattle.lake_changes.specs.declared.founding.NewRepository.{NewRepository}
+use Rattle.lake_puts.specs.Puts.{create_repository_puts}
+use Rattle.lake_state.specs.Lakes.{LakeStateValue}
+use Rattle.lake_state.specs.declared.lake.LakeState.{LakeState}
+use Rattle.lake_keeping.specs.Keeping.{Keeps, Parts}
+use Rattle.lake_keeping.specs.Views.{KeeperView}
+use Rattle.lake_core.specs.Lakes.{LakeValue}
+use Rattle.lake_core.specs.Ready.{IsReady}
+use Rattle.lake_core.specs.declared.ready.Ready.{Ready}
+use Rattle.lake_core.specs.Steps.{Leaves, Making}
+use Rattle.lake_core.proofs.StepLemmas.{accepted, refused_leaves, refused_reply, unkept_reply}
+
+-- memory ran out
+memory_reply : {X : Type 0} (answer reply : Result X StepFault) → IsErrAnd answer (λ e. e ≡ NoMemory) → GivesOrFails answer reply
+memory_reply (Err e) reply is = subst (λ f. GivesOrFails (Err f) reply) (sym is) tt
+memory_reply (Ok x) reply is = absurd is
+
+same_err : {X : Type 0} (answer : Result X StepFault) (fault other : StepFault) → IsErrAnd answer (λ e. e ≡ fault) → fault ≡ other
+    → IsErrAnd answer (λ e. e ≡ other)
+same_err (Err e) fault other same is = same ∙ is
+same_err (Ok x) fault other same is = absurd same
+
+module _ (s : State) (repo branch : List ℕ) (date : ℕ) where
+  -- no memory was there for a first commit, which clashes or doesn't
+  pub unmade_asks : {X : Type 0} (clash : Option Clash) → IsClashOrNone s (bare_repository date branch) (first_draft date) clash
+      → (answer : Result X StepFault) → IsErrAnd answer (λ e. e ≡ NoMemory) → AsksToCreate s repo branch date answer
+  unmade_asks clash there (Err e) is = record { clash = clash; there = there; tells = inl is }
+  unmade_asks clash there (Ok x) is = absurd is
+
+  -- what a test told is told again
+  pub asked_again : {X Y : Type 0} (fault : StepFault) → AsksToCreate {X = Y} s repo branch date (Err fault)
+      → (answer : Result X StepFault) → IsErrAnd answer (λ e. e ≡ fault) → AsksToCreate s repo branch date answer
+  asked_again fault asks (Err e) same = record {
+    clash = asks.clash;
+    there = asks.there;
+    tells = elim asks.tells [ inl memory ↦ inl (same ∙ memory) | inr first ↦ inr (first ∙ ap Some (sym same)) ];
+  }
+  asked_again fault asks (Ok x) same = absurd same
+
+  -- nothing refuses it
+  pub asked_well : {X Y : Type 0} (y : Y) → AsksToCreate {X = Y} s repo branch date (Ok y) → (x : X) → AsksToCreate s repo branch date (Ok x)
+  asked_well y asks x = record { clash = asks.clash; there = asks.there; tells = asks.tells }
+
+  -- the test refused it
+  pub refused_creation : {X : Type 0} (fault : StepFault) → AsksToCreate {X = X} s repo branch date (Err fault)
+      → ((clash : Option Clash) (fault : StepFault) → first_cause (create_repository_causes s repo clash) ≡ Some fault → IsRefusal fault)
+      → (answer : Result ℕ StepFault) → IsErrAnd answer (λ e. e ≡ fault) → IsCreateRepositoryReply s repo branch date answer
+  refused_creation fault asks each answer same = (
+    asks.clash,
+    asks.there,
+    elim asks.tells [
+      | inl memory ↦ memory_reply answer (next_place s (create_repository_causes s repo asks.clash)) (same_err answer fault NoMemory same memory)
+      | inr first ↦ refused_reply (first_cause (create_repository_causes s repo asks.clash)) (s.entries + 1) (each asks.clash) answer fault same first
+    ],
+  )
+
+  -- so the fault is a refusal, or memory ran out
+  pub creation_fault : {X : Type 0} (fault : StepFault) → AsksToCreate {X = X} s repo branch date (Err fault)
+      → ((clash : Option Clash) (fault : StepFault) → first_cause (create_repository_causes s repo clash) ≡ Some fault → IsRefusal fault)
+      → (fault ≡ NoMemory) ⊎ IsRefusal fault
+  creation_fault fault asks each = elim asks.tells [ inl memory ↦ inl memory | inr first ↦ inr (each asks.clash fault first) ]
+
+  -- it passed, and memory ran out later
+  pub unready_creation : {X : Type 0} (x : X) → AsksToCreate {X = X} s repo branch date (Ok x)
+      → (answer : Result ℕ StepFault) → IsErrAnd answer (λ e. e ≡ NoMemory) → IsCreateRepositoryReply s repo branch date answer
+  unready_creation x asks answer is =
+      (asks.clash, asks.there, memory_reply answer (next_place s (create_repository_causes s repo asks.clash)) is)
+
+  -- or the keeper refused it
+  pub unkept_creation : {K X : Type 0} (view : KeeperView K) (by : By) (made : Operation) (puts : List Put) (before after : Parts K)
+      (x : X) → AsksToCreate {X = X} s repo branch date (Ok x) → (answer : Result ℕ StepFault) (fault : StepFault)
+      → IsErrAnd answer (λ e. e ≡ fault) → Keeps {X = Unit {0}} view by made puts (Err fault) before after
+      → IsCreateRepositoryReply s repo branch date answer
+  unkept_creation view by made puts before after x asks answer fault same keeps = (
+    asks.clash,
+    asks.there,
+    unkept_reply view by made puts before after (first_cause (create_repository_causes s repo asks.clash)) (s.entries + 1) asks.tells answer fault same keeps,
+  )
+
+  -- or it was made
+  pub made_creation : {X : Type 0} (x : X) → AsksToCreate {X = X} s repo branch date (Ok x) → (place : ℕ) → place ≡ s.entries + 1
+      → IsCreateRepositoryReply s repo branch date (Ok place)
+  made_creation x asks place is = (asks.clash, asks.there, accepted asks.tells is)
+
+-- where a test refused or memory ran out the lake is the same
+pub unmade_leaves : {K X : Type 0} (view : KeeperView K) (by : By) (made : Option Making) (old new : LakeValue K) → new ≡ old
+    → (answer : Result X StepFault) (fault : StepFault) → IsErrAnd answer (λ e. e ≡ fault) → (fault ≡ NoMemory) ⊎ IsRefusal fault
+    → Leaves view by made answer old new
+unmade_leaves view by made old new same answer fault is (inr refusal) = refused_leaves view by made old new same answer fault is refusal
+unmade_leaves view by made old new same (Ok x) fault is (inl memory) = absurd is
+unmade_leaves {K} {X} view by made old new same (Err e) fault is (inl memory) =
+    subst (λ f. Leaves {X = X} view by made (Err f) old new) (sym (is ∙ memory))
+    (subst (λ n. Leaves {X = X} view by made (Err NoMemory) old n) (sym same) (record {
+      opened = refl;
+      history = refl;
+      present = refl;
+      kept = refl;
+      keeper = record { told = refl; later = omega arith };
+    }))
+
+-- ---- what is made ready
+
+-- there is room under the names that a new repository bears
+pub room_again : (repo : List ℕ) (commit file id name : Digest) (l : LakeState) → HasRepositoryRoom repo commit file l → id ≡ commit → name ≡ file
+    → HasRepositoryRoom repo id name l
+room_again repo commit file id name l room same_commit same_file =
+    subst (λ i. HasRepositoryRoom repo i name l) (sym same_commit) (subst (λ n. HasRepositoryRoom repo commit n l) (sym same_file) room)
+
+-- it is put in a lake that says what it said before
+pub repository_made : (repo branch : List ℕ) (given date : ℕ) (l m n : LakeStateValue) (new : NewRepository) → given ≡ date → m ≡ l
+    → IsNew repo branch given l new
+    → ((branch : List ℕ) (date : ℕ) → IsNew repo branch date m new → n ≡ after_repository_create repo branch date m)
+    → n ≡ after_repository_create repo branch date l
+repository_made repo branch given date l m n new dated same is made =
+    made branch date (subst (λ d. IsNew repo branch d m new) dated (subst (λ x. IsNew repo branch given x new) (sym same) is))
+    ∙ ap (after_repository_create repo branch date) same
+
+-- what is ready is that of the date
+pub ready_at : (repo branch : List ℕ) (given date : ℕ) (l : LakeStateValue) (ready : Ready) → given ≡ date
+    → IsReady (RepoCreate repo branch given) (create_repository_puts repo branch given l) ready
+    → IsReady (RepoCreate repo branch date) (create_repository_puts repo branch date l) ready
+ready_at repo branch given date l ready dated is =
+    subst (λ d. IsReady (RepoCreate repo branch d) (create_repository_puts repo branch d l) ready) dated is

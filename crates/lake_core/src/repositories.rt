@@ -1,0 +1,168 @@
+//! Repositories that are made.
+ghost use Rattle.std.specs.Prelude.{◌≡◌, ℕ, List, Some, IfOk, false};
+ghost use Rattle.lake_base.specs.Names.{is_like_id};
+ghost use Rattle.lake_model.specs.declared.history.Operation.TheVariants as operation;
+ghost use Rattle.lake_model.specs.Soundness.{IsSound};
+ghost use Rattle.lake_model.specs.Steps.{IsCreateRepositoryReply};
+ghost use Rattle.lake_causes.specs.Clashing.{AsksToCreate};
+ghost use Rattle.lake_changes.specs.LakeRoom.{HasRepositoryRoom};
+ghost use Rattle.lake_changes.specs.NewRepositories.{IsNew};
+ghost use Rattle.lake_founding.specs.Founding.{IsFirst};
+ghost use Rattle.lake_state.specs.Counts.{AreFew};
+ghost use Rattle.lake_state.specs.Index.{HasIndex};
+ghost use Rattle.lake_state.specs.Lakes.{lake_value, state_of};
+ghost use Rattle.lake_puts.specs.Puts as puts;
+ghost use Rattle.lake_core.specs.Lakes.{state};
+ghost use Rattle.lake_core.specs.Makings.{create_repo};
+ghost use Rattle.lake_core.specs.Ready.{IsReady};
+ghost use Rattle.lake_core.specs.Steps.{Leaves};
+
+use crate::lake::Lake;
+use crate::ready::Ready;
+use keeper::{Keeper, Put};
+use lake_base::{NoMemory, RefName, RepoName, TryCopy};
+use lake_causes::test_create_repository;
+use lake_changes::founding as change;
+use lake_changes::founding::NewRepository;
+use lake_founding::{FirstCommit, first_commit, new_repository};
+use lake_keeping::{keep, place};
+use lake_model::{By, Operation, StepFault};
+use lake_puts::create_repository_puts;
+use lake_standing::{law_of_present, law_of_repository};
+use lake_state::LakeState;
+use std::alloc::Global;
+use step_laws::causes::laws_of_causes;
+
+impl<K: Keeper> Lake<K> {
+    /// Makes a repository at a date, in seconds since 1970, with its default branch at its first commit: the place of
+    /// the entry. Stopped, HistoryFull, Exists, NameClash.
+    pub fn create_repo(
+        &mut self,
+        by: By,
+        repo: RepoName,
+        branch: RefName,
+        date: u64,
+    ) -> Result<u64, StepFault>
+        requires { is_like_id branch ≡ false }
+        ensures reply { IsCreateRepositoryReply (state self.old) repo branch date result }
+        ensures leaves { Leaves (record { kept = K.kept; faults = K.faults }) by
+            (Some (create_repo repo branch date (lake_value self.old.present))) result self.old self.new }
+    {
+        // Test.
+        laws_of_causes();
+        law_of_present();
+        let first = tested_commit(self.alloc, &self.present, &repo, date)?;
+        law_of_repository();
+
+        // Take memory.
+        let (ready, new) = ready_repository(self.alloc, &mut self.present, &repo, branch, first)?;
+
+        // Keep.
+        keep(
+            &mut self.keeper,
+            &mut self.history,
+            &mut self.present,
+            by,
+            ready.operation,
+            ready.puts,
+        )?;
+
+        // Change.
+        change::create_repository(&mut self.present, &repo, new);
+        Ok(place(&self.present))
+    }
+}
+
+// The first commit of a repository that may be made. Stopped, HistoryFull, Exists, NameClash, NoMemory.
+fn tested_commit(
+    alloc: Global,
+    lake: &LakeState,
+    repo: &RepoName,
+    date: u64,
+) -> Result<FirstCommit, StepFault>
+    requires sound { IsSound (state_of (lake_value lake.now)) }
+    requires index { HasIndex (lake_value lake.now) }
+    ensures asks { (branch : List ℕ) → AsksToCreate (state_of (lake_value lake.now)) repo.now branch date result }
+    ensures first { IfOk result (IsFirst (lake_value lake.now).cut date) }
+{
+    let first = first_commit(alloc, date)?;
+    test_create_repository(alloc, lake, repo, &first.content, &first.metarange)?;
+    Ok(first)
+}
+
+// A repository that is to be made. It changes nothing that the lake says.
+fn ready_repository(
+    alloc: Global,
+    lake: &mut LakeState,
+    repo: &RepoName,
+    branch: RefName,
+    first: FirstCommit,
+) -> Result<(Ready, NewRepository), NoMemory>
+    requires plain { is_like_id branch ≡ false }
+    requires few { AreFew (lake_value lake.old) }
+    requires first { IsFirst (lake_value lake.old).cut first.commit.date first }
+    ensures same { lake_value lake.new ≡ lake_value lake.old }
+    ensures room { IfOk result (λ made. HasRepositoryRoom repo.now made.1.commit made.1.file lake.new) }
+    ensures ready { IfOk result (λ made. IsReady (operation.RepoCreate repo.now branch first.commit.date)
+        (puts.create_repository_puts repo.now branch first.commit.date (lake_value lake.old)) made.0) }
+    ensures new { IfOk result (λ made. IsNew repo.now branch first.commit.date (lake_value lake.old) made.1) }
+{
+    change::make_repository_room(
+        alloc,
+        lake,
+        repo,
+        &first.content.name,
+        &first.metarange.name,
+    )?;
+    let ready = ready_entry(alloc, lake, repo, &branch, &first)?;
+    let new = new_repository(alloc, lake, repo, branch, first)?;
+    Ok((ready, new))
+}
+
+// The entry of a repository that is to be made, and its puts.
+fn ready_entry(
+    alloc: Global,
+    lake: &LakeState,
+    repo: &RepoName,
+    branch: &RefName,
+    first: &FirstCommit,
+) -> Result<Ready, NoMemory>
+    requires plain { is_like_id branch.now ≡ false }
+    requires few { AreFew (lake_value lake.now) }
+    requires first { IsFirst (lake_value lake.now).cut first.now.commit.date first.now }
+    ensures { IfOk result (IsReady (operation.RepoCreate repo.now branch.now first.now.commit.date)
+        (puts.create_repository_puts repo.now branch.now first.now.commit.date (lake_value lake.now))) }
+{
+    let puts = puts_of(alloc, lake, repo, branch, first)?;
+    let operation = Operation::RepoCreate {
+        repo: repo.copy(alloc)?,
+        branch: branch.copy(alloc)?,
+        date: first.commit.date,
+    };
+    Ok(Ready { operation, puts })
+}
+
+// The puts of a repository that is to be made.
+fn puts_of(
+    alloc: Global,
+    lake: &LakeState,
+    repo: &RepoName,
+    branch: &RefName,
+    first: &FirstCommit,
+) -> Result<Vec<Put>, NoMemory>
+    requires plain { is_like_id branch.now ≡ false }
+    requires few { AreFew (lake_value lake.now) }
+    requires first { IsFirst (lake_value lake.now).cut first.now.commit.date first.now }
+    ensures { IfOk result (λ made. made.items
+        ≡ puts.create_repository_puts repo.now branch.now first.now.commit.date (lake_value lake.now)) }
+{
+    create_repository_puts(
+        alloc,
+        lake,
+        repo,
+        branch,
+        &first.commit,
+        first.content.name,
+        &first.tree,
+    )
+}
