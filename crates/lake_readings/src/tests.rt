@@ -10,7 +10,7 @@ use commit_graph::Graph;
 use lake_base::{Digest, RefName, RepoName, Sequence, Text};
 use lake_format::USUAL_CUT;
 use lake_model::{RepoInfo, StepFault};
-use lake_state::{BranchState, LakeState, RepositoryState};
+use lake_state::{BranchState, LakeState, NameIndex, RepositoryState};
 use lake_values::{CommitId, Note, NoteName, Protection};
 use std::alloc::{AllocError, Global};
 use std::collections::BTreeMap;
@@ -103,6 +103,7 @@ fn lake(alloc: Global) -> Result<LakeState, Fail> {
     Ok(LakeState {
         cut: USUAL_CUT,
         repositories,
+        names: NameIndex::new(alloc),
         tickets: BTreeMap::new(alloc),
         gone: BTreeMap::new(alloc),
         stopped: false,
