@@ -41,7 +41,7 @@ at_room q number rows below true e =
 at_room q number rows below false e = refl
 
 -- the seat of a number is what its row has, where the numbers ascend
-get_tickets : (rows : TicketRows) → IsStrictlySortedBy nat_cmp (keys_of rows) → (q : ℕ) → get (tickets_of rows) q ≡ seat_of (row_of rows q)
+pub get_tickets : (rows : TicketRows) → IsStrictlySortedBy nat_cmp (keys_of rows) → (q : ℕ) → get (tickets_of rows) q ≡ seat_of (row_of rows q)
 unfolding IsStrictlySortedBy
 get_tickets [] h q = get-empty nat_cmp q
 get_tickets ((number, Some seat) ∷ rows) h q =

@@ -54,6 +54,20 @@ impl<K: Keeper> Lake<K> {
         self.present.entries
     }
 
+    /// What it is in memory. It takes no memory.
+    pub fn present(&self) -> &LakeState
+        ensures { result.now ≡ self.now.present }
+    {
+        &self.present
+    }
+
+    /// The entries since it was opened, the first one first. It takes no memory.
+    pub fn history(&self) -> &[HistoryEntry]
+        ensures { result.now ≡ self.now.history }
+    {
+        self.history.as_slice()
+    }
+
     /// The keeper. It takes no memory.
     pub fn into_keeper(self) -> K
         ensures { result ≡ self.keeper }

@@ -1,12 +1,13 @@
 //! Tickets of uploads.
-ghost use Rattle.std.specs.Prelude.{◌≡◌, [], Some, IfOk, OnOk};
+ghost use Rattle.std.specs.Prelude.{◌≡◌, ◌↔◌, [], Some, IfOk, IsTrue, OnOk};
+ghost use Rattle.std.specs.FinMap.{get};
 ghost use Rattle.lake_model.specs.declared.history.Operation.TheVariants.{TicketDrop, TicketTake};
 ghost use Rattle.lake_model.specs.Refusals.{GivesOrFails};
 ghost use Rattle.lake_model.specs.Steps.{drop_ticket_reply, take_ticket_reply};
 ghost use Rattle.lake_model.specs.Uncommitted.{HasTicket};
 ghost use Rattle.lake_changes.specs.LakeRoom.{HasTicketRoom};
 ghost use Rattle.lake_state.specs.Counts.{AreFew};
-ghost use Rattle.lake_state.specs.Lakes.{lake_value};
+ghost use Rattle.lake_state.specs.Lakes.{lake_value, tickets_of};
 ghost use Rattle.lake_puts.specs.Puts.{ticket_puts};
 ghost use Rattle.lake_core.specs.Lakes.{state};
 ghost use Rattle.lake_core.specs.Makings.{drop_ticket, take_ticket};
@@ -25,9 +26,19 @@ use lake_puts::ticket_puts;
 use lake_standing::laws_of_tickets;
 use lake_state::LakeState;
 use std::alloc::Global;
+use std::collections::BTreeMap;
 use step_laws::causes::laws_of_causes;
 
 impl<K: Keeper> Lake<K> {
+    /// Whether a number is on a ticket of the seat, so that the seat may drop it, or put an object of it. It takes no
+    /// memory.
+    #[tactic(auto, unfolding(lake_state::specs::Lakes::lake_value))]
+    pub fn has_ticket(&self, seat: u32, number: u64) -> bool
+        ensures { IsTrue result ↔ HasTicket (state self.now) seat number }
+    {
+        is_ticket_of(&self.present.tickets, seat, number)
+    }
+
     /// Gives out a number for an upload to a branch, on a ticket of the seat: the place of the entry, and the number,
     /// which is the next one. Stopped, HistoryFull, NoRepo, NoRef, Protected.
     pub fn take_ticket(
@@ -92,6 +103,28 @@ impl<K: Keeper> Lake<K> {
         // Change.
         change::drop_ticket(&mut self.present, number);
         Ok(place(&self.present))
+    }
+}
+
+// Whether a number is on a ticket of the seat.
+fn is_ticket_of(tickets: &BTreeMap<u64, Option<u32>>, seat: u32, number: u64) -> bool
+    ensures { IsTrue result ↔ (get (tickets_of tickets.now.entries) number ≡ Some seat) }
+{
+    match seat_of(tickets, number) {
+        Some(holder) => holder == seat,
+        None => false,
+    }
+}
+
+// The seat on whose ticket a number is.
+fn seat_of(tickets: &BTreeMap<u64, Option<u32>>, number: u64) -> Option<u32>
+    ensures { result ≡ get (tickets_of tickets.now.entries) number }
+{
+    // Its length tells that the numbers ascend.
+    let _count = tickets.len();
+    match tickets.get(&number) {
+        Some(place) => *place,
+        None => None,
     }
 }
 
