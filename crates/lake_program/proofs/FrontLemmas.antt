@@ -1,8 +1,7 @@
--- FrontLemmas of what is written.
-use Rattle.std.proofs.Common.{inl, inr, ⊎_elim, ℕ, List, [], ◌++◌, refl, sym, ◌∙◌, ap, subst, append_assoc}
+-- What is written follows what was written.
+use Rattle.std.proofs.Common.{◌≡◌, List, ℕ, [], ◌++◌, Option, Some, None, IfSome, refl, sym, ◌∙◌, ap, subst, append_assoc}
 use Rattle.std.proofs.lemmas.List.{append-nil}
-use Rattle.lake_program.specs.Front.{IsPrefix, IsAsStated}
-use Rattle.lake_program.specs.Text.{out_of_memory_text}
+use Rattle.lake_program.specs.Front.{IsPrefix, Wrote, WroteFront, Shows}
 
 pub front_of_self : (xs : List ℕ) → IsPrefix xs xs
 front_of_self xs = ([], append-nil xs)
@@ -20,19 +19,70 @@ front_after front a b f = (f.0, append_assoc front a f.0 ∙ ap (λ (l : List �
 pub front_more : (a b more : List ℕ) → IsPrefix a b → IsPrefix a (b ++ more)
 front_more a b more f = front_trans a b (b ++ more) f (front_of_append b more)
 
--- what is written next stands behind what is statement first
-pub as_stated_after : (front out statement : List ℕ) → IsAsStated out statement → IsAsStated (front ++ out) (front ++ statement)
-as_stated_after front out statement (inl f) = inl (front_after front out statement f)
-as_stated_after front out statement (inr w) = inr (record {
-  front = front ++ w.front;
-  so_far = front_after front w.front statement w.so_far;
-  text = ⊎_elim
-      (λ whole. inl (subst (λ l. IsPrefix l (front ++ out)) (sym (append_assoc front w.front out_of_memory_text)) (front_after front _ _ whole)))
-      (λ part. inr (subst (λ l. IsPrefix (front ++ out) l) (sym (append_assoc front w.front out_of_memory_text)) (front_after front _ _ part)))
-      w.text;
-})
+pub wrote_none : (written : Option (List ℕ)) → Wrote written written []
+wrote_none None = tt
+wrote_none (Some w) = ap Some (sym (append-nil w))
 
--- more may be statement
-pub as_stated_more : (out statement more : List ℕ) → IsAsStated out statement → IsAsStated out (statement ++ more)
-as_stated_more out statement more (inl f) = inl (front_more out statement more f)
-as_stated_more out statement more (inr w) = inr (record { front = w.front; so_far = front_more w.front statement more w.so_far; text = w.text })
+pub wrote_then : (a b c : Option (List ℕ)) (x y : List ℕ) → Wrote a b x → Wrote b c y → Wrote a c (x ++ y)
+wrote_then None b c x y f g = tt
+wrote_then (Some w) b c x y f g = subst (λ (o : Option (List ℕ)). IfSome o (λ v. c ≡ Some (v ++ y))) f g ∙ ap Some (append_assoc w x y)
+
+pub wrote_as : (a b : Option (List ℕ)) (x y : List ℕ) → x ≡ y → Wrote a b x → Wrote a b y
+wrote_as a b x y is wrote = subst (λ (l : List ℕ). Wrote a b l) is wrote
+
+-- a front behind what was written whole
+pub front_then : (a b c : Option (List ℕ)) (x y : List ℕ) → Wrote a b x → WroteFront b c y → WroteFront a c (x ++ y)
+front_then a b c x y wrote part = record {
+  out = x ++ part.out;
+  front = front_after x part.out y part.front;
+  wrote = wrote_then a b c x part.out wrote part.wrote;
+}
+
+pub front_as : (a b : Option (List ℕ)) (x y : List ℕ) → x ≡ y → WroteFront a b x → WroteFront a b y
+front_as a b x y is part = record { out = part.out; front = subst (λ (l : List ℕ). IsPrefix part.out l) is part.front; wrote = part.wrote }
+
+-- a front of more
+pub front_longer : (a b : Option (List ℕ)) (x more : List ℕ) → WroteFront a b x → WroteFront a b (x ++ more)
+front_longer a b x more part = record { out = part.out; front = front_more part.out x more part.front; wrote = part.wrote }
+
+-- a text that is pending too
+pub shows_held : (a : Option (List ℕ)) (pending text : List ℕ) → Shows a a pending text (pending ++ text)
+shows_held a pending text = record { out = []; wrote = wrote_none a; whole = refl }
+
+-- what was pending was written, and the text is pending
+pub shows_kept : (a b : Option (List ℕ)) (pending text : List ℕ) → Wrote a b pending → Shows a b pending text text
+shows_kept a b pending text wrote = record { out = pending; wrote = wrote; whole = refl }
+
+-- both were written, and nothing is pending
+pub shows_written : (a b c : Option (List ℕ)) (pending text still : List ℕ) → still ≡ [] → Wrote a b pending → Wrote b c text → Shows a c pending text still
+shows_written a b c pending text still none first second = record {
+  out = pending ++ text;
+  wrote = wrote_then a b c pending text first second;
+  whole = ap (λ (l : List ℕ). (pending ++ text) ++ l) none ∙ append-nil (pending ++ text);
+}
+
+module _ (a b c : Option (List ℕ)) (pending text still more : List ℕ) (first : Shows a b pending text still) where
+  -- one text and then the next
+  pub shows_then : (last : List ℕ) → Shows b c still more last → Shows a c pending (text ++ more) last
+  shows_then last second = record {
+    out = first.out ++ second.out;
+    wrote = wrote_then a b c first.out second.out first.wrote second.wrote;
+    whole = append_assoc first.out second.out last ∙ ap (λ (l : List ℕ). first.out ++ l) second.whole ∙ sym (append_assoc first.out still more)
+        ∙ ap (λ (l : List ℕ). l ++ more) first.whole ∙ append_assoc pending text more;
+  }
+
+  -- what is pending and some more was written in part
+  pub shows_cut : WroteFront b c (still ++ more) → WroteFront a c (pending ++ (text ++ more))
+  shows_cut part =
+      front_as a c (first.out ++ (still ++ more)) (pending ++ (text ++ more))
+      (sym (append_assoc first.out still more) ∙ ap (λ (l : List ℕ). l ++ more) first.whole ∙ append_assoc pending text more)
+      (front_then a b c first.out (still ++ more) first.wrote part)
+
+-- all that is pending was written
+pub shows_flushed : (a b c : Option (List ℕ)) (pending text still : List ℕ) → Shows a b pending text still → Wrote b c still → Wrote a c (pending ++ text)
+shows_flushed a b c pending text still first wrote = wrote_as a c (first.out ++ still) (pending ++ text) first.whole (wrote_then a b c first.out still first.wrote wrote)
+
+-- nothing is pending, so that all was written
+pub shows_all : (a b : Option (List ℕ)) (pending text still : List ℕ) → still ≡ [] → Shows a b pending text still → Wrote a b (pending ++ text)
+shows_all a b pending text still none first =
+    wrote_as a b first.out (pending ++ text) (sym (append-nil first.out) ∙ ap (λ (l : List ℕ). first.out ++ l) (sym none) ∙ first.whole) first.wrote

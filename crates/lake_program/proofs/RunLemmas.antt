@@ -1,5 +1,6 @@
 -- What a run promises, from what its parts do.
-use Rattle.std.proofs.Common.{◌≡◌, ◌≢◌, ◌<◌, ◌≤◌, ◌++◌, ◌⊎◌, ⊎_elim, ℕ, true, List, Option, Some, None, IsNone, is_some, IfSome, refl, sym, ◌∙◌, ap, subst, arith}
+use Rattle.std.proofs.Common.{◌≡◌, ◌≢◌, ◌<◌, ◌≤◌, ◌++◌, ◌⊎◌, inl, inr, ⊎_elim, ℕ, true, List, Option, Some, None, IsNone, is_some, IfSome, refl, sym, ◌∙◌, ap, subst, arith}
+use Rattle.std.proofs.lemmas.List.{append-nil}
 use Rattle.lake_base.specs.Outside.{Rose, Quiet}
 use Rattle.lake_program.specs.declared.words.Timing.{Timing}
 use Rattle.lake_program.specs.declared.batch.End.{End}
@@ -8,10 +9,13 @@ use Rattle.lake_program.specs.declared.status.ExitStatus.{ExitStatus}
 use Rattle.lake_program.specs.declared.status.ExitStatus.TheVariants as exit
 use Rattle.lake_program.specs.Words.{timing_of}
 use Rattle.lake_program.specs.Outcome.{Outcome}
-use Rattle.lake_program.specs.Status.{IsThrough, ShowsUsage}
-use Rattle.lake_program.specs.Streams.{Streams, trace_of}
-use Rattle.lake_program.specs.Run.{IsBatchRun, Run}
-use Rattle.lake_program.proofs.ReadingLemmas.{told_then}
+use Rattle.lake_program.specs.Status.{ShowsUsage}
+use Rattle.lake_program.specs.Streams.{Trace, Streams, trace_of}
+use Rattle.lake_program.specs.Lines.{batch_lines}
+use Rattle.lake_program.specs.Batch.{fresh_lake, AreServed}
+use Rattle.lake_program.specs.Outcome.{IsWhole, IsUnbegun}
+use Rattle.lake_program.specs.Run.{IsBatchRun, IsUnbegunRun, Run}
+use Rattle.lake_program.proofs.ReadingLemmas.{told_then, told_all}
 
 pub sink_cause : (end : End) (a b c : ℕ) (status : ExitStatus) → (a ≤ b) × (end ≡ SinkFailed → Rose a b) → (b ≤ c) × (status ≡ exit.SinkFailed → end ≢ SinkFailed → Rose b c)
     → (a ≤ c) × (status ≡ exit.SinkFailed → Rose a c)
@@ -23,16 +27,6 @@ sink_cause SourceFailed a b c status read finish = (omega (arith, read.0, finish
 quiet_rose : (a b : ℕ) → Quiet a b → Rose a b → ⊥
 quiet_rose a b quiet rose = let risen : a < b = rose quiet.counting in omega (arith, quiet.same, risen)
 
--- where nothing failed and memory sufficed, the batch was read to its end
-pub quiet_through : (status : ExitStatus) (s0 s1 w0 w1 : ℕ) → status ≢ exit.Usage → (status ≡ exit.SourceFailed → Rose s0 s1) → (status ≡ exit.SinkFailed → Rose w0 w1)
-    → Quiet s0 s1 → Quiet w0 w1 → status ≢ exit.OutOfMemory → IsThrough status
-quiet_through exit.Done s0 s1 w0 w1 words source sink qs qw fed = tt
-quiet_through exit.Refused s0 s1 w0 w1 words source sink qs qw fed = tt
-quiet_through exit.Usage s0 s1 w0 w1 words source sink qs qw fed = words refl
-quiet_through exit.SourceFailed s0 s1 w0 w1 words source sink qs qw fed = quiet_rose s0 s1 qs (source refl)
-quiet_through exit.SinkFailed s0 s1 w0 w1 words source sink qs qw fed = quiet_rose w0 w1 qw (sink refl)
-quiet_through exit.OutOfMemory s0 s1 w0 w1 words source sink qs qw fed = fed refl
-
 pub has_timing : (found : Option Timing) (timing : Timing) → found ≡ Some timing → IsNone found → ⊥
 has_timing found timing is none = let some : is_some found ≡ true = ap is_some is in cc
 
@@ -42,28 +36,54 @@ for_timing found timing is P p = subst (λ (o : Option Timing). IfSome o P) (sym
 without_timing : (found : Option Timing) → found ≡ None → (P : Timing → Type 0) → IfSome found P
 without_timing found is P = subst (λ (o : Option Timing). IfSome o P) (sym is) tt
 
-batch_run : (timing : Timing) (input : List ℕ) (before after : Streams) (status : ExitStatus) → IsThrough status
-    → Outcome timing 1073741824 (trace_of before) (trace_of after) after.left input status → IfSome before.written (λ written. IsBatchRun timing input written before after status)
-batch_run timing input before after status through o =
-    let whole = o.whole through in
-    told_then before.written (λ written. after.written ≡ Some (written ++ o.out)) _ (λ written wrote. record {
-      moments = o.moments;
+whole_run : (timing : Timing) (input : List ℕ) (before after : Streams) (status : ExitStatus) → (o : Outcome timing 1073741824 (trace_of before) (trace_of after) input after.left status)
+    → IsWhole 1073741824 input o.course status → IfSome before.written (λ written. IsBatchRun timing input written before after status)
+whole_run timing input before after status o whole =
+    let all : o.course.served ≡ batch_lines 1073741824 input = sym (append-nil o.course.served) ∙ ap (λ (l : List (List ℕ)). o.course.served ++ l) (sym whole.all) ∙ o.lines in
+    told_then before.written (λ written. after.written ≡ Some (written ++ o.course.out)) _ (λ written wrote. record {
+      effects = o.course.effects;
+      each = subst (λ (l : List (List ℕ)). AreServed l fresh_lake o.course.effects) all o.each;
       took = o.took;
-      just = whole.just;
       text = wrote ∙ ap (λ (t : List ℕ). Some (written ++ t)) whole.text;
-      done = whole.done;
+      tells = whole.tells;
     }) o.wrote
+
+unbegun_run : (input : List ℕ) (before after : Streams) → before.left ≡ Some input → IsUnbegun (trace_of before) (trace_of after) input after.left → IsUnbegunRun before after exit.OutOfMemory
+unbegun_run input before after told is = record {
+  starved = refl;
+  left = is.left ∙ sym told;
+  written = ap (λ (t : Trace). t.written) is.same;
+  readings = ap (λ (t : Trace). t.readings) is.same;
+}
+
+-- what a run without a failed stream came to
+quiet_run : (timing : Timing) (input : List ℕ) (before after : Streams) (status : ExitStatus) → before.left ≡ Some input → (status ≡ exit.SourceFailed → ⊥) → (status ≡ exit.SinkFailed → ⊥)
+    → Outcome timing 1073741824 (trace_of before) (trace_of after) input after.left status → IfSome before.written (λ written. IsBatchRun timing input written before after status ⊎ IsUnbegunRun before after status)
+quiet_run timing input before after exit.Done told source sink o = told_then before.written _ _ (λ written r. inl r) (whole_run timing input before after exit.Done o o.ended)
+quiet_run timing input before after exit.Refused told source sink o = told_then before.written _ _ (λ written r. inl r) (whole_run timing input before after exit.Refused o o.ended)
+quiet_run timing input before after exit.Usage told source sink o = absurd o.ended
+quiet_run timing input before after exit.SourceFailed told source sink o = absurd (source refl)
+quiet_run timing input before after exit.SinkFailed told source sink o = absurd (sink refl)
+quiet_run timing input before after exit.OutOfMemory told source sink o =
+    elim o.ended [
+      | inl whole ↦ told_then before.written _ _ (λ written r. inl r) (whole_run timing input before after exit.OutOfMemory o whole)
+      | inr is ↦ told_all before.written _ (λ written. inr (unbegun_run input before after told is))
+    ]
+
+-- where the source tells what is left of it
+pub told_run : (left : Option (List ℕ)) (P Q : List ℕ → Type 0) → ((input : List ℕ) → left ≡ Some input → P input → Q input) → IfSome left P → IfSome left Q
+told_run None P Q f p = tt
+told_run (Some input) P Q f p = f input refl p
 
 -- a batch was served
 pub run_of_batch : (words : List (List ℕ)) (before after : Streams) (timing : Timing) (status : ExitStatus) → timing_of words ≡ Some timing → status ≢ exit.Usage
-    → IfSome before.left (λ input. Outcome timing 1073741824 (trace_of before) (trace_of after) after.left input status)
+    → IfSome before.left (λ input. Outcome timing 1073741824 (trace_of before) (trace_of after) input after.left status)
     → (before.source_faults ≤ after.source_faults) × (status ≡ exit.SourceFailed → Rose before.source_faults after.source_faults)
     → (before.sink_faults ≤ after.sink_faults) × (status ≡ exit.SinkFailed → Rose before.sink_faults after.sink_faults)
     → before.errors_faults ≤ after.errors_faults → Run words before after status
 run_of_batch words before after timing status is no_usage outcome source sink errors = record {
-  batch = λ quiet fed.
-      let through = quiet_through status before.source_faults after.source_faults before.sink_faults after.sink_faults no_usage source.1 sink.1 quiet.source quiet.sink fed in
-      for_timing (timing_of words) timing is _ (told_then before.left _ _ (λ input o. batch_run timing input before after status through o) outcome);
+  batch = λ quiet. for_timing (timing_of words) timing is _ (told_run before.left _ _ (λ input told o. quiet_run timing input before after status told
+      (λ failed. quiet_rose before.source_faults after.source_faults quiet.source (source.1 failed)) (λ failed. quiet_rose before.sink_faults after.sink_faults quiet.sink (sink.1 failed)) o) outcome);
   prefix = for_timing (timing_of words) timing is _ outcome;
   usage = λ none. absurd (has_timing (timing_of words) timing is none);
   usage_only = λ usage. absurd (no_usage usage);
@@ -80,7 +100,7 @@ pub run_of_usage : (words : List (List ℕ)) (before after : Streams) (status : 
     → (status ≡ exit.Usage) ⊎ ((status ≡ exit.SinkFailed) × Rose before.errors_faults after.errors_faults)
     → before.source_faults ≤ after.source_faults → before.sink_faults ≤ after.sink_faults → before.errors_faults ≤ after.errors_faults → Run words before after status
 run_of_usage words before after status is shows ended source sink errors = record {
-  batch = λ quiet fed. without_timing (timing_of words) is _;
+  batch = λ quiet. without_timing (timing_of words) is _;
   prefix = without_timing (timing_of words) is _;
   usage = λ none. shows;
   usage_only = λ usage. ap is_some is;

@@ -1,64 +1,33 @@
--- What a line shows, and what is written of it.
-use Rattle.std.proofs.Common.{◌≡◌, inl, inr, ◌&&◌, ℕ, Bool, true, MatchBool, List, [], ◌++◌, Option, Some, None, IfSome, Result, Ok, Err, OnOk, OnErr, refl, sym, ◌∙◌, subst}
+-- What a line comes to, and what is shown of it.
+use Rattle.std.proofs.Common.{◌≡◌, ◌&&◌, ◌||◌, Bool, ℕ, List, ◌++◌, Result, Ok, Err, MatchResult, OnOk, OnErr, sym, ◌∙◌, ap, subst}
 use Rattle.lake_base.specs.declared.outside.Failed.{Failed}
 use Rattle.lake_program.specs.declared.words.Timing.{Timing}
-use Rattle.lake_program.specs.Batch.{BatchEffect}
-use Rattle.lake_program.specs.Front.{IsPrefix}
-use Rattle.lake_program.specs.Text.{out_of_memory_text}
+use Rattle.lake_program.specs.Batch.{LineEffect, IsLineServed}
+use Rattle.lake_program.specs.Front.{WroteFront, Shows}
 use Rattle.lake_program.specs.Progress.{Progress, AreMoments}
-use Rattle.lake_program.specs.Serving.{Turns, Serves}
+use Rattle.lake_program.specs.Serving.{Serves}
 use Rattle.lake_program.specs.Streams.{Trace}
 
--- what a failed write leaves
-abbrev pub WroteFront : List ℕ → Option (List ℕ) → Option (List ℕ) → Type 0
-WroteFront text before after = IfSome before (λ written. (out : List ℕ) × IsPrefix out text × (after ≡ Some (written ++ out)))
+both : (result : Result (Unit {0}) Failed) (P Q : Type 0) → OnOk result P → OnErr result Q → MatchResult result (λ _. P) (λ _. Q)
+both (Ok done) P Q p q = p
+both (Err failed) P Q p q = q
 
--- some front was written, also where the sink doesn't tell
-pub front_written : (text : List ℕ) (before after : Option (List ℕ)) → WroteFront text before after → (out : List ℕ) × IsPrefix out text × IfSome before (λ written. after ≡ Some (written ++ out))
-front_written text None after wrote = ([], (text, refl), tt)
-front_written text (Some written) after wrote = wrote
+-- a reply, which was shown
+pub serves_reply : (timing : Timing) (t0 t1 : Trace) (old new : Progress) (line text : List ℕ) (done starved : Bool) (result : Result (Unit {0}) Failed) (effect : LineEffect)
+    → IsLineServed line old.lake effect → AreMoments timing t0.readings t1.readings effect.moments → new.lake ≡ effect.lake → effect.text ≡ text → effect.done ≡ done → effect.starved ≡ starved
+    → new.done ≡ (old.done && done) → new.starved ≡ (old.starved || starved)
+    → OnOk result (Shows t0.written t1.written old.pending text new.pending) → OnErr result (WroteFront t0.written t1.written (old.pending ++ text)) → Serves timing t0 t1 old new line result
+serves_reply timing t0 t1 old new line text done starved result effect served took lake shows is_done is_starved tally_done tally_starved whole part = record {
+  effect = effect;
+  served = served;
+  took = took;
+  shown = subst (λ (l : List ℕ). MatchResult result (λ _. Shows t0.written t1.written old.pending l new.pending) (λ _. WroteFront t0.written t1.written (old.pending ++ l))) (sym shows)
+      (both result (Shows t0.written t1.written old.pending text new.pending) (WroteFront t0.written t1.written (old.pending ++ text)) whole part);
+  lake = lake;
+  done = tally_done ∙ ap (λ b. old.done && b) (sym is_done);
+  starved = tally_starved ∙ ap (λ b. old.starved || b) (sym is_starved);
+}
 
-module _ (timing : Timing) (t0 t1 : Trace) (old new : Progress) (line moments text : List ℕ) (took : AreMoments timing t0.readings t1.readings moments) where
-  -- a line was answered
-  pub serves_reply : (done : Bool) (result : Result (Unit {0}) Failed) → Turns line moments text done old.lake new.lake → new.done ≡ (old.done && done) → new.starved ≡ old.starved
-      → OnOk result (IfSome t0.written (λ written. t1.written ≡ Some (written ++ text))) → OnErr result (WroteFront text t0.written t1.written) → Serves timing t0 t1 old new line result
-  serves_reply done (Ok u) turns all starved wrote front = record {
-    moments = moments;
-    out = text;
-    took = took;
-    wrote = wrote;
-    went = λ fed. subst (λ b. MatchBool b (text ≡ out_of_memory_text) ((d : Bool) × (new.done ≡ (old.done && d)) × Turns line moments text d old.lake new.lake)) (sym (starved ∙ fed)) (done, all, turns);
-    stays = λ was. starved ∙ was;
-  }
-  serves_reply done (Err failed) turns all starved wrote front =
-      let part = front_written text t0.written t1.written front in
-      record {
-        moments = moments;
-        out = part.0;
-        took = took;
-        wrote = part.2;
-        went = λ fed. inl (λ later. subst (λ (t : BatchEffect). IsPrefix part.0 t.text) (sym (turns later)) part.1);
-        stays = λ was. tt;
-      }
-
-  -- memory ran out at a line
-  pub serves_want : (result : Result (Unit {0}) Failed) → text ≡ out_of_memory_text → new.starved ≡ true
-      → OnOk result (IfSome t0.written (λ written. t1.written ≡ Some (written ++ text))) → OnErr result (WroteFront text t0.written t1.written) → Serves timing t0 t1 old new line result
-  serves_want (Ok u) is starved wrote front = record {
-    moments = moments;
-    out = text;
-    took = took;
-    wrote = wrote;
-    went = λ fed. subst (λ b. MatchBool b (text ≡ out_of_memory_text) ((d : Bool) × (new.done ≡ (old.done && d)) × Turns line moments text d old.lake new.lake)) (sym starved) is;
-    stays = λ was. starved;
-  }
-  serves_want (Err failed) is starved wrote front =
-      let part = front_written text t0.written t1.written front in
-      record {
-        moments = moments;
-        out = part.0;
-        took = took;
-        wrote = part.2;
-        went = λ fed. inr (subst (λ t. IsPrefix part.0 t) is part.1);
-        stays = λ was. tt;
-      }
+-- the same line
+pub serves_of : (timing : Timing) (t0 t1 : Trace) (old new : Progress) (x y : List ℕ) (result : Result (Unit {0}) Failed) → x ≡ y → Serves timing t0 t1 old new x result → Serves timing t0 t1 old new y result
+serves_of timing t0 t1 old new x y result is serves = subst (λ (l : List ℕ). Serves timing t0 t1 old new l result) is serves

@@ -1,195 +1,127 @@
--- What a batch of lines comes to on the one-thread lake.
-use Rattle.std.specs.Prelude.{◌≡◌, ℕ, ◌+◌, ◌-◌, ◌==◌, ◌&&◌, Bool, true, false, nat_le, if◌then◌else◌}
-use Rattle.std.specs.Prelude.{List, [], ◌∷◌, ◌++◌, length, map, take, drop, slice_index, codes}
-use Rattle.std.specs.Prelude.{Option, Some, None, option_and_then, Result, Ok, Err}
-use Rattle.std.specs.List.{slice_split}
-use Rattle.std.specs.Str.Lines.{lines, strip_carriage_return}
+-- What one line of a batch shows and leaves, and lines one after the other.
+use Rattle.std.specs.Prelude.{◌≡◌, ◌⊎◌, ◌+◌, ℕ, Bool, true, false, List, [], ◌∷◌, ◌++◌, Option, Some, None}
 use Rattle.std.specs.FinMap.{empty, get, insert}
-use Rattle.lake_base.specs.Digest.{sha256}
-use Rattle.lake_values.specs.Entry.{EntryValue}
-use Rattle.lake_values.specs.declared.entry.Place.TheVariants.{Own}
-use Rattle.lake_values.specs.declared.entry.Change.TheVariants.{Put}
+use Rattle.std.specs.List.{Contains}
 use Rattle.block_store.specs.Blocks.{HeldObjects}
-use Rattle.plain_model.specs.declared.history.HistoryEntry.{HistoryEntry}
-use Rattle.plain_model.specs.declared.history.EntryKind.{EntryKind}
-use Rattle.plain_model.specs.declared.history.EntryKind.TheVariants.{TicketTake, TicketDrop, Stage}
-use Rattle.plain_model.specs.declared.reply.Seen.{Seen}
-use Rattle.plain_model.specs.declared.reply.Versions.{Versions}
-use Rattle.plain_model.specs.declared.reply.StepFault.{StepFault}
-use Rattle.plain_model.specs.State.{State, fresh, fresh_repo, fresh_branch}
-use Rattle.plain_model.specs.After.{own_number, replay}
-use Rattle.plain_model.specs.Reply.{look_reply, versions_reply, ticket_reply, drop_reply, stage_reply}
-use Rattle.lake_program.specs.Command.{Request, Upload, Cat, LineValue, Skipped, NotBuilt, Asks, line_value}
-use Rattle.lake_program.specs.Text.{not_built_text, too_long_text, upload_text, no_path_text, lost_text, refusal_text}
+use Rattle.lake_format.specs.declared.cut.Cut.{Cut}
+use Rattle.lake_model.specs.declared.history.HistoryEntry.{HistoryEntry}
+use Rattle.lake_model.specs.State.{State}
+use Rattle.lake_model.specs.History.{IsLegal, replay}
+use Rattle.lake_model.specs.Soundness.{fresh}
+use Rattle.lake_calls.specs.Calls.{Call, Request}
+use Rattle.lake_calls.specs.Replies.{CallReply, is_done, reply}
+use Rattle.lake_calls.specs.Effects.{CallEffect, effect, fronts}
+use Rattle.lake_program.specs.Command.{LineValue, Skipped, NotBuilt, Asks, line_value}
+use Rattle.lake_program.specs.Text.{not_built_text, out_of_memory_text, shown}
 
 -- a lake with the objects that it holds, as one client sees it
 pub record Lake : Type 0 where
-  -- the accepted changes, from the fresh lake on
+  -- the entries, from the fresh lake on
   pub history : List HistoryEntry
   pub objects : HeldObjects
   -- how many requests were made
   pub calls : ℕ
 
+-- the cut of a batch's lake: ranges of at most 1,048,576 bytes of rows, and one break key in 1,024
+abbrev pub usual_cut : Cut
+usual_cut = record { max_bytes = 1048576; modulus = 1024 }
+
 -- the lake's state
 abbrev pub state_of : Lake → State
-state_of lake = replay fresh lake.history
+state_of lake = replay (fresh usual_cut) lake.history
 
 -- a fresh lake, which holds no object
 abbrev pub fresh_lake : Lake
 fresh_lake = record { history = []; objects = empty; calls = 0 }
 
--- what a request shows, whether it was done, and the lake after it
-pub record Effect : Type 0 where
+-- ---- a call
+
+-- a call that a line makes at a moment: by the one seat, under the next number
+abbrev pub next_request : Lake → Call → ℕ → Request
+next_request lake call moment =
+    record { call = call; moment = moment; by = record { seat = 0; call = lake.calls + 1 } }
+
+-- the one-thread reply to it
+abbrev pub reply_of : Lake → Request → CallReply
+reply_of lake request = reply (state_of lake) (get lake.objects) request
+
+-- the objects with a body, where one was put
+abbrev pub with_object : Option (ℕ × List ℕ) → HeldObjects → HeldObjects
+with_object None objects = objects
+with_object (Some body) objects = insert objects body.0 body.1
+
+-- the lake after a call that added this
+abbrev pub after_call : CallEffect → Lake → Lake
+after_call added lake = record {
+  history = lake.history ++ added.entries;
+  objects = with_object added.body lake.objects;
+  calls = lake.calls + 1;
+}
+
+-- ---- a line
+
+-- what a line came to: what it showed, whether it was done, whether memory ran out at it, the moments that it took, and
+-- the lake that it left
+pub record LineEffect : Type 0 where
   pub text : List ℕ
   pub done : Bool
+  pub starved : Bool
+  pub moments : List ℕ
   pub lake : Lake
 
--- a request that was refused
-abbrev pub refusal : Lake → List ℕ → Effect
-refusal lake text = record { text = text; done = false; lake = lake }
+-- it was passed over
+abbrev pub skipped_effect : Lake → LineEffect
+skipped_effect lake = record { text = []; done = true; starved = false; moments = []; lake = lake }
 
--- a request that was done
-abbrev pub success : Lake → List ℕ → Effect
-success lake text = record { text = text; done = true; lake = lake }
+-- it isn't built yet
+abbrev pub unbuilt_effect : Lake → LineEffect
+unbuilt_effect lake = record { text = not_built_text; done = false; starved = false; moments = []; lake = lake }
 
--- one more request
-abbrev pub with_call : Lake → Lake
-with_call lake = record { history = lake.history; objects = lake.objects; calls = lake.calls + 1 }
-
--- one more entry, made in the present request by the one seat
-abbrev pub with_entry : EntryKind → Lake → Lake
-with_entry kind lake = record {
-  history = lake.history ++ record { by = record { seat = 0; call = lake.calls }; kind = kind } ∷ [];
-  objects = lake.objects;
-  calls = lake.calls;
+-- its call was served at a moment: it shows the one-thread reply, and the lake has what the call adds
+abbrev pub call_line_effect : Lake → Request → LineEffect
+call_line_effect lake request = record {
+  text = shown request.call (reply_of lake request);
+  done = is_done (reply_of lake request);
+  starved = false;
+  moments = request.moment ∷ [];
+  lake = after_call (effect (state_of lake) request) lake;
 }
 
--- the text is held under the number
-abbrev pub with_object : ℕ → List ℕ → Lake → Lake
-with_object number text lake = record {
-  history = lake.history;
-  objects = insert lake.objects number text;
-  calls = lake.calls;
-}
+-- memory ran out
+abbrev pub starved_effect : List ℕ → Lake → LineEffect
+starved_effect moments lake =
+    record { text = out_of_memory_text; done = false; starved = true; moments = moments; lake = lake }
 
--- the entry of a text that is uploaded at a moment under a number
-abbrev pub entry_of : ℕ → List ℕ → ℕ → EntryValue
-entry_of number text moment = record {
-  place = Own number (record { 0 = sha256 text });
-  size = length text;
-  mtime = moment;
-  content_type = codes "application/octet-stream";
-  metadata = [];
-}
+-- Memory ran out in a call that was made at a moment: it added one of its fronts, whose entries are legal.
+pub record IsCutShort (lake : Lake) (call : Call) (line : LineEffect) : Type 0 where
+  pub moment : ℕ
+  pub added : CallEffect
+  pub front : Contains (fronts (state_of lake) (next_request lake call moment)) added
+  pub legal : IsLegal (state_of lake) added.entries
+  pub left : line ≡ starved_effect (moment ∷ []) (after_call added lake)
 
--- the ticket of a number is given up, where the history has room for that
-abbrev pub without_ticket : ℕ → Result ℕ StepFault → Lake → Lake
-without_ticket number (Ok at) lake = with_entry (TicketDrop number) lake
-without_ticket number (Err fault) lake = lake
+-- what becomes of a line with a call
+pub data IsCallServed (lake : Lake) (call : Call) (line : LineEffect) : Type 0 where
+  -- it was served
+  Served : (moment : ℕ) → line ≡ call_line_effect lake (next_request lake call moment) → IsCallServed lake call line
+  -- memory ran out before the call was made
+  Unread : line ≡ starved_effect [] lake → IsCallServed lake call line
+  -- memory ran out in the call
+  CutShort : IsCutShort lake call line → IsCallServed lake call line
 
--- what an upload's entry is answered that is guarded by the branch's version, where that is told
-abbrev pub guarded_reply : State → Result Versions StepFault → Result ℕ StepFault
-guarded_reply state (Ok versions) = stage_reply state fresh_repo fresh_branch versions.version
-guarded_reply state (Err fault) = Err fault
+-- what becomes of a line by what it asks
+abbrev pub IsValueServed : LineValue → Lake → LineEffect → Type 0
+IsValueServed Skipped lake line = line ≡ skipped_effect lake
+IsValueServed NotBuilt lake line = (line ≡ unbuilt_effect lake) ⊎ (line ≡ starved_effect [] lake)
+IsValueServed (Asks call) lake line = IsCallServed lake call line
 
--- what an upload's entry is answered: the version is read, and then the entry is staged by it
-abbrev pub entry_reply : State → Result ℕ StepFault
-entry_reply state = guarded_reply state (versions_reply state fresh_repo fresh_branch)
+-- THE RELATION OF A LINE: from this lake, it may come to this.
+abbrev pub IsLineServed : List ℕ → Lake → LineEffect → Type 0
+IsLineServed text lake line = IsValueServed (line_value text) lake line
 
--- an upload whose text is held under its number: its entry is staged, or its ticket is given up
-abbrev pub upload_end : ℕ → List ℕ → List ℕ → ℕ → Result ℕ StepFault → Lake → Effect
-upload_end number path text moment (Ok at) lake =
-    let kind = Stage fresh_repo fresh_branch path (Put (entry_of number text moment)) in
-    success (with_entry kind lake) (upload_text path (length text) (sha256 text))
-upload_end number path text moment (Err fault) lake =
-    refusal (without_ticket number (drop_reply (state_of lake)) lake) (refusal_text fault)
-
--- an upload: it is given a number, under which its text is then held, or is refused one
-abbrev pub upload : List ℕ → List ℕ → ℕ → Result (ℕ × ℕ) StepFault → Lake → Effect
-upload path text moment (Ok taken) lake =
-    let held = with_object taken.1 text (with_entry (TicketTake fresh_repo fresh_branch taken.1) lake) in
-    upload_end taken.1 path text moment (entry_reply (state_of held)) held
-upload path text moment (Err fault) lake = refusal lake (refusal_text fault)
-
--- the bytes that are held of an entry
-abbrev pub body_of : HeldObjects → EntryValue → Option (List ℕ)
-body_of objects entry = option_and_then (get objects) (own_number entry.place)
-
--- a look at the bytes that are held
-abbrev pub body_effect : List ℕ → Option (List ℕ) → Lake → Effect
-body_effect path (Some bytes) lake = success lake bytes
-body_effect path None lake = refusal lake (lost_text path)
-
--- a look at the entry that stands at the path
-abbrev pub entry_effect : List ℕ → Option EntryValue → Lake → Effect
-entry_effect path (Some entry) lake = body_effect path (body_of lake.objects entry) lake
-entry_effect path None lake = refusal lake (no_path_text path)
-
--- a look at what the branch answers for the path
-abbrev pub cat_effect : List ℕ → Result Seen StepFault → Lake → Effect
-cat_effect path (Ok seen) lake = entry_effect path seen.found lake
-cat_effect path (Err fault) lake = refusal lake (refusal_text fault)
-
--- what a request comes to at a moment
-abbrev pub request_effect : Request → ℕ → Lake → Effect
-request_effect (Upload path text) moment lake =
-    upload path text moment (ticket_reply (state_of lake) fresh_repo fresh_branch) lake
-request_effect (Cat path) moment lake = cat_effect path (look_reply (state_of lake) fresh_repo fresh_branch path) lake
-
--- what some lines show, whether each was done, the lake after them, and the moments left for the next requests
-pub record BatchEffect : Type 0 where
-  pub text : List ℕ
-  pub done : Bool
-  pub lake : Lake
-  pub left : List ℕ
-
--- these moments are left
-abbrev pub with_moments : List ℕ → Effect → BatchEffect
-with_moments moments effect = record { text = effect.text; done = effect.done; lake = effect.lake; left = moments }
-
--- what it comes to that a line asks this; a request takes the next moment
-abbrev pub line_effect : LineValue → List ℕ → Lake → BatchEffect
-line_effect Skipped moments lake = with_moments moments (success lake [])
-line_effect NotBuilt moments lake = with_moments moments (refusal lake not_built_text)
-line_effect (Asks request) moments lake =
-    with_moments (drop 1 moments) (request_effect request (slice_index moments 0) (with_call lake))
-
--- what a line comes to
-abbrev pub turn : List ℕ → List ℕ → Lake → BatchEffect
-turn line moments lake = line_effect (line_value line) moments lake
-
--- what was shown, and then an effect that came after it
-abbrev pub joint_effect : List ℕ → Bool → BatchEffect → BatchEffect
-joint_effect text done next = record {
-  text = text ++ next.text;
-  done = done && next.done;
-  lake = next.lake;
-  left = next.left;
-}
-
--- What the lines come to, one after the other.
-abbrev pub batch : List (List ℕ) → List ℕ → Lake → BatchEffect
-batch [] moments lake = with_moments moments (success lake [])
-batch (line ∷ lines) moments lake =
-    let first = turn line moments lake in
-    joint_effect first.text first.done (batch lines first.left first.lake)
-
--- the lines that ended: what stands before a line feed, without one carriage return at its end
-abbrev pub ended_lines : List ℕ → List (List ℕ)
-ended_lines bytes =
-    let parts = slice_split (λ byte. byte == 10) bytes in
-    map strip_carriage_return (take (length parts - 1) parts)
-
--- it is shown that the batch is too long
-abbrev pub cut_effect : BatchEffect → BatchEffect
-cut_effect effect = record { text = effect.text ++ too_long_text; done = false; lake = effect.lake; left = effect.left }
-
--- What a whole batch comes to. Where its source gives more than the limit, the lines that ended within that are served.
-abbrev pub batch_of : ℕ → List ℕ → List ℕ → BatchEffect
-batch_of limit input moments =
-    if nat_le (length input) limit then batch (lines input) moments fresh_lake
-    else cut_effect (batch (ended_lines (take limit input)) moments fresh_lake)
-
--- The requests of the batch took just these moments, one each, whatever moments come later.
-abbrev pub TakesJust : ℕ → List ℕ → List ℕ → Type 0
-TakesJust limit input moments = (later : List ℕ) → (batch_of limit input (moments ++ later)).left ≡ later
+-- lines were served, each from the lake that the one before left
+abbrev pub AreServed : List (List ℕ) → Lake → List LineEffect → Type 0
+AreServed [] lake [] = Unit {0}
+AreServed [] lake (line ∷ lines) = ⊥
+AreServed (text ∷ texts) lake [] = ⊥
+AreServed (text ∷ texts) lake (line ∷ lines) = IsLineServed text lake line × AreServed texts line.lake lines

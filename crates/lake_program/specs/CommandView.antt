@@ -4,13 +4,14 @@ use Rattle.lake_program.specs.declared.command.Command.{Command}
 use Rattle.lake_program.specs.declared.command.Command.TheVariants as read
 use Rattle.lake_program.specs.declared.command.Line.{Line}
 use Rattle.lake_program.specs.declared.command.Line.TheVariants as line
-use Rattle.lake_program.specs.Command.{Request, Upload, Cat, LineValue, Skipped, NotBuilt, Asks}
+use Rattle.lake_calls.specs.Calls.{Call}
+use Rattle.lake_program.specs.Command.{upload_call, cat_call, LineValue, Skipped, NotBuilt, Asks}
 
-abbrev pub command_view : Command → Request
-command_view (read.Upload path text) = Upload path text.now
-command_view (read.Cat path) = Cat path
+abbrev pub command_view : Command → Call
+command_view (read.Upload path text) = upload_call path text.now
+command_view (read.Cat path) = cat_call path
 
-abbrev pub command_views : Option Command → Option Request
+abbrev pub command_views : Option Command → Option Call
 command_views command = option_map command_view command
 
 abbrev pub line_view : Line → LineValue

@@ -1,70 +1,54 @@
--- How a batch goes on, byte by byte.
-use Rattle.std.specs.Prelude.{◌≡◌, ◌+◌, ◌==◌, ◌&&◌, ℕ, Bool, true, false, MatchBool, List, ◌∷◌, ◌++◌, take}
-use Rattle.std.specs.Prelude.{Some, IfSome, Result, Ok, Err, OnOk}
-use Rattle.std.specs.List.{All}
-use Rattle.std.specs.Str.Lines.{strip_carriage_return}
+-- What a batch has done once some bytes of its source were given.
+use Rattle.std.specs.Prelude.{◌≡◌, ◌+◌, ℕ, List, [], ◌++◌, take, Result, Ok, Err}
 use Rattle.lake_base.specs.declared.outside.Failed.{Failed}
 use Rattle.lake_program.specs.declared.words.Timing.{Timing}
-use Rattle.lake_program.specs.Batch.{BatchEffect, batch, joint_effect}
-use Rattle.lake_program.specs.Front.{IsPrefix, IsAsStated}
+use Rattle.lake_program.specs.Batch.{LineEffect, fresh_lake, AreServed}
+use Rattle.lake_program.specs.Effects.{text_of, moments_of, all_done, any_starved, lake_after}
+use Rattle.lake_program.specs.Front.{IsPrefix, Wrote, WroteFront, Shows}
+use Rattle.lake_program.specs.Lines.{ended_lines, last_part}
 use Rattle.lake_program.specs.Progress.{Progress, AreMoments}
 use Rattle.lake_program.specs.Streams.{Trace}
-use Rattle.lake_program.specs.Text.{out_of_memory_text}
-
--- no line feed
-abbrev pub IsInLine : ℕ → Type 0
-IsInLine byte = (byte == 10) ≡ false
 
 -- So many bytes are kept of the line under way: enough to tell that it is too long, with a carriage return at its end.
 abbrev pub line_room : ℕ
 line_room = 65536 + 2
 
--- this is kept of the line under way
-pub record Holds (line kept : List ℕ) : Type 0 where
-  pub front : kept ≡ take line_room line
-  pub in_line : All IsInLine line
+module _ (timing : Timing) (before now : Trace) where
+  -- After the given bytes the lines that ended in them were served, from the fresh lake on, and what they showed is
+  -- written or pending. The line under way is the last part, of which a front is kept.
+  pub record HasServed (given : List ℕ) (progress : Progress) (kept : List ℕ) : Type 0 where
+    pub effects : List LineEffect
+    pub each : AreServed (ended_lines given) fresh_lake effects
+    pub took : AreMoments timing before.readings now.readings (moments_of effects)
+    pub shown : Shows before.written now.written [] (text_of effects) progress.pending
+    pub lake : progress.lake ≡ lake_after fresh_lake effects
+    pub done : progress.done ≡ all_done effects
+    pub starved : progress.starved ≡ any_starved effects
+    pub under_way : kept ≡ take line_room (last_part given)
 
--- such lines of some bytes as are cut at line feeds
-abbrev pub CutsLines : (List ℕ → List (List ℕ)) → Type 0
-CutsLines lines =
-    (line bytes : List ℕ) → All IsInLine line → lines (line ++ 10 ∷ bytes) ≡ strip_carriage_return line ∷ lines bytes
+  -- These lines were served, and all that they showed was written, and this text behind it.
+  pub record HasWritten (lines : List (List ℕ)) (text : List ℕ) (progress : Progress) : Type 0 where
+    pub effects : List LineEffect
+    pub each : AreServed lines fresh_lake effects
+    pub took : AreMoments timing before.readings now.readings (moments_of effects)
+    pub wrote : Wrote before.written now.written (text_of effects ++ text)
+    pub done : progress.done ≡ all_done effects
+    pub starved : progress.starved ≡ any_starved effects
 
-module _ (old : Progress) (line chunk moments out : List ℕ) where
-  -- what is stated of the line under way, the chunk and what comes after it
-  abbrev pub statement : (List ℕ → List (List ℕ)) → List ℕ → List ℕ → BatchEffect
-  statement lines more later = batch (lines (line ++ chunk ++ more)) (moments ++ later) old.lake
+  -- These lines were served, and a front was written of what they showed and of the text behind it.
+  pub record IsCutOff (lines : List (List ℕ)) (text : List ℕ) : Type 0 where
+    pub effects : List LineEffect
+    pub each : AreServed lines fresh_lake effects
+    pub took : AreMoments timing before.readings now.readings (moments_of effects)
+    pub shown : WroteFront before.written now.written (text_of effects ++ text)
 
-  -- The stated text begins with what was written, and goes on from the new progress.
-  pub record GoesOn (new : Progress) (next : List ℕ) : Type 0 where
-    pub done : Bool
-    pub all_done : new.done ≡ (old.done && done)
-    pub each : (lines : List ℕ → List (List ℕ)) (more later : List ℕ) → CutsLines lines
-        → statement lines more later ≡ joint_effect out done (batch (lines (next ++ more)) later new.lake)
+  -- After the given bytes a chunk was fed, whole, or up to where writing failed.
+  abbrev pub Feeds : List ℕ → List ℕ → Progress → List ℕ → Result (Unit {0}) Failed → Type 0
+  Feeds given chunk progress kept (Ok _) = HasServed (given ++ chunk) progress kept
+  Feeds given chunk progress kept (Err _) =
+      (part : List ℕ) × IsPrefix part chunk × IsCutOff (ended_lines (given ++ part)) []
 
-  -- It was as stated up to a line that found no memory, whose text follows.
-  pub record IsStuck : Type 0 where
-    pub front : List ℕ
-    pub so_far : (lines : List ℕ → List (List ℕ)) (more later : List ℕ) → CutsLines lines
-        → IsPrefix front (statement lines more later).text
-    pub text : IsPrefix (front ++ out_of_memory_text) out
-
-  -- Writing failed.
-  abbrev pub IsCut : Type 0
-  IsCut =
-      (lines : List ℕ → List (List ℕ)) (more later : List ℕ) → CutsLines lines
-      → IsAsStated out (statement lines more later).text
-
-  -- what was written of the chunk, by how the writing came out
-  abbrev pub ComesTo : Progress → Result (Unit {0}) Failed → Type 0
-  ComesTo new (Ok _) = MatchBool new.starved IsStuck ((next : List ℕ) × Holds next new.line × GoesOn new next)
-  ComesTo new (Err _) = IsCut
-
--- From the old progress the chunk led to the new one: these moments were taken and this was written.
-pub record Feeds (timing : Timing) (before after : Trace) (old new : Progress) (chunk : List ℕ)
-    (result : Result (Unit {0}) Failed) : Type 0 where
-  pub moments : List ℕ
-  pub out : List ℕ
-  pub took : AreMoments timing before.readings after.readings moments
-  pub wrote : IfSome before.written (λ written. after.written ≡ Some (written ++ out))
-  pub went : (line : List ℕ) → Holds line old.line → old.starved ≡ false → ComesTo old line chunk moments out new result
-  pub stays : old.starved ≡ true → OnOk result (new.starved ≡ true)
+  -- A batch of these lines was ended by this text, all of which was written, or a front where writing failed.
+  abbrev pub Finishes : List (List ℕ) → List ℕ → Progress → Result (Unit {0}) Failed → Type 0
+  Finishes lines text progress (Ok _) = HasWritten lines text progress
+  Finishes lines text progress (Err _) = IsCutOff lines text

@@ -1,41 +1,70 @@
--- What a whole batch led to.
-use Rattle.std.specs.Prelude.{◌≡◌, ℕ, true, false, if◌then◌else◌, List, [], ◌++◌, Option, Some, IfSome}
+-- What became of a whole batch.
+use Rattle.std.specs.Prelude.{◌≡◌, ◌≤◌, ◌&&◌, ◌⊎◌, ℕ, nat_le, List, [], ◌++◌, length, Option, Some}
 use Rattle.lake_program.specs.declared.words.Timing.{Timing}
 use Rattle.lake_program.specs.declared.status.ExitStatus.{ExitStatus}
-use Rattle.lake_program.specs.declared.status.ExitStatus.TheVariants.{Done, Refused, SourceFailed}
-use Rattle.lake_program.specs.Batch.{fresh_lake, batch, batch_of, ended_lines, TakesJust}
-use Rattle.lake_program.specs.Front.{IsAsStated, IsServed}
-use Rattle.lake_program.specs.Progress.{Progress, AreMoments}
-use Rattle.lake_program.specs.Status.{IsThrough}
+use Rattle.lake_program.specs.declared.status.ExitStatus.TheVariants.{Done, Refused, Usage}
+use Rattle.lake_program.specs.declared.status.ExitStatus.TheVariants.{SourceFailed, SinkFailed, OutOfMemory}
+use Rattle.lake_program.specs.Batch.{LineEffect, fresh_lake, AreServed}
+use Rattle.lake_program.specs.Effects.{text_of, moments_of, all_done, any_starved}
+use Rattle.lake_program.specs.Front.{IsPrefix, Wrote}
+use Rattle.lake_program.specs.Lines.{ended_lines, batch_lines, end_text}
+use Rattle.lake_program.specs.Progress.{AreMoments}
+use Rattle.lake_program.specs.Status.{status_of}
 use Rattle.lake_program.specs.Streams.{Trace}
 
--- a batch of which no line was read
-abbrev pub start : Progress
-start = record { lake = fresh_lake; done = true; starved = false; line = [] }
-
--- All that is stated was written, and the status says whether each line was done.
-pub record IsWhole (limit : ℕ) (input moments out : List ℕ) (status : ExitStatus) : Type 0 where
-  pub text : out ≡ (batch_of limit input moments).text
-  pub done : status ≡ (if (batch_of limit input moments).done then Done else Refused)
-  pub just : TakesJust limit input moments
-
--- All lines that ended in what the source gave were served. The rest is left.
-pub record ServesGiven (input : List ℕ) (source : Option (List ℕ)) (moments out : List ℕ) : Type 0 where
-  pub given : List ℕ
-  pub left : List ℕ
-  pub rest : source ≡ Some left
-  pub whole : given ++ left ≡ input
-  pub served : IsServed out (batch (ended_lines given) moments fresh_lake).text
-
--- These moments were taken and this was written of the batch of an input, and this is left of its source.
-pub record Outcome (timing : Timing) (limit : ℕ) (before after : Trace) (source : Option (List ℕ)) (input : List ℕ)
-    (status : ExitStatus) : Type 0 where
-  pub moments : List ℕ
+-- the lines of a batch that were served and those that weren't, what each served line came to, and what was written
+pub record Course : Type 0 where
+  pub served : List (List ℕ)
+  pub unserved : List (List ℕ)
+  pub effects : List LineEffect
   pub out : List ℕ
-  pub took : AreMoments timing before.readings after.readings moments
-  pub wrote : IfSome before.written (λ written. after.written ≡ Some (written ++ out))
-  -- whatever moments would have come next
-  pub as_stated : (more : List ℕ) → IsAsStated out (batch_of limit input (moments ++ more)).text
-  pub whole : IsThrough status → IsWhole limit input moments out status
-  -- where the source failed
-  pub given : status ≡ SourceFailed → ServesGiven input source moments out
+
+-- The status of a batch whose lines came to this: 7 where memory ran out at one, else 0 where each was done and the
+-- batch isn't too long, else 1.
+abbrev pub batch_status : ℕ → List ℕ → List LineEffect → ExitStatus
+batch_status limit input effects = status_of (any_starved effects) (all_done effects && nat_le (length input) limit)
+
+-- All lines were served, and all that they show was written.
+pub record IsWhole (limit : ℕ) (input : List ℕ) (course : Course) (status : ExitStatus) : Type 0 where
+  pub all : course.unserved ≡ []
+  pub text : course.out ≡ text_of course.effects ++ end_text limit input []
+  pub tells : status ≡ batch_status limit input course.effects
+
+-- Just the lines that ended in what the source gave were served, and all that they show was written.
+pub record IsGiven (limit : ℕ) (input : List ℕ) (source : Option (List ℕ)) (course : Course) : Type 0 where
+  pub given : List ℕ
+  pub rest : List ℕ
+  pub whole : given ++ rest ≡ input
+  pub left : source ≡ Some rest
+  pub within : length given ≤ limit
+  pub lines : course.served ≡ ended_lines given
+  pub text : course.out ≡ text_of course.effects
+
+-- Nothing was read and nothing written.
+pub record IsUnbegun (before after : Trace) (input : List ℕ) (source : Option (List ℕ)) : Type 0 where
+  pub same : after ≡ before
+  pub left : source ≡ Some input
+
+module _ (timing : Timing) (limit : ℕ) (before after : Trace) (input : List ℕ) (source : Option (List ℕ)) where
+  -- how much was served and written, by the status
+  abbrev pub EndsWith : Course → ExitStatus → Type 0
+  EndsWith course Done = IsWhole limit input course Done
+  EndsWith course Refused = IsWhole limit input course Refused
+  EndsWith course Usage = ⊥
+  EndsWith course SourceFailed = IsGiven limit input source course
+  EndsWith course SinkFailed = Unit {0}
+  EndsWith course OutOfMemory = IsWhole limit input course OutOfMemory ⊎ IsUnbegun before after input source
+
+  -- What became of the batch of an input, of which this is left in its source.
+  pub record Outcome (status : ExitStatus) : Type 0 where
+    pub course : Course
+    -- the lines were served in their order,
+    pub lines : course.served ++ course.unserved ≡ batch_lines limit input
+    -- each from the lake that the one before left, the first from a fresh one
+    pub each : AreServed course.served fresh_lake course.effects
+    -- they took these moments, one after the other
+    pub took : AreMoments timing before.readings after.readings (moments_of course.effects)
+    -- a front of what they show was written, and nothing else
+    pub wrote : Wrote before.written after.written course.out
+    pub front : IsPrefix course.out (text_of course.effects ++ end_text limit input course.unserved)
+    pub ended : EndsWith course status

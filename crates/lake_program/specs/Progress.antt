@@ -1,16 +1,21 @@
--- What a batch has come to.
-use Rattle.std.specs.Prelude.{◌≡◌, ℕ, Bool, List, ◌++◌, Option, IsSome, IfSome}
+-- What a batch under way has come to.
+use Rattle.std.specs.Prelude.{◌≡◌, ℕ, Bool, true, false, List, [], ◌++◌, Option, IsSome, IfSome}
 use Rattle.std.specs.List.{AllByRecursion}
 use Rattle.lake_program.specs.declared.words.Timing.{Timing}
 use Rattle.lake_program.specs.declared.words.Timing.TheVariants.{Clock, At}
-use Rattle.lake_program.specs.Batch.{Lake}
+use Rattle.lake_program.specs.Batch.{Lake, fresh_lake}
 
--- its lake, whether each line was done, whether memory ran out, and the line under way
+-- the lake that its lines left, whether each was done, whether memory ran out at one, and what was shown and isn't
+-- written yet
 pub record Progress : Type 0 where
   pub lake : Lake
   pub done : Bool
   pub starved : Bool
-  pub line : List ℕ
+  pub pending : List ℕ
+
+-- a batch of which no line was served
+abbrev pub start : Progress
+start = record { lake = fresh_lake; done = true; starved = false; pending = [] }
 
 -- these are the moments at which requests were made: the clock's readings, or the one that was given
 abbrev pub AreMoments : Timing → Option (List ℕ) → Option (List ℕ) → List ℕ → Type 0

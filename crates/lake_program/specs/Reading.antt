@@ -1,33 +1,37 @@
 -- How the source of a batch is read.
-use Rattle.std.specs.Prelude.{◌≡◌, ◌≤◌, ◌<◌, ℕ, List, ◌++◌, length, take, Option, Some, Result, Ok, Err}
-use Rattle.lake_base.specs.declared.outside.Failed.{Failed}
+use Rattle.std.specs.Prelude.{◌≡◌, ◌≤◌, ◌<◌, ℕ, List, [], ◌++◌, length, take, Option, Some}
 use Rattle.lake_program.specs.declared.words.Timing.{Timing}
 use Rattle.lake_program.specs.declared.batch.End.{End}
 use Rattle.lake_program.specs.declared.batch.End.TheVariants.{Source, TooLong, SourceFailed, SinkFailed}
 use Rattle.lake_program.specs.Front.{IsPrefix}
-use Rattle.lake_program.specs.Feeding.{Feeds}
+use Rattle.lake_program.specs.Feeding.{HasServed, HasWritten, IsCutOff}
+use Rattle.lake_program.specs.Lines.{ended_lines}
 use Rattle.lake_program.specs.Progress.{Progress}
 use Rattle.lake_program.specs.Streams.{Trace}
 
-module _ (timing : Timing) (before after : Trace) (old new : Progress) where
-  -- so much of the input was fed, and this is left of it
+module _ (timing : Timing) (before now : Trace) (progress : Progress) (kept : List ℕ) where
+  -- so many bytes of the input were given and fed, and this is left of it
   pub record Reaches (input : List ℕ) (source : Option (List ℕ)) (total : ℕ) : Type 0 where
-    pub fed : List ℕ
-    pub left : List ℕ
-    pub rest : source ≡ Some left
-    pub whole : fed ++ left ≡ input
-    pub count : total ≡ length fed
-    pub feeds : Feeds timing before after old new fed (Ok tt)
+    pub given : List ℕ
+    pub rest : List ℕ
+    pub whole : given ++ rest ≡ input
+    pub left : source ≡ Some rest
+    pub count : total ≡ length given
+    pub served : HasServed timing before now given progress kept
 
-  -- a part of the input was fed, within the limit
-  pub record FeedsPart (limit : ℕ) (input : List ℕ) (result : Result (Unit {0}) Failed) : Type 0 where
-    pub fed : List ℕ
-    pub front : IsPrefix fed (take limit input)
-    pub feeds : Feeds timing before after old new fed result
+  -- The source failed after it gave these bytes within the limit; of what their lines show nothing is pending.
+  pub record IsBroken (limit : ℕ) (input : List ℕ) (source : Option (List ℕ)) : Type 0 where
+    pub given : List ℕ
+    pub rest : List ℕ
+    pub whole : given ++ rest ≡ input
+    pub left : source ≡ Some rest
+    pub within : length given ≤ limit
+    pub served : HasWritten timing before now (ended_lines given) [] progress
 
-  -- The source ended within the limit, it gave more, it failed with this left of it, or the sink failed.
+  -- The source ended within the limit, it gave more, it failed, or the sink failed.
   abbrev pub Ends : ℕ → List ℕ → Option (List ℕ) → End → Type 0
-  Ends limit input left Source = (length input ≤ limit) × Feeds timing before after old new input (Ok tt)
-  Ends limit input left TooLong = (limit < length input) × Feeds timing before after old new (take limit input) (Ok tt)
-  Ends limit input left SourceFailed = (total : ℕ) × (total ≤ limit) × Reaches input left total
-  Ends limit input left SinkFailed = (failed : Failed) × FeedsPart limit input (Err failed)
+  Ends limit input left Source = (length input ≤ limit) × HasServed timing before now input progress kept
+  Ends limit input left TooLong = (limit < length input) × HasServed timing before now (take limit input) progress kept
+  Ends limit input left SourceFailed = IsBroken limit input left
+  Ends limit input left SinkFailed =
+      (part : List ℕ) × IsPrefix part (take limit input) × IsCutOff timing before now (ended_lines part) []

@@ -1,7 +1,14 @@
--- What is printed of a request.
-use Rattle.lake_program.specs.declared.session.Reply.{Reply}
-use Rattle.lake_program.specs.Batch.{Lake, Effect}
+-- What is printed of a call.
+use Rattle.std.specs.Prelude.{ℕ, List, codes}
+use Rattle.lake_program.specs.declared.text.LineText.{LineText}
+use Rattle.lake_program.specs.declared.text.LineText.TheVariants.{Own, Fixed}
+use Rattle.lake_program.specs.Text.{CallNames}
 
--- the reply, and the lake then
-abbrev pub effect_of : Reply → Lake → Effect
-effect_of reply lake = record { text = reply.text.items; done = reply.done; lake = lake }
+-- the bytes of a text
+abbrev pub text_bytes : LineText → List ℕ
+text_bytes (Own bytes) = bytes.items
+text_bytes (Fixed bytes) = bytes.now
+
+-- the names of a call on the branch `main` of `quickstart`
+abbrev pub batch_names : List ℕ → CallNames
+batch_names path = record { repo = codes "quickstart"; reference = codes "main"; path = path }

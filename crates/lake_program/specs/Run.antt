@@ -1,14 +1,15 @@
 -- What a run of the program promises.
-use Rattle.std.specs.Prelude.{◌≡◌, ◌≢◌, ◌≤◌, ℕ, if◌then◌else◌, List, ◌++◌, Some, IfSome, IsSome, IsNone}
+use Rattle.std.specs.Prelude.{◌≡◌, ◌≤◌, ◌⊎◌, ℕ, List, [], ◌++◌, Some, IfSome, IsSome, IsNone}
 use Rattle.lake_base.specs.Outside.{Rose, Quiet}
 use Rattle.lake_program.specs.declared.words.Timing.{Timing}
 use Rattle.lake_program.specs.declared.status.ExitStatus.{ExitStatus}
-use Rattle.lake_program.specs.declared.status.ExitStatus.TheVariants.{Done, Refused, Usage}
-use Rattle.lake_program.specs.declared.status.ExitStatus.TheVariants.{SourceFailed, SinkFailed, OutOfMemory}
+use Rattle.lake_program.specs.declared.status.ExitStatus.TheVariants.{Usage, SourceFailed, SinkFailed, OutOfMemory}
 use Rattle.lake_program.specs.Words.{timing_of}
-use Rattle.lake_program.specs.Batch.{batch_of, TakesJust}
+use Rattle.lake_program.specs.Batch.{LineEffect, fresh_lake, AreServed}
+use Rattle.lake_program.specs.Effects.{text_of, moments_of}
+use Rattle.lake_program.specs.Lines.{batch_lines, end_text}
 use Rattle.lake_program.specs.Progress.{AreMoments}
-use Rattle.lake_program.specs.Outcome.{Outcome}
+use Rattle.lake_program.specs.Outcome.{Outcome, batch_status}
 use Rattle.lake_program.specs.Status.{status_number, ShowsUsage}
 use Rattle.lake_program.specs.Streams.{Streams, trace_of}
 
@@ -18,28 +19,36 @@ pub record AreQuiet (before after : Streams) : Type 0 where
   pub sink : Quiet before.sink_faults after.sink_faults
   pub errors : Quiet before.errors_faults after.errors_faults
 
--- a run of a batch of this input, after this was written
+-- a run in which each line of this input was served, after this was written
 pub record IsBatchRun (timing : Timing) (input written : List ℕ) (before after : Streams)
     (status : ExitStatus) : Type 0 where
-  pub moments : List ℕ
-  -- each request took one moment, the next, and there were no other
-  pub took : AreMoments timing before.readings after.readings moments
-  pub just : TakesJust 1073741824 input moments
-  -- the sink got just what the lines come to on the one-thread lake, from the fresh lake on
-  pub text : after.written ≡ Some (written ++ (batch_of 1073741824 input moments).text)
-  -- the status says whether each line was done
-  pub done : status ≡ (if (batch_of 1073741824 input moments).done then Done else Refused)
+  -- what each line came to on the one-thread lake, from the lake that the one before left, the first from a fresh one
+  pub effects : List LineEffect
+  pub each : AreServed (batch_lines 1073741824 input) fresh_lake effects
+  -- the requests took these moments, one each, and there were no other
+  pub took : AreMoments timing before.readings after.readings (moments_of effects)
+  -- the sink got just what the lines show, one after the other, and where the batch is too long that it is
+  pub text : after.written ≡ Some (written ++ (text_of effects ++ end_text 1073741824 input []))
+  -- 7 where memory ran out at a line, else 0 where each was done and the batch isn't too long, else 1
+  pub tells : status ≡ batch_status 1073741824 input effects
+
+-- memory ran out before the first line: nothing was read and nothing written
+pub record IsUnbegunRun (before after : Streams) (status : ExitStatus) : Type 0 where
+  pub starved : status ≡ OutOfMemory
+  pub left : after.left ≡ before.left
+  pub written : after.written ≡ before.written
+  pub readings : after.readings ≡ before.readings
 
 -- what is promised of a run with these words that ended so
 pub record Run (words : List (List ℕ)) (before after : Streams) (status : ExitStatus) : Type 0 where
-  -- Where nothing failed and memory sufficed, the sink got just what the batch comes to.
-  pub batch : AreQuiet before after → status ≢ OutOfMemory
+  -- Where no stream failed, each line was served, and the sink got just what they show.
+  pub batch : AreQuiet before after
       → IfSome (timing_of words) (λ timing. IfSome before.left (λ input. IfSome before.written (λ written.
-      IsBatchRun timing input written before after status)))
-  -- Whatever failed, the sink got a prefix of that, up to a line that found no memory. Where the source failed, it got
-  -- all of the lines that had ended.
+      IsBatchRun timing input written before after status ⊎ IsUnbegunRun before after status)))
+  -- Whatever failed, the sink got a front of what the lines show that were served, and all of it where no stream
+  -- failed or the source did.
   pub prefix : IfSome (timing_of words) (λ timing. IfSome before.left (λ input.
-      Outcome timing 1073741824 (trace_of before) (trace_of after) after.left input status))
+      Outcome timing 1073741824 (trace_of before) (trace_of after) input after.left status))
   -- Other words are a usage fault, which is shown on `errors`,
   pub usage : IsNone (timing_of words) → ShowsUsage before.errors after.errors status
   -- and only they are.

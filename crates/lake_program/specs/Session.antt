@@ -2,6 +2,6 @@
 use Rattle.lake_program.specs.declared.session.Session.{Session}
 use Rattle.lake_program.specs.Batch.{Lake}
 
--- the accepted changes, the objects that are held, and how many requests were made
+-- the entries, the objects that are held, and how many requests were made
 abbrev pub lake_of : Session → Lake
 lake_of session = record { history = session.lake; objects = session.blocks.held; calls = session.calls }

@@ -1,10 +1,10 @@
 -- The statuses of the program.
-use Rattle.std.specs.Prelude.{◌≡◌, ◌⊎◌, ◌++◌, ℕ, Bool, List, Option, Some, IfSome, Result, Ok, Err, if◌then◌else◌}
+use Rattle.std.specs.Prelude.{◌≡◌, ◌⊎◌, ℕ, Bool, List, Option, Result, Ok, Err, if◌then◌else◌}
 use Rattle.lake_base.specs.declared.outside.Failed.{Failed}
 use Rattle.lake_program.specs.declared.status.ExitStatus.{ExitStatus}
 use Rattle.lake_program.specs.declared.status.ExitStatus.TheVariants.{Done, Refused, Usage}
 use Rattle.lake_program.specs.declared.status.ExitStatus.TheVariants.{SourceFailed, SinkFailed, OutOfMemory}
-use Rattle.lake_program.specs.Front.{IsPrefix}
+use Rattle.lake_program.specs.Front.{Wrote, WroteFront}
 use Rattle.lake_program.specs.Text.{usage_text}
 
 -- the number by which the system knows a status
@@ -25,18 +25,7 @@ abbrev pub end_status : Bool → Bool → Result (Unit {0}) Failed → ExitStatu
 end_status starved done (Ok _) = status_of starved done
 end_status starved done (Err failed) = SinkFailed
 
--- the batch was read to its end, and memory sufficed
-abbrev pub IsThrough : ExitStatus → Type 0
-IsThrough Done = Unit {0}
-IsThrough Refused = Unit {0}
-IsThrough Usage = ⊥
-IsThrough SourceFailed = ⊥
-IsThrough SinkFailed = ⊥
-IsThrough OutOfMemory = ⊥
-
 -- All of the text of a usage fault was written, or a front of it where that failed.
 abbrev pub ShowsUsage : Option (List ℕ) → Option (List ℕ) → ExitStatus → Type 0
 ShowsUsage before after status =
-    ((status ≡ Usage) × IfSome before (λ written. after ≡ Some (written ++ usage_text)))
-    ⊎ ((status ≡ SinkFailed)
-    × IfSome before (λ written. (out : List ℕ) × IsPrefix out usage_text × (after ≡ Some (written ++ out))))
+    ((status ≡ Usage) × Wrote before after usage_text) ⊎ ((status ≡ SinkFailed) × WroteFront before after usage_text)

@@ -2,8 +2,12 @@
 use Rattle.std.specs.Prelude.{ℕ, List, [], ◌∷◌, ◌++◌, codes}
 use Rattle.std.specs.Fmt.{decimal}
 use Rattle.lake_base.specs.Digest.{encode_lower}
-use Rattle.plain_model.specs.declared.reply.StepFault.{StepFault}
-use Rattle.plain_model.specs.declared.reply.StepFault.TheVariants.{HistoryFull, NoRepo, NoRef, Changed, NoMemory}
+use Rattle.lake_values.specs.declared.entry.Place.{Place}
+use Rattle.lake_values.specs.declared.entry.Place.TheVariants.{Own, External}
+use Rattle.lake_model.specs.declared.fault.StepFault.{StepFault}
+use Rattle.lake_model.specs.declared.fault.StepFault.TheVariants.{Stopped, HistoryFull, NoRepo, NoRef, Protected, NoPath}
+use Rattle.lake_calls.specs.Calls.{Call, Upload, Object}
+use Rattle.lake_calls.specs.Replies.{CallReply, UploadReply, ObjectReply, Refusal, Gone, NotHeld, Lost}
 
 -- a text and the end of its line
 abbrev pub line : List ℕ → List ℕ
@@ -25,24 +29,55 @@ too_long_text = line (codes "Error: batch too long")
 abbrev pub usage_text : List ℕ
 usage_text = line (codes "Error: usage")
 
--- an upload that was made: its path, its size and its digest
+-- the checksum that is told of an object: its digest, or the one that was given for it
+abbrev pub checksum : Place → List ℕ
+checksum (Own number digest) = encode_lower digest.0
+checksum (External at given) = given
+
+-- an upload that was made: its path, its size and its checksum
 abbrev pub upload_text : List ℕ → ℕ → List ℕ → List ℕ
-upload_text path size digest =
-    line (codes "Path: " ++ path) ++ line (codes "Size: " ++ decimal size)
-    ++ line (codes "Checksum: " ++ encode_lower digest)
+upload_text path size checksum =
+    line (codes "Path: " ++ path) ++ line (codes "Size: " ++ decimal size) ++ line (codes "Checksum: " ++ checksum)
 
--- nothing stands at the path
-abbrev pub no_path_text : List ℕ → List ℕ
-no_path_text path = line (codes "Error: path not found: " ++ path ++ codes " [404]")
+-- the object at the path is gone, stands outside, or has no bytes that are held
+abbrev pub gone_text : List ℕ → List ℕ
+gone_text path = line (codes "Error: object gone: " ++ path ++ codes " [410]")
 
--- the bytes of the object at the path aren't held
+abbrev pub outside_text : List ℕ → List ℕ
+outside_text path = line (codes "Error: object held outside: " ++ path ++ codes " [422]")
+
 abbrev pub lost_text : List ℕ → List ℕ
 lost_text path = line (codes "Error: object lost: " ++ path ++ codes " [500]")
 
--- a step was refused
-abbrev pub refusal_text : StepFault → List ℕ
-refusal_text HistoryFull = line (codes "Error: history full [503]")
-refusal_text NoRepo = line (codes "Error: repository not found: quickstart [404]")
-refusal_text NoRef = line (codes "Error: reference not found: main [404]")
-refusal_text (Changed version settings) = line (codes "Error: too many tries [423]")
-refusal_text NoMemory = out_of_memory_text
+-- the names that a call has: its repository, its reference and its path
+pub record CallNames : Type 0 where
+  pub repo : List ℕ
+  pub reference : List ℕ
+  pub path : List ℕ
+
+abbrev pub names_of : Call → CallNames
+names_of (Upload u) = record { repo = u.repo; reference = u.branch; path = u.path }
+names_of (Object o) = record { repo = o.repo; reference = o.e.name; path = o.path }
+
+-- A call was refused. The calls that are built have no other refusals.
+abbrev pub refusal_text : CallNames → StepFault → List ℕ
+refusal_text names Stopped = line (codes "Error: store stopped [503]")
+refusal_text names HistoryFull = line (codes "Error: history full [503]")
+refusal_text names NoRepo = line (codes "Error: repository not found: " ++ names.repo ++ codes " [404]")
+refusal_text names NoRef = line (codes "Error: reference not found: " ++ names.reference ++ codes " [404]")
+refusal_text names (Protected number) =
+    line (codes "Error: branch protected by rule " ++ decimal number ++ codes " [403]")
+refusal_text names NoPath = line (codes "Error: path not found: " ++ names.path ++ codes " [404]")
+refusal_text names _ = not_built_text
+
+-- WHAT IS SHOWN of the reply to a call
+abbrev pub reply_text : CallNames → CallReply → List ℕ
+reply_text names (UploadReply entry) = upload_text names.path entry.size (checksum entry.place)
+reply_text names (ObjectReply content_type bytes) = bytes
+reply_text names (Refusal fault) = refusal_text names fault
+reply_text names (Gone number) = gone_text names.path
+reply_text names (NotHeld address) = outside_text names.path
+reply_text names (Lost number) = lost_text names.path
+
+abbrev pub shown : Call → CallReply → List ℕ
+shown call reply = reply_text (names_of call) reply

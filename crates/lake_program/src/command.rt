@@ -1,7 +1,7 @@
 //! What a batch's lines ask for.
-ghost use Rattle.std.specs.Prelude.{◌≡◌, ◌≢◌, IfOk};
-ghost use Rattle.lake_program.specs.Command.{is_skipped, words_of, path_of, request_of, line_value};
-ghost use Rattle.lake_program.specs.Command.{cat_request, upload_request};
+ghost use Rattle.std.specs.Prelude.{◌≡◌, ◌≢◌, false, IfOk, OnErr};
+ghost use Rattle.lake_program.specs.Command.{is_skipped, words_of, path_of, call_of, line_value};
+ghost use Rattle.lake_program.specs.Command.{cat_of_words, upload_of_words};
 ghost use Rattle.lake_program.specs.CommandView.{command_views, line_view};
 
 use crate::limits::LINE_LIMIT;
@@ -34,7 +34,10 @@ pub enum Command<'a> {
 
 /// Reads a line.
 pub fn read_line(alloc: Global, line: &[u8]) -> Result<Line<'_>, NoMemory>
-    ensures { IfOk result (λ read. line_view read ≡ line_value line.now) }
+    ensures read { IfOk result (λ read. line_view read ≡ line_value line.now) }
+
+    // A line that is passed over takes no memory.
+    ensures taken { OnErr result (is_skipped line.now ≡ false) }
 {
     if is_skipped(line) {
         return Ok(Line::Skipped);
@@ -58,7 +61,7 @@ fn is_skipped(line: &[u8]) -> bool
 
 // The command of a line. None where it is of no form that is built yet, is too long or isn't UTF-8.
 fn read_command(alloc: Global, line: &[u8]) -> Result<Option<Command<'_>>, NoMemory>
-    ensures { IfOk result (λ command. command_views command ≡ request_of line.now) }
+    ensures { IfOk result (λ command. command_views command ≡ call_of line.now) }
 {
     if line.len() > LINE_LIMIT || !lake_base::is_utf8(line) {
         return Ok(None);
@@ -86,7 +89,7 @@ fn read_command(alloc: Global, line: &[u8]) -> Result<Option<Command<'_>>, NoMem
 
 // The command `fs cat URI`, whose words before the rest are read.
 fn read_cat<'a>(alloc: Global, uri: &[u8], rest: &'a [u8]) -> Result<Option<Command<'a>>, NoMemory>
-    ensures { IfOk result (λ command. command_views command ≡ cat_request uri.now (words_of rest.now)) }
+    ensures { IfOk result (λ command. command_views command ≡ cat_of_words uri.now (words_of rest.now)) }
 {
     if next_word(rest).is_some() {
         return Ok(None);
@@ -104,7 +107,7 @@ fn read_upload<'a>(
     uri: &[u8],
     rest: &'a [u8],
 ) -> Result<Option<Command<'a>>, NoMemory>
-    ensures { IfOk result (λ command. command_views command ≡ upload_request uri.now (words_of rest.now)) }
+    ensures { IfOk result (λ command. command_views command ≡ upload_of_words uri.now (words_of rest.now)) }
 {
     let Some((option, rest)) = next_word(rest) else {
         return Ok(None);

@@ -3,8 +3,9 @@
 //! - `run`: the call that the program makes, with the promise of what it prints; `status`: how it ends.
 //! - `words`: the words that the program was started with. `command`, `word`: the commands of lines. `limits`:
 //!   how long a line and a batch may be.
-//! - `line_buffer`, `batch`: the source read piece by piece, cut into lines that are served.
-//! - `session`: the requests of one client. `text`, `write`: what is printed, and writing it.
+//! - `line_buffer`, `batch`: the source read piece by piece and cut into lines. `serving`: the lines, served one
+//!   after the other.
+//! - `session`: the requests of one client. `text`: what is printed. `output`, `write`: holding it back, and writing it.
 //! - `adapters`, `host`: the real streams, clock and machine.
 //!
 //! The promise to the layer above: what `run` prints is the fold of the lines over the one-thread lake,
@@ -13,11 +14,18 @@
 
 pub mod adapters;
 pub mod batch;
+pub mod calls;
 pub mod command;
 pub mod host;
+pub mod laws;
 pub mod limits;
 pub mod line_buffer;
+pub mod lines;
+pub mod memory_lake;
+pub mod output;
+pub mod reply;
 pub mod run;
+pub mod serving;
 pub mod session;
 pub mod status;
 #[cfg(test)]

@@ -2,7 +2,7 @@
 ghost use Rattle.std.specs.Prelude.{◌≡◌, ◌≢◌, ◌≤◌, ◌<◌, ◌^◌, ◌⊎◌, IfSome, IsSome, IsNone, IfOk, length};
 ghost use Rattle.lake_base.specs.Outside.{Rose};
 ghost use Rattle.lake_base.specs.declared.limits.TheConstants.{PATH_LIMIT};
-ghost use Rattle.plain_model.specs.declared.history.TheConstants.{HISTORY_LIMIT};
+ghost use Rattle.lake_model.specs.declared.history.TheConstants.{HISTORY_LIMIT};
 ghost use Rattle.lake_program.specs.declared.limits.TheConstants.{LINE_LIMIT};
 ghost use Rattle.lake_program.specs.Words.{timing_of};
 ghost use Rattle.lake_program.specs.Outcome.{Outcome};
@@ -99,7 +99,7 @@ pub fn serve_batch<S: Source, W: Sink, C: Clock>(
         Outcome timing limit
         (record { readings = C.readings clock.old; written = W.written sink.old })
         (record { readings = C.readings clock.new; written = W.written sink.new })
-        (S.left source.new) input result) }
+        input (S.left source.new) result) }
     ensures source { (S.faults source.old ≤ S.faults source.new)
         × (result ≡ ExitStatus.SourceFailed → Rose (S.faults source.old) (S.faults source.new)) }
     ensures sink { (W.faults sink.old ≤ W.faults sink.new)

@@ -2,6 +2,7 @@ ghost use Rattle.std.specs.Prelude.{◌<◌};
 
 use crate::adapters::{StdSink, StdSource, SystemClock};
 use crate::host::NoHost;
+use crate::output::PendingOutput;
 use crate::run::{run, serve_batch};
 use crate::words::Timing;
 use lake_base::{Clock, FixedClock, MemorySink, MemorySource, ScriptClock, Sink, Source, Text};
@@ -227,6 +228,26 @@ fn the_first_failure_has_its_status(rt: HostRuntime) -> Result<(), Fail> {
     Ok(())
 }
 
+// After so many reads of 7 bytes, of 84, the next one fails.
+static FAILED_READS: [(u64, &[u8]); 3] = [
+    (1, b""),
+    (8, b""),
+    (
+        9,
+        b"Path: a\nSize: 5\nChecksum: 2cf24dba5fb0a30e26e83b2ac5b9e29e1b161e5c1fa7425e73043362938b9824\n",
+    ),
+];
+
+#[test]
+fn a_failed_read_leaves_what_the_lines_show_that_ended(rt: HostRuntime) -> Result<(), Fail> {
+    for (read, out) in &FAILED_READS {
+        let came = run_failing(rt.alloc(), &BATCH, DEMO, 7, *read, 0)?;
+        assert_eq!(rt; came.status, 3);
+        assert_eq!(rt; came.out.as_slice(), *out, "at {read}");
+    }
+    Ok(())
+}
+
 static OTHER_WORDS: [&[&str]; 9] = [
     &[],
     &["lakefs"],
@@ -327,6 +348,31 @@ fn a_long_comment_is_passed_over(rt: HostRuntime) -> Result<(), Fail> {
     assert_eq!(rt; came.out.len(), 0);
     assert_eq!(rt; came.status, 0);
     Ok(())
+}
+
+// So many bytes are shown behind others, and this is written before they are flushed, and then all.
+fn check_pending(rt: &impl Abort, alloc: Global, count: usize, written: usize) -> Result<(), Fail> {
+    let text = padded(alloc, b"", b'x', count, b"")?;
+    let mut sink = sink_of(alloc, 4_096, 0)?;
+    let mut output = PendingOutput::new(alloc)?;
+    assert_eq!(rt; output.show(&mut sink, b"pending"), Ok(()));
+    assert_eq!(rt; output.show(&mut sink, text.as_slice()), Ok(()));
+    assert_eq!(rt; sink.written().len(), written, "of {count}");
+    assert_eq!(rt; output.flush(&mut sink), Ok(()));
+    assert_eq!(rt;
+        sink.written()
+            .strip_prefix(b"pending")
+            .map(|rest| rest.len()),
+        Some(count)
+    );
+    Ok(())
+}
+
+#[test]
+fn a_text_is_held_back_where_there_is_room(rt: HostRuntime) -> Result<(), Fail> {
+    check_pending(&rt, rt.alloc(), 65_529, 0)?;
+    check_pending(&rt, rt.alloc(), 65_530, 7)?;
+    check_pending(&rt, rt.alloc(), 65_537, 65_544)
 }
 
 static CUT: &[u8] =

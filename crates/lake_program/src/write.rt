@@ -1,16 +1,14 @@
 //! Writing all of some bytes.
-ghost use Rattle.std.specs.Prelude.{◌≡◌, ◌++◌, IfSome, OnOk, OnErr, List, ℕ};
+ghost use Rattle.std.specs.Prelude.{OnOk, OnErr};
 ghost use Rattle.lake_base.specs.Outside.{HasCause};
-ghost use Rattle.lake_program.specs.Front.{IsPrefix};
+ghost use Rattle.lake_program.specs.Front.{Wrote, WroteFront};
 
 use lake_base::{Failed, Sink};
 
 /// Writes all of the bytes, in as many writes as the sink wants. After a failure a front of them is written.
 pub fn write_all<W: Sink>(sink: &mut W, bytes: &[u8]) -> Result<(), Failed>
-    ensures all { OnOk result (IfSome (W.written sink.old) (λ before.
-        W.written sink.new ≡ Some (before ++ bytes.now))) }
-    ensures front { OnErr result (IfSome (W.written sink.old) (λ before.
-        (out : List ℕ) × IsPrefix out bytes.now × (W.written sink.new ≡ Some (before ++ out)))) }
+    ensures all { OnOk result (Wrote (W.written sink.old) (W.written sink.new) bytes.now) }
+    ensures front { OnErr result (WroteFront (W.written sink.old) (W.written sink.new) bytes.now) }
     ensures cause { HasCause (W.faults sink.old) (W.faults sink.new) result }
 {
     let mut left = bytes;

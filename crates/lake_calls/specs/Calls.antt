@@ -1,0 +1,29 @@
+-- What clients ask of a lake.
+use Rattle.std.specs.Prelude.{ℕ, List}
+use Rattle.commit_graph.specs.Expressions.{RefExprValue}
+use Rattle.lake_model.specs.declared.history.By.{By}
+
+-- a body that is to become an object at a path of a branch
+pub record UploadCall : Type 0 where
+  pub repo : List ℕ
+  pub branch : List ℕ
+  pub path : List ℕ
+  pub content_type : List ℕ
+  pub body : List ℕ
+
+-- an object that is to be read: the one at a path of what an expression leads to
+pub record ObjectCall : Type 0 where
+  pub repo : List ℕ
+  pub e : RefExprValue
+  pub path : List ℕ
+
+-- a call, as a client makes it
+pub data Call : Type 0 where
+  Upload : UploadCall → Call
+  Object : ObjectCall → Call
+
+-- a call that is made at a moment, in seconds since 1970, by a seat and under a number
+pub record Request : Type 0 where
+  pub call : Call
+  pub moment : ℕ
+  pub by : By

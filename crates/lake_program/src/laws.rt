@@ -1,0 +1,35 @@
+//! What a batch's lines come to, in a user's words. Each law is the contract of a function that does nothing.
+ghost use Rattle.std.specs.Prelude.{◌≡◌, ◌≢◌, ◌+◌, ℕ, List, true, false};
+ghost use Rattle.lake_calls.specs.Calls.{Call, UploadCall, Upload};
+ghost use Rattle.lake_calls.specs.Courses.{course_entries};
+ghost use Rattle.lake_calls.specs.Replies.{Lost};
+ghost use Rattle.lake_program.specs.Batch.{AreServed, IsLineServed, LineEffect, fresh_lake, next_request, reply_of, state_of};
+ghost use Rattle.lake_program.specs.Command.{Asks, cat_call, line_value};
+ghost use Rattle.lake_program.specs.LastUploads.{HasMemory, cat_text, lake_left, last_upload};
+ghost use Rattle.lake_program.specs.OwnEntries.{entries_by};
+
+/// Where no line ran out of memory, `fs cat` of a path shows the body of the last upload to it that was accepted
+/// before, or that there is none; and no reply ever tells that an object's bytes are lost.
+pub fn laws_of_bodies()
+    ensures last { (texts : List (List ℕ)) (lines : List LineEffect) (path text : List ℕ) (line : LineEffect)
+        → AreServed texts fresh_lake lines → HasMemory lines
+        → line_value text ≡ Asks (cat_call path)
+        → IsLineServed text (lake_left fresh_lake lines) line → line.starved ≡ false
+        → line.text ≡ cat_text path (last_upload path texts lines) }
+    ensures kept { (texts : List (List ℕ)) (lines : List LineEffect) (text : List ℕ) (call : Call) (moment number : ℕ)
+        → AreServed texts fresh_lake lines → HasMemory lines
+        → line_value text ≡ Asks call
+        → reply_of (lake_left fresh_lake lines) (next_request (lake_left fresh_lake lines) call moment) ≢ Lost number }
+{}
+
+/// An upload that was accepted stands in the history once, with just the entries of its course, whatever lines come
+/// before and after it, and whether or not memory ran out at them.
+pub fn law_of_uploads()
+    ensures { (before : List (List ℕ)) (lines : List LineEffect) (text : List ℕ) (line : LineEffect)
+        (later : List (List ℕ)) (others : List LineEffect) (u : UploadCall)
+        → AreServed before fresh_lake lines → IsLineServed text (lake_left fresh_lake lines) line
+        → line_value text ≡ Asks (Upload u) → line.done ≡ true → AreServed later line.lake others
+        → (moment : ℕ) × (entries_by ((lake_left fresh_lake lines).calls + 1) (lake_left line.lake others).history
+        ≡ course_entries (next_request (lake_left fresh_lake lines) (Upload u) moment)
+        (state_of (lake_left fresh_lake lines)).next_number) }
+{}

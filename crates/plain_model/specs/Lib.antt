@@ -1,4 +1,0 @@
-pub mod State
-pub mod After
-pub mod Legal
-pub mod Reply
