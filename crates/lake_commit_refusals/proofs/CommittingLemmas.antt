@@ -30,7 +30,7 @@ use Rattle.lake_histories.proofs.StaysStagedLemmas.{a_sealed, has_a, lacks_a, se
 use Rattle.lake_refusals.proofs.LakesLemmas.{ready_scene, refuses_by, with_notes}
 
 -- the pattern `main` matches
-main_itself : matches main main ≡ true
+pub main_itself : matches main main ≡ true
 unfolding matches
 main_itself = refl
 

@@ -1,0 +1,9 @@
+pub mod ForksLemmas
+pub mod BranchesLemmas
+pub mod DivergedLemmas
+pub mod MergesLemmas
+pub mod SidesLemmas
+pub mod AllowedLemmas
+pub mod AheadLemmas
+pub mod RefusedLemmas
+pub mod HooksLemmas
