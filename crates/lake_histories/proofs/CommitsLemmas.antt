@@ -1,9 +1,8 @@
 -- What a commit makes of a scene, and where it may come.
-use Rattle.std.proofs.Common.{◌≡◌, ◌<◌, ℕ, false, List, refl, sym, ap, ◌∙◌}
+use Rattle.std.proofs.Common.{◌≡◌, ◌<◌, ℕ, false, List, sym, ap, ◌∙◌}
 use Rattle.std.specs.Prelude.{Option, Some, None}
 use Rattle.std.specs.FinMap.{get, insert, empty}
-use Rattle.std.specs.Option.{option_map_or, unwrap_or}
-use Rattle.lake_base.specs.Maps.{ByteMap}
+use Rattle.std.specs.Option.{unwrap_or}
 use Rattle.lake_base.specs.declared.digest.Digest.{Digest}
 use Rattle.lake_values.specs.Commit.{CommitRecordValue, AboutValue}
 use Rattle.lake_values.specs.Entry.{EntryValue}
@@ -13,10 +12,11 @@ use Rattle.lake_format.specs.Spelling.{commit_id}
 use Rattle.lake_model.specs.declared.history.Operation.TheVariants.{Commit}
 use Rattle.lake_model.specs.State.{Branch, Repository, State, head_map, sealed_map}
 use Rattle.lake_model.specs.Branches.{protected_by}
-use Rattle.lake_model.specs.Commits.{IsAdmissible, IsCommittable, commit_draft, denied_by, draft_on, record_of, with_commit, with_draft, with_head}
+use Rattle.lake_model.specs.Commits.{IsAdmissible, IsCommittable, commit_draft, denied_by, record_of, with_commit, with_head}
 use Rattle.lake_model.specs.History.{Allows, after}
 use Rattle.lake_histories.specs.Words.{quickstart, main, entry_of, IsCommitAdmissible}
-use Rattle.lake_histories.proofs.SceneLemmas.{scene, of_main, counted, in_quickstart, main_there, change_one, on_main, the_main}
+use Rattle.lake_histories.proofs.BranchesLemmas.{in_draft, put_again, spread}
+use Rattle.lake_histories.proofs.SceneLemmas.{scene, counted, main_there, on_main, the_main}
 use Rattle.lake_histories.proofs.EntriesLemmas.{may}
 use Rattle.lake_histories.proofs.MapsLemmas.{get_put}
 
@@ -34,14 +34,10 @@ module _ (s : State) (r : Repository) (b : Branch) (about : AboutValue) where
   abbrev pub at_new : Branch
   at_new = with_head new_id b
 
-  drafted : draft_on s.cut main (λ x y. commit_draft x y about) (of_main r b) ≡ of_main with_new at_new
-  drafted =
-      ap (λ (o : Option Branch). option_map_or (λ (x : Branch). with_draft s.cut main (commit_draft (of_main r b) x about) (of_main r b)) o (of_main r b)) (main_there b)
-      ∙ ap (λ (m : ByteMap Branch). record with_new { branches = m }) (change_one main (with_head new_id) b refl)
-
   pub after_committing : after (scene s r b) (entry_of (Commit quickstart main about)) ≡ scene (counted s) with_new at_new
-  after_committing = ap counted (in_quickstart (draft_on s.cut main (λ x y. commit_draft x y about)) s r b
-      ∙ ap (λ (x : Repository). record s { repositories = insert empty quickstart x }) drafted)
+  after_committing =
+      ap counted (in_draft s r (insert empty main b) main b (main_there b) (λ x y. commit_draft x y about))
+      ∙ ap (spread (counted s) with_new) (put_again empty main b at_new)
 
   -- the new head has the sealed map
   pub new_map : head_map with_new at_new ≡ sealed_map r b

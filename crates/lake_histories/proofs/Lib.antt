@@ -1,3 +1,4 @@
+pub mod BranchesLemmas
 pub mod SceneLemmas
 pub mod EntriesLemmas
 pub mod MapsLemmas

@@ -1,5 +1,5 @@
 -- What maps have after changes, and what is read on `main`.
-use Rattle.std.proofs.Common.{◌≡◌, ℕ, Bool, true, false, cond, List, [], refl, sym, ap, ◌∙◌}
+use Rattle.std.proofs.Common.{◌≡◌, ℕ, Bool, true, false, cond, List, refl, sym, ap, ◌∙◌}
 use Rattle.std.specs.Prelude.{Option, Some, None, option_map, option_and_then}
 use Rattle.std.specs.Option.{unwrap_or}
 use Rattle.std.specs.FinMap.{get, insert, empty, get-insert, get-empty}
@@ -19,6 +19,7 @@ use Rattle.lake_model.specs.State.{Branch, Repository, State, HasBranch, head_ma
 use Rattle.lake_model.specs.Commits.{IsCommittable, MayCommit}
 use Rattle.lake_model.specs.Now.{now_in}
 use Rattle.lake_histories.specs.Words.{quickstart, main, first, head_of, read_at}
+use Rattle.lake_histories.proofs.BranchesLemmas.{head_in}
 use Rattle.lake_histories.proofs.SceneLemmas.{scene, of_main, get_one, repo_there, main_there, never_both}
 use Rattle.lake_histories.proofs.EntriesLemmas.{first_repository}
 
@@ -57,9 +58,7 @@ read_scene s r b path =
 
 -- the head of a scene
 pub head_scene : (s : State) (r : Repository) (b : Branch) → head_of (scene s r b) ≡ b.head
-head_scene s r b =
-    ap (λ (o : Option Repository). unwrap_or (option_map (λ (x : Branch). x.head) (option_and_then (λ (x : Repository). get x.branches main) o)) (record { 0 = [] })) (repo_there (of_main r b))
-    ∙ ap (λ (o : Option Branch). unwrap_or (option_map (λ (x : Branch). x.head) o) (record { 0 = [] })) (main_there b)
+head_scene s r b = head_in s r (insert empty main b) main b (main_there b)
 
 -- a deletion from the empty map leaves it
 pub delete_nothing : (path : List ℕ) → apply (insert empty path Delete) empty ≡ empty

@@ -1,67 +1,42 @@
 -- A lake of one repository with one branch, and what entries make of it.
-use Rattle.std.proofs.Common.{◌≡◌, ◌+◌, ℕ, Bool, true, false, cond, List, [], ◌∷◌, ◌++◌, refl, sym, ap, subst, ◌∙◌}
-use Rattle.std.specs.Prelude.{Option, Some, None}
-use Rattle.std.specs.FinMap.{get, insert, empty, get-insert, get-empty, same_map, slice_cmp-IsAntisymmetric, nat_cmp-IsAntisymmetric}
-use Rattle.std.specs.Ordering.{eq_by_cmp}
-use Rattle.std.specs.Cmp.Lexicographic.{nat_list_cmp_total}
-use Rattle.lake_base.specs.Maps.{ByteMap, byte_order}
+use Rattle.std.proofs.Common.{◌≡◌, ◌+◌, ℕ, List, [], ◌∷◌, ◌++◌, sym, ap, subst, ◌∙◌}
+use Rattle.std.specs.Prelude.{Some}
+use Rattle.std.specs.FinMap.{get, insert, empty}
+use Rattle.lake_base.specs.Maps.{byte_order}
 use Rattle.lake_model.specs.declared.history.HistoryEntry.{HistoryEntry}
 use Rattle.lake_model.specs.State.{Branch, Repository, State, HasBranch}
-use Rattle.lake_model.specs.Parts.{changed_at, in_repository, in_branch}
+use Rattle.lake_model.specs.Parts.{in_repository, in_branch}
 use Rattle.lake_model.specs.History.{Allows, IsLegal, after, replay}
 use Rattle.lake_histories.specs.Words.{quickstart, main}
-
-put_over : {X : Type 0} (b : Bool) (x y : Option X) → cond b y (cond b x None) ≡ cond b y None
-put_over true x y = refl
-put_over false x y = refl
-
--- what a map of one name has
-pub get_one : {X : Type 0} (name : List ℕ) (x : X) (q : List ℕ) → get (insert {R = byte_order} empty name x) q ≡ cond (eq_by_cmp byte_order q name) (Some x) None
-get_one name x q = get-insert nat_list_cmp_total empty name x q ∙ ap (cond (eq_by_cmp byte_order q name) (Some x)) (get-empty byte_order q)
-
--- what is put twice under a name stands there as the second
-pub put_again : {X : Type 0} (name : List ℕ) (x y : X) → insert {R = byte_order} (insert empty name x) name y ≡ insert empty name y
-put_again name x y = same_map nat_list_cmp_total (slice_cmp-IsAntisymmetric nat_cmp-IsAntisymmetric) _ _ (λ q.
-    get-insert nat_list_cmp_total (insert empty name x) name y q
-    ∙ ap (cond (eq_by_cmp byte_order q name) (Some y)) (get_one name x q)
-    ∙ put_over (eq_by_cmp byte_order q name) (Some x) (Some y)
-    ∙ sym (get_one name y q))
-
--- the map of one name after a change of what stands there
-pub change_one : {X : Type 0} (name : List ℕ) (change : X → X) (x : X) → eq_by_cmp byte_order name name ≡ true
-    → changed_at name change (insert empty name x) ≡ insert empty name (change x)
-change_one name change x same =
-    let there : get (insert empty name x) name ≡ Some x = get_one name x name ∙ ap (λ b. cond b (Some x) None) same in
-    rw there (put_again name x (change x))
+use Rattle.lake_histories.proofs.BranchesLemmas.{get_one, in_named, in_one, on_branch, put_again, spread, the_branch, with_branches}
+pub use Rattle.lake_histories.proofs.BranchesLemmas.{change_one, get_one, put_again, repo_there}
 
 -- the lake whose one repository has one branch
 abbrev pub scene : State → Repository → Branch → State
-scene s r b = record s { repositories = insert empty quickstart (record r { branches = insert empty main b }) }
+scene s r b = spread s r (insert empty main b)
 
 -- the repository of it
 abbrev pub of_main : Repository → Branch → Repository
-of_main r b = record r { branches = insert empty main b }
+of_main r b = with_branches r (insert empty main b)
 
 pub main_there : (b : Branch) → get (insert {R = byte_order} empty main b) main ≡ Some b
 main_there b = get_one main b main
 
-pub repo_there : (r : Repository) → get (insert {R = byte_order} empty quickstart r) quickstart ≡ Some r
-repo_there r = get_one quickstart r quickstart
-
 -- it has what its repository and its branch have
 pub on_main : (P : Repository → Branch → Type 0) (s : State) (r : Repository) (b : Branch) → P (of_main r b) b → HasBranch (scene s r b) quickstart main P
-on_main P s r b p = (of_main r b, repo_there (of_main r b), (b, main_there b, p))
+on_main P s r b = on_branch s r (insert empty main b) main b (main_there b) P
+
+pub the_main : (P : Repository → Branch → Type 0) (s : State) (r : Repository) (b : Branch) → HasBranch (scene s r b) quickstart main P → P (of_main r b) b
+the_main P s r b = the_branch s r (insert empty main b) main b (main_there b) P
 
 -- its repository after a change
 pub in_quickstart : (f : Repository → Repository) (s : State) (r : Repository) (b : Branch)
     → in_repository quickstart f (scene s r b) ≡ record s { repositories = insert empty quickstart (f (of_main r b)) }
-in_quickstart f s r b = ap (λ (m : ByteMap Repository). record s { repositories = m }) (change_one quickstart f (of_main r b) refl)
+in_quickstart f s r b = in_one f s (of_main r b)
 
 -- its branch after a change
 pub in_main : (f : Branch → Branch) (s : State) (r : Repository) (b : Branch) → in_branch quickstart main f (scene s r b) ≡ scene s r (f b)
-in_main f s r b =
-    in_quickstart (λ x. record x { branches = changed_at main f x.branches }) s r b
-    ∙ ap (λ (m : ByteMap Branch). record s { repositories = insert empty quickstart (record r { branches = m }) }) (change_one main f b refl)
+in_main f s r b = in_named s r (insert empty main b) main b (main_there b) f ∙ ap (spread s r) (put_again empty main b (f b))
 
 -- one entry more
 abbrev pub counted : State → State
@@ -75,14 +50,6 @@ never_both P Q state repo branch apart p q =
     let moved : get q.0.branches branch ≡ Some p.2.0 = subst (λ (r : Repository). get r.branches branch ≡ Some p.2.0) same_r p.2.1 in
     let same_b : p.2.0 ≡ q.2.0 = cc (sym moved ∙ q.2.1) in
     apart q.0 q.2.0 (subst (λ (b : Branch). P q.0 b) same_b (subst (λ (r : Repository). P r p.2.0) same_r p.2.2)) q.2.2
-
--- what the branch of a scene has
-pub the_main : (P : Repository → Branch → Type 0) (s : State) (r : Repository) (b : Branch) → HasBranch (scene s r b) quickstart main P → P (of_main r b) b
-the_main P s r b has =
-    let same_r : has.0 ≡ of_main r b = cc (sym has.1 ∙ repo_there (of_main r b)) in
-    let moved : get (insert {R = byte_order} empty main b) main ≡ Some has.2.0 = subst (λ (x : Repository). get x.branches main ≡ Some has.2.0) same_r has.2.1 in
-    let same_b : has.2.0 ≡ b = cc (sym moved ∙ main_there b) in
-    subst (λ (x : Branch). P (of_main r b) x) same_b (subst (λ (x : Repository). P x has.2.0) same_r has.2.2)
 
 -- entries that are legal from a state on lead to another
 pub record Leads (s : State) (entries : List HistoryEntry) (t : State) : Type 0 where

@@ -57,7 +57,7 @@ module _ (cut : Cut) (digest : Digest) where
       (may used (first_repository cut) uploaded 1 (Stage quickstart main a Delete) refl (omega arith)
       (on_main (λ r b. IsUnprotected r main) used (first_repository cut) uploaded refl, tt))
       (after_deletion used (first_repository cut) uploaded a
-      ∙ ap (λ (x : ChangesValue). scene (counted used) (first_repository cut) (record (first_branch cut) { staged = x })) (put_again a (Put (own digest 0)) Delete))
+      ∙ ap (λ (x : ChangesValue). scene (counted used) (first_repository cut) (record (first_branch cut) { staged = x })) (put_again empty a (Put (own digest 0)) Delete))
 
   fourth_entry : Leads (scene (counted used) (first_repository cut) dropped) (seal_entry ∷ []) (scene (counted (counted used)) (first_repository cut) emptied)
   fourth_entry = leads_one

@@ -14,7 +14,7 @@ use Rattle.lake_histories.specs.Words.{quickstart, main, first, outside}
 use Rattle.lake_refusals.specs.Lakes.{b}
 use Rattle.lake_merge_refusals.specs.Merges.{Fork, IsMergeAdmissible, ahead_lake, dev_head, merge_entry}
 use Rattle.lake_histories.proofs.EntriesLemmas.{apply_nothing}
-use Rattle.lake_merge_refusals.proofs.BranchesLemmas.{spread}
+use Rattle.lake_histories.proofs.BranchesLemmas.{spread}
 use Rattle.lake_merge_refusals.proofs.DivergedLemmas as forks
 use Rattle.lake_merge_refusals.proofs.DivergedLemmas.{ForkLake, HasFork}
 use Rattle.lake_merge_refusals.proofs.ForksLemmas.{base_ahead}

@@ -25,7 +25,7 @@ use Rattle.lake_histories.proofs.EntriesLemmas.{apply_nothing}
 use Rattle.lake_histories.proofs.InsertsLemmas.{get_other}
 use Rattle.lake_histories.proofs.MapsLemmas.{get_put, no_entry}
 use Rattle.lake_values.proofs.AncestryLemmas.{one_id}
-use Rattle.lake_merge_refusals.proofs.BranchesLemmas.{spread}
+use Rattle.lake_histories.proofs.BranchesLemmas.{spread}
 use Rattle.lake_merge_refusals.proofs.DivergedLemmas.{ForkLake, HasFork, expired_scene}
 use Rattle.lake_merge_refusals.proofs.ForksLemmas.{base_between}
 use Rattle.lake_merge_refusals.proofs.MergesLemmas as merges

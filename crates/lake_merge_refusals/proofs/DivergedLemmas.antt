@@ -33,7 +33,8 @@ use Rattle.lake_histories.proofs.SceneLemmas.{counted, get_one}
 use Rattle.lake_histories.proofs.EntriesLemmas.{first_repository}
 use Rattle.lake_histories.proofs.InsertsLemmas.{get_other, stood}
 use Rattle.lake_histories.proofs.MapsLemmas.{first_map, get_put}
-use Rattle.lake_merge_refusals.proofs.BranchesLemmas.{after_change, change_draft, drafted_id, head_in, in_one, spread, with_branches, with_drafted}
+use Rattle.lake_histories.proofs.BranchesLemmas.{drafted_id, head_in, in_one, spread, with_branches, with_drafted}
+use Rattle.lake_merge_refusals.proofs.ChangesLemmas.{after_change, change_draft}
 use Rattle.lake_merge_refusals.proofs.ForksLemmas.{IsChild, IsFork, by_record, child_new, due_two, fork_more, kept}
 
 -- one put makes the map of one entry of the empty map

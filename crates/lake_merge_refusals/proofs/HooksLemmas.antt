@@ -22,7 +22,7 @@ use Rattle.lake_histories.proofs.SceneLemmas.{counted}
 use Rattle.lake_refusals.proofs.LakesLemmas.{with_notes}
 use Rattle.lake_commit_refusals.proofs.CommittingLemmas.{main_itself}
 use Rattle.lake_merge_refusals.proofs.AllowedLemmas.{between, draft, fork_draft, kept, may_fork}
-use Rattle.lake_merge_refusals.proofs.BranchesLemmas.{in_one, spread, with_branches}
+use Rattle.lake_histories.proofs.BranchesLemmas.{in_one, spread, with_branches}
 use Rattle.lake_merge_refusals.proofs.DivergedLemmas.{ForkLake, HasFork, diverged}
 use Rattle.lake_merge_refusals.proofs.MergesLemmas as merges
 use Rattle.lake_merge_refusals.proofs.MergesLemmas.{moved}

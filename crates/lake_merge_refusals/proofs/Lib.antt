@@ -1,5 +1,5 @@
 pub mod ForksLemmas
-pub mod BranchesLemmas
+pub mod ChangesLemmas
 pub mod DivergedLemmas
 pub mod MergesLemmas
 pub mod SidesLemmas

@@ -20,7 +20,7 @@ use Rattle.lake_histories.specs.Words.{quickstart, main, head_of}
 use Rattle.lake_merge_refusals.specs.Merges.{IsMergeAdmissible, merge_entry}
 use Rattle.lake_histories.proofs.MapsLemmas.{get_put}
 use Rattle.lake_histories.proofs.SceneLemmas.{counted}
-use Rattle.lake_merge_refusals.proofs.BranchesLemmas.{drafted_id, head_in, in_draft, on_branch, spread, the_branch, with_branches, with_drafted}
+use Rattle.lake_histories.proofs.BranchesLemmas.{drafted_id, head_in, in_draft, on_branch, spread, the_branch, with_branches, with_drafted}
 use Rattle.lake_merge_refusals.proofs.ForksLemmas.{by_record}
 
 -- what holds of a lake and a commit holds of others that are the same

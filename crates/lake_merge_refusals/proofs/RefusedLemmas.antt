@@ -27,7 +27,8 @@ use Rattle.lake_histories.proofs.MapsLemmas.{get_put}
 use Rattle.lake_histories.proofs.SceneLemmas.{counted, get_one}
 use Rattle.lake_refusals.proofs.LakesLemmas.{refuses_by}
 use Rattle.lake_merge_refusals.proofs.AllowedLemmas.{between, kept, may_fork, no_hooks}
-use Rattle.lake_merge_refusals.proofs.BranchesLemmas.{ready, spread, the_branch, to_seal}
+use Rattle.lake_histories.proofs.BranchesLemmas.{spread, the_branch}
+use Rattle.lake_merge_refusals.proofs.ChangesLemmas.{ready, to_seal}
 use Rattle.lake_merge_refusals.proofs.DivergedLemmas.{ForkLake, HasFork, diverged, expired_scene}
 use Rattle.lake_merge_refusals.proofs.ForksLemmas.{base_behind}
 use Rattle.lake_merge_refusals.proofs.MergesLemmas as merges
