@@ -24,22 +24,22 @@ use Rattle.lake_merge_refusals.proofs.SidesLemmas.{settled_at_base}
 use Rattle.lake_merge_refusals.proofs.AllowedLemmas.{one_apart}
 
 module _ (fork : Fork) (about : AboutValue) where
-  abbrev root : Digest
+  abbrev pub root : Digest
   root = first fork.cut
 
-  abbrev one : Digest
+  abbrev pub one : Digest
   one = forks.one b outside refl fork
 
-  abbrev r1 : Repository
+  abbrev pub r1 : Repository
   r1 = forks.r1 b outside refl fork
 
-  abbrev s2 : State
+  abbrev pub s2 : State
   s2 = forks.s2 b outside refl fork
 
-  abbrev bs2 : ByteMap Branch
+  abbrev pub bs2 : ByteMap Branch
   bs2 = forks.bs2 b outside refl fork
 
-  ahead_is : ahead_lake fork ≡ spread s2 r1 bs2
+  pub ahead_is : ahead_lake fork ≡ spread s2 r1 bs2
   unfolding ahead_lake
   ahead_is = forks.ahead b outside refl fork
 
@@ -48,7 +48,7 @@ module _ (fork : Fork) (about : AboutValue) where
   dev_ahead_is = forks.dev_ahead_is b outside refl fork
 
   module _ (apart : first fork.cut ≡ dev_head (ahead_lake fork) → ⊥) where
-    early : root ≡ one → ⊥
+    pub early : root ≡ one → ⊥
     early is = apart (is ∙ sym dev_ahead_is)
 
     based : base r1.commits root one ≡ Some root

@@ -28,7 +28,7 @@ use Rattle.lake_model.specs.Soundness.{fresh}
 use Rattle.lake_histories.specs.Words.{quickstart, main, first, outside, head_of}
 use Rattle.lake_refusals.specs.Lakes.{a, b}
 use Rattle.lake_commit_refusals.specs.Picks.{larger_object}
-use Rattle.lake_merge_refusals.specs.Merges.{Fork, branch_entry, change_entries, dev, dev_head, diverged_lake, lake_of_both, lake_of_dev, rival_lake, three_commits}
+use Rattle.lake_merge_refusals.specs.Merges.{Fork, branch_entry, change_entries, dev, dev_head, diverged_lake, fork_entries, lake_of_dev, rival_lake, three_commits}
 use Rattle.lake_histories.proofs.SceneLemmas.{counted, get_one}
 use Rattle.lake_histories.proofs.EntriesLemmas.{first_repository}
 use Rattle.lake_histories.proofs.InsertsLemmas.{get_other, stood}
@@ -101,19 +101,19 @@ pub expired_scene : (lake : State) (fork : Fork) (path : List ℕ) (entry : Entr
 expired_scene lake fork path entry at id = ap (in_repository quickstart (with_expired id)) at.scene ∙ in_one (with_expired id) at.s (with_branches at.r at.bs)
 
 module _ (path : List ℕ) (entry : EntryValue) (outer : own_number entry.place ≡ None) (fork : Fork) where
-  abbrev root : Digest
+  abbrev pub root : Digest
   root = first fork.cut
 
-  abbrev r0 : Repository
+  abbrev pub r0 : Repository
   r0 = first_repository fork.cut
 
-  abbrev s1 : State
+  abbrev pub s1 : State
   s1 = counted (fresh fork.cut)
 
-  abbrev bs1 : ByteMap Branch
+  abbrev pub bs1 : ByteMap Branch
   bs1 = insert (insert empty main (clean_branch root)) dev (clean_branch root)
 
-  branched : after (fresh fork.cut) (branch_entry fork.cut) ≡ spread s1 r0 bs1
+  pub branched : after (fresh fork.cut) (branch_entry fork.cut) ≡ spread s1 r0 bs1
   branched = ap counted (in_one (λ x. record x { branches = insert x.branches dev (clean_branch root) }) (fresh fork.cut) r0)
 
   -- the commit of `dev`
@@ -153,19 +153,19 @@ module _ (path : List ℕ) (entry : EntryValue) (outer : own_number entry.place 
   abbrev main_record : CommitRecordValue
   main_record = record_of fork.cut r1.commits main_draft
 
-  abbrev two : Digest
+  abbrev pub two : Digest
   two = drafted_id s2 r1 main_draft
 
-  abbrev r2 : Repository
+  abbrev pub r2 : Repository
   r2 = with_drafted s2 r1 main_draft
 
-  abbrev s3 : State
+  abbrev pub s3 : State
   s3 = counted (counted (counted s2))
 
-  abbrev bs3 : ByteMap Branch
+  abbrev pub bs3 : ByteMap Branch
   bs3 = insert bs2 main (clean_branch two)
 
-  both : lake_of_both path entry fork ≡ spread s3 r2 bs3
+  both : replay (fresh fork.cut) (fork_entries path entry fork) ≡ spread s3 r2 bs3
   both = ap (λ (l : State). replay l (change_entries main a outside fork.of_main)) ahead ∙ after_change s2 r1 bs2 main root main_ahead a outside refl fork.of_main
 
   main_there : get bs3 main ≡ Some (clean_branch two)
@@ -178,10 +178,10 @@ module _ (path : List ℕ) (entry : EntryValue) (outer : own_number entry.place 
   pub dev_ahead_is : dev_head (lake_of_dev path entry fork) ≡ one
   dev_ahead_is = ap dev_head ahead ∙ head_in s2 r1 bs2 dev (clean_branch one) (get_put bs1 dev (clean_branch one))
 
-  dev_is : dev_head (lake_of_both path entry fork) ≡ one
+  dev_is : dev_head (replay (fresh fork.cut) (fork_entries path entry fork)) ≡ one
   dev_is = ap dev_head both ∙ head_in s3 r2 bs3 dev (clean_branch one) dev_there
 
-  main_is : head_of (lake_of_both path entry fork) ≡ two
+  main_is : head_of (replay (fresh fork.cut) (fork_entries path entry fork)) ≡ two
   main_is = ap head_of both ∙ head_in s3 r2 bs3 main (clean_branch two) main_there
 
   -- the graph of the first commit
@@ -231,14 +231,17 @@ module _ (path : List ℕ) (entry : EntryValue) (outer : own_number entry.place 
           ∙ put_alone a outside;
     }
 
-  three_are : three_commits fork.cut (lake_of_both path entry fork) ≡ root ∷ one ∷ two ∷ []
-  three_are = ap (λ (d : Digest). root ∷ d ∷ head_of (lake_of_both path entry fork) ∷ []) dev_is ∙ ap (λ (d : Digest). root ∷ one ∷ d ∷ []) main_is
+  three_are : three_commits fork.cut (replay (fresh fork.cut) (fork_entries path entry fork)) ≡ root ∷ one ∷ two ∷ []
+  three_are = ap (λ (d : Digest). root ∷ d ∷ head_of (replay (fresh fork.cut) (fork_entries path entry fork)) ∷ []) dev_is ∙ ap (λ (d : Digest). root ∷ one ∷ d ∷ []) main_is
 
-  forked : AreDistinct (three_commits fork.cut (lake_of_both path entry fork)) → HasFork r2.commits r2.maps root one two path entry
-  forked distinct = has_fork (in_pairs root one two (subst (AreDistinct {X = Digest}) three_are distinct))
+  pub differ_of : AreDistinct (three_commits fork.cut (replay (fresh fork.cut) (fork_entries path entry fork))) → Differ root one two
+  differ_of distinct = in_pairs root one two (subst (AreDistinct {X = Digest}) three_are distinct)
+
+  forked : AreDistinct (three_commits fork.cut (replay (fresh fork.cut) (fork_entries path entry fork))) → HasFork r2.commits r2.maps root one two path entry
+  forked distinct = has_fork (differ_of distinct)
 
   -- a commit of the repository is one of the three
-  one_of_three : (id : Digest) → HasCommit r2 id → Contains (three_commits fork.cut (lake_of_both path entry fork)) id
+  one_of_three : (id : Digest) → HasCommit r2 id → Contains (three_commits fork.cut (replay (fresh fork.cut) (fork_entries path entry fork))) id
   one_of_three id there = subst (λ (l : List Digest). Contains l id) (sym three_are) (elim (stood r1.commits two.0 main_record id.0 there) [
     | inl is ↦ subst (Contains (root ∷ one ∷ two ∷ [])) (sym (one_id id two is)) (Contains-later root two (one ∷ two ∷ []) (Contains-later one two (two ∷ []) (Contains-first two [])))
     | inr old ↦ elim (stood r0.commits one.0 dev_record id.0 old) [
@@ -250,7 +253,7 @@ module _ (path : List ℕ) (entry : EntryValue) (outer : own_number entry.place 
     ]
   ])
 
-  pub both_lake : ForkLake (lake_of_both path entry fork) fork path entry
+  pub both_lake : ForkLake (replay (fresh fork.cut) (fork_entries path entry fork)) fork path entry
   both_lake = record {
     s = s3;
     r = r2;

@@ -7,3 +7,4 @@ pub mod AllowedLemmas
 pub mod AheadLemmas
 pub mod RefusedLemmas
 pub mod HooksLemmas
+pub mod LegalLemmas

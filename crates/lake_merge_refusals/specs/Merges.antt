@@ -1,5 +1,5 @@
 -- A branch `dev` beside `main`, and merges of its commit into `main`.
-use Rattle.std.specs.Prelude.{List, [], ◌∷◌, ℕ, Some, codes, option_map}
+use Rattle.std.specs.Prelude.{List, [], ◌∷◌, ◌++◌, ℕ, Some, codes, option_map}
 use Rattle.std.specs.Option.{unwrap_or}
 use Rattle.lake_base.specs.declared.digest.Digest.{Digest}
 use Rattle.lake_values.specs.Commit.{AboutValue}
@@ -18,7 +18,7 @@ use Rattle.lake_model.specs.declared.history.SealFor.TheVariants as seal
 use Rattle.lake_model.specs.State.{State, HasBranch, branch_of}
 use Rattle.lake_model.specs.Parts.{in_repository}
 use Rattle.lake_model.specs.Removal.{with_expired}
-use Rattle.lake_model.specs.Commits.{IsAdmissible, merge_draft}
+use Rattle.lake_model.specs.Commits.{IsAdmissible, commit_draft, merge_draft}
 use Rattle.lake_model.specs.History.{after, replay}
 use Rattle.lake_model.specs.Soundness.{fresh}
 use Rattle.lake_histories.specs.Words.{quickstart, main, first, outside, head_of, entry_of, put_entry, seal_entry}
@@ -33,11 +33,21 @@ dev = codes "dev"
 abbrev pub branch_entry : Cut → HistoryEntry
 branch_entry cut = entry_of (BranchCreate quickstart dev (first cut))
 
--- an entry is put at a path of a branch, sealed, and committed
+-- an entry is put at a path of a branch, and sealed
+abbrev pub sealing_entries : List ℕ → List ℕ → EntryValue → List HistoryEntry
+sealing_entries branch path entry =
+    entry_of (Stage quickstart branch path (Put entry)) ∷ entry_of (Seal quickstart branch seal.Commit) ∷ []
+
+-- and committed
 abbrev pub change_entries : List ℕ → List ℕ → EntryValue → AboutValue → List HistoryEntry
 change_entries branch path entry about =
-    entry_of (Stage quickstart branch path (Put entry)) ∷ entry_of (Seal quickstart branch seal.Commit)
-    ∷ entry_of (Commit quickstart branch about) ∷ []
+    sealing_entries branch path entry ++ entry_of (Commit quickstart branch about) ∷ []
+
+-- the commit of such a change would be admissible
+abbrev pub IsChangeAdmissible : State → List ℕ → List ℕ → EntryValue → AboutValue → Type 0
+IsChangeAdmissible state branch path entry about =
+    let before = replay state (sealing_entries branch path entry) in
+    HasBranch before quickstart branch (λ r x. IsAdmissible before r (commit_draft r x about))
 
 -- a lake of this cut, and what is said of the commit of `dev` and of that of `main`
 pub record Fork : Type 0 where
@@ -45,26 +55,36 @@ pub record Fork : Type 0 where
   pub of_dev : AboutValue
   pub of_main : AboutValue
 
--- `dev` begins at the first commit, and an entry is committed at a path of it
-abbrev pub lake_of_dev : List ℕ → EntryValue → Fork → State
-lake_of_dev path entry fork =
-    replay (fresh fork.cut) (branch_entry fork.cut ∷ change_entries dev path entry fork.of_dev)
+-- `dev` begins at the first commit
+abbrev pub branched_lake : Cut → State
+branched_lake cut = after (fresh cut) (branch_entry cut)
 
--- then the outside object is committed at `a` of `main`
-abbrev pub lake_of_both : List ℕ → EntryValue → Fork → State
-lake_of_both path entry fork = replay (lake_of_dev path entry fork) (change_entries main a outside fork.of_main)
+-- then an entry is committed at a path of `dev`
+abbrev pub lake_of_dev : List ℕ → EntryValue → Fork → State
+lake_of_dev path entry fork = replay (branched_lake fork.cut) (change_entries dev path entry fork.of_dev)
+
+-- `dev` begins at the first commit, an entry is committed at a path of it, and the outside object at `a` of `main`
+abbrev pub fork_entries : List ℕ → EntryValue → Fork → List HistoryEntry
+fork_entries path entry fork =
+    branch_entry fork.cut ∷ (change_entries dev path entry fork.of_dev ++ change_entries main a outside fork.of_main)
+
+-- both of these commits would be admissible
+abbrev pub AreChangesAdmissible : List ℕ → EntryValue → Fork → Type 0
+AreChangesAdmissible path entry fork =
+    IsChangeAdmissible (branched_lake fork.cut) dev path entry fork.of_dev
+    × IsChangeAdmissible (lake_of_dev path entry fork) main a outside fork.of_main
 
 -- the outside object stands at `b` of `dev`, and `main` is at the first commit
 unfoldable pub ahead_lake : Fork → State
-ahead_lake = lake_of_dev b outside
+ahead_lake fork = lake_of_dev b outside fork
 
--- the outside object stands at `b` of `dev` and at `a` of `main`
+-- it stands at `b` of `dev`, and at `a` of `main`
 unfoldable pub diverged_lake : Fork → State
-diverged_lake = lake_of_both b outside
+diverged_lake fork = replay (fresh fork.cut) (fork_entries b outside fork)
 
 -- at `a` one object stands on `dev`, and another on `main`
 unfoldable pub rival_lake : Fork → State
-rival_lake = lake_of_both a larger_object
+rival_lake fork = replay (fresh fork.cut) (fork_entries a larger_object fork)
 
 -- the head of `dev`
 abbrev pub dev_head : State → Digest

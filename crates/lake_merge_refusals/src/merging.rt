@@ -8,12 +8,13 @@ ghost use Rattle.lake_values.specs.Commit.{AboutValue};
 ghost use Rattle.lake_values.specs.declared.commit.Strategy.{Strategy};
 ghost use Rattle.lake_values.specs.declared.commit.Strategy.TheVariants as strategy;
 ghost use Rattle.lake_model.specs.State.{HasBranch, State, head_map};
-ghost use Rattle.lake_model.specs.History.{Allows, after};
+ghost use Rattle.lake_model.specs.History.{Allows, IsLegal, after};
 ghost use Rattle.lake_model.specs.Removal.{AreDistinct};
+ghost use Rattle.lake_model.specs.Soundness.{fresh};
 ghost use Rattle.lake_histories.specs.Words.{quickstart, main, first, outside, head_of};
 ghost use Rattle.lake_refusals.specs.Lakes.{a, b};
 ghost use Rattle.lake_commit_refusals.specs.Picks.{larger_object};
-ghost use Rattle.lake_merge_refusals.specs.Merges.{Fork, IsMergeAdmissible, ahead_lake, dev_head, dev_merge, diverged_lake, hooked_lake, lake_of_expired, merge_commit, merge_entry, resealed_lake, rival_lake, three_commits};
+ghost use Rattle.lake_merge_refusals.specs.Merges.{AreChangesAdmissible, Fork, IsMergeAdmissible, ahead_lake, dev_head, dev_merge, diverged_lake, fork_entries, hooked_lake, lake_of_expired, merge_commit, merge_entry, resealed_lake, rival_lake, three_commits};
 
 /// `main` is still at the first commit, at which `dev` began, and the head of `dev` is merged: a commit of two parents
 /// is made all the same. The premises are that the ids differ, and that no file of the new commit shares its name with
@@ -28,8 +29,11 @@ pub fn merge_of_ahead()
 {}
 
 /// `dev` and `main` diverged, and changed different paths: the merge commit has both, and its parents are the old head
-/// and the source. The premises are those of `merge_of_ahead`.
+/// and the source. The premises are those of `merge_of_ahead`; where the two commits are admissible too, the entries
+/// that lead there are legal.
 pub fn merge_of_diverged()
+    ensures legal { (fork : Fork) → AreDistinct (three_commits fork.cut (diverged_lake fork))
+        → AreChangesAdmissible b outside fork → IsLegal (fresh fork.cut) (fork_entries b outside fork) }
     ensures allowed { (fork : Fork) (about : AboutValue) → AreDistinct (three_commits fork.cut (diverged_lake fork))
         → IsMergeAdmissible (diverged_lake fork) (dev_head (diverged_lake fork)) strategy.Refuse about
         → Allows (diverged_lake fork) (dev_merge (diverged_lake fork) strategy.Refuse about) }
@@ -78,6 +82,8 @@ pub fn merge_over_sealed()
 
 /// `dev` and `main` have different objects at `a`: a merge wants a strategy, which says whose stands there afterwards.
 pub fn merge_in_conflict()
+    ensures legal { (fork : Fork) → AreDistinct (three_commits fork.cut (rival_lake fork))
+        → AreChangesAdmissible a larger_object fork → IsLegal (fresh fork.cut) (fork_entries a larger_object fork) }
     ensures source_wins { (fork : Fork) (about : AboutValue) → AreDistinct (three_commits fork.cut (rival_lake fork))
         → IsMergeAdmissible (rival_lake fork) (dev_head (rival_lake fork)) strategy.SourceWins about
         → Allows (rival_lake fork) (dev_merge (rival_lake fork) strategy.SourceWins about) }

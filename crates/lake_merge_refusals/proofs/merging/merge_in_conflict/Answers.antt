@@ -7,9 +7,13 @@ use Rattle.lake_commit_refusals.specs.Picks.{larger_object}
 use Rattle.lake_merge_refusals.specs.Merges.{rival_lake}
 use Rattle.lake_merge_refusals.proofs.AllowedLemmas.{fork_allowed, fork_merged}
 use Rattle.lake_merge_refusals.proofs.DivergedLemmas.{rival}
+use Rattle.lake_merge_refusals.proofs.LegalLemmas.{legal_rival}
 use Rattle.lake_merge_refusals.proofs.RefusedLemmas.{conflict}
 use Rattle.lake_merge_refusals.proofs.SidesLemmas.{refused_at_a}
 use Rattle.lake_merge_refusals.proofs.merging.merge_in_conflict.Goals as goal
+
+pub returns-clause-legal : goal.returns-clause-legal
+returns-clause-legal c = legal_rival
 
 pub returns-clause-source_wins : goal.returns-clause-source_wins
 returns-clause-source_wins c fork about distinct = fork_allowed (rival_lake fork) fork a larger_object (rival fork) SourceWins about distinct refl

@@ -5,8 +5,12 @@ use Rattle.lake_refusals.specs.Lakes.{a, b}
 use Rattle.lake_merge_refusals.specs.Merges.{diverged_lake}
 use Rattle.lake_merge_refusals.proofs.AllowedLemmas.{fork_allowed, fork_merged, fork_parents}
 use Rattle.lake_merge_refusals.proofs.DivergedLemmas.{diverged}
+use Rattle.lake_merge_refusals.proofs.LegalLemmas.{legal_diverged}
 use Rattle.lake_merge_refusals.proofs.SidesLemmas.{settled_apart}
 use Rattle.lake_merge_refusals.proofs.merging.merge_of_diverged.Goals as goal
+
+pub returns-clause-legal : goal.returns-clause-legal
+returns-clause-legal c = legal_diverged
 
 pub returns-clause-allowed : goal.returns-clause-allowed
 returns-clause-allowed c fork about distinct = fork_allowed (diverged_lake fork) fork b outside (diverged fork) Refuse about distinct settled_apart
