@@ -61,7 +61,8 @@ pub(crate) fn parts_after_seal(
     version: u64,
     fresh: u64,
 ) -> Result<BranchParts, NoMemory>
-    ensures { IfOk result (λ parts. parts ≡ parts_of (record (with_fresh fresh (branch_value branch.now)) { version = version })) }
+    ensures { IfOk result (λ parts. parts
+        ≡ parts_of (record (with_fresh fresh (branch_value branch.now)) { version = version })) }
 {
     if !branch.tokens.has_changes(branch.record.staging()) {
         return parts_at(alloc, branch, version);

@@ -33,7 +33,8 @@ fn push_removals_of(
     named: &[u64],
     what: &ResetWhat,
 ) -> Result<(), NoMemory>
-    ensures { OnOk result (puts.new.items ≡ puts.old.items ++ flat_map (removals_under what.now tokens.now.changes) named.now) }
+    ensures { OnOk result (puts.new.items ≡ puts.old.items
+        ++ flat_map (removals_under what.now tokens.now.changes) named.now) }
 {
     for token in named {
         push_removals_under(alloc, puts, tokens, *token, what)?;

@@ -1,4 +1,4 @@
--- The index of a lake in memory tells of just the commits and the files that are kept.
+-- The index of a lake in memory finds the commits and the files that are kept.
 use Rattle.std.specs.Prelude.{◌≡◌, ℕ, List, Option, Some, option_and_then, option_map}
 use Rattle.std.specs.FinMap.{get}
 use Rattle.std.specs.List.{Contains}

@@ -53,7 +53,8 @@ impl LakeState {
         }
     }
 
-    /// The repository in which the commit of an id stands, by a search. It takes no memory.
+    /// The repository that the index tells for an id, by a search: of a commit that is kept, one in which it stands. It
+    /// takes no memory.
     pub fn home(&self, id: &CommitId) -> Option<&RepoName>
         ensures { option_copied result ≡ get (lake_value self.now).names.homes id.now.0 }
     {

@@ -8,8 +8,8 @@ use lake_base::{Digest, RepoName};
 use lake_values::CommitId;
 use std::alloc::Global;
 
-/// The commits and the files of a lake by their names: in which repository the commit of an id stands, and where the file
-/// of a name is kept.
+/// The commits and the files of a lake by their names: in which repository the commit of an id stands, and where the
+/// file of a name is kept.
 ///
 /// A name under which nothing stands is room for a commit or a file that is about to be made.
 #[derive(Debug, Drop)]
