@@ -1,0 +1,4 @@
+pub mod RunLemmas
+pub mod FaultLemmas
+pub mod NumberLemmas
+pub mod NewNumberLemmas

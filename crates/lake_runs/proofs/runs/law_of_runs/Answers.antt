@@ -1,0 +1,10 @@
+use Rattle.lake_runs.specs.Runs.{Start}
+use Rattle.lake_runs.proofs.RunLemmas.{run_later, run_next}
+use Rattle.lake_runs.proofs.runs.law_of_runs.Goals as goal
+
+pub returns : goal.returns
+returns g c = record {
+  start = λ view lake. Start;
+  next = run_next;
+  keeper = λ view first last run. run_later view first run;
+}
