@@ -5,7 +5,9 @@ pub mod CommandLemmas
 pub mod EffectsLemmas
 pub mod FeedingLemmas
 pub mod FrontLemmas
+pub mod GuardLemmas
 pub mod LastUploadLemmas
+pub mod LegalLemmas
 pub mod LineBodyLemmas
 pub mod LineBufferLemmas
 pub mod LinesLemmas

@@ -1,5 +1,5 @@
 -- The steps of a lake over a keeper that never fails.
-use Rattle.std.proofs.Common.{inl, inr, ◌≡◌, ◌<◌, ◌∷◌, [], ◌+◌, ℕ, Bool, true, false, not, List, refl, sym, ap, ◌∙◌, subst, arith, eq-eqb}
+use Rattle.std.proofs.Common.{inl, inr, ◌≡◌, ◌<◌, ◌∷◌, [], ◌+◌, ℕ, Bool, true, false, not, List, refl, sym, ap, ◌∙◌, subst, arith}
 use Rattle.std.specs.Prelude.{◌⊎◌, Option, Some, None, option_and_then, is_some, Result, Ok, Err, if◌then◌else◌}
 use Rattle.std.specs.FinMap.{get}
 use Rattle.std.specs.Option.{option_map_or, option_or}
@@ -10,10 +10,10 @@ use Rattle.lake_model.specs.declared.history.HistoryEntry.{HistoryEntry}
 use Rattle.lake_model.specs.declared.reply.Versions.{Versions}
 use Rattle.lake_model.specs.State.{Repository, State}
 use Rattle.lake_model.specs.History.{accepted_entry, replay}
-use Rattle.lake_model.specs.Refusals.{Causes, GivesOrFails, cause_if, first_cause, first_of, unless_refused}
+use Rattle.lake_model.specs.Refusals.{GivesOrFails, cause_if, first_cause, first_of, unless_refused}
 use Rattle.lake_model.specs.Readings.{versions_at, versions_reply}
 use Rattle.lake_model.specs.Steps.{stage_causes, stage_reply, write_causes}
-use Rattle.lake_model.specs.Versions.{VersionsGiven, branch_version, settings_version}
+use Rattle.lake_model.specs.Versions.{VersionsGiven, branch_version}
 use Rattle.std.specs.FinMap.{empty}
 use Rattle.keeper.specs.Keepers.{KeptPairs}
 use Rattle.lake_format.specs.declared.cut.Cut.{Cut}
@@ -29,6 +29,7 @@ use Rattle.lake_keeping.specs.Views.{KeeperView}
 use Rattle.lake_calls.specs.Replies.{guarded_refusal, reading_causes}
 use Rattle.lake_program.specs.Batch.{usual_cut}
 use Rattle.lake_program.specs.Steps.{IsFromFresh, IsStep, state_at}
+use Rattle.lake_program.proofs.GuardLemmas.{current_causes}
 
 -- ---- answers and refusals
 
@@ -121,18 +122,6 @@ pub versions_read : (s : State) (given : VersionsGiven) (repo branch : List ℕ)
     → answer ≡ versions_reply s given repo branch
     → IsRead (branch_version given repo branch) answer (first_cause (reading_causes s repo branch))
 versions_read s given repo branch answer is = read_repository given repo branch s.entries (get s.repositories repo) answer is
-
--- the causes of a guarded write, by whether its version is the one now
-abbrev guarded_causes : State → VersionsGiven → List ℕ → List ℕ → Bool → Causes
-guarded_causes s given repo branch current = record (write_causes s repo branch) {
-  version = cause_if (not current) (Changed (branch_version given repo branch) (settings_version given repo));
-}
-
--- a write by the version that the branch has is refused for no version
-pub current_causes : (s : State) (given : VersionsGiven) (repo branch : List ℕ) (version : ℕ) → version ≡ branch_version given repo branch
-    → first_cause (stage_causes s given repo branch version) ≡ first_cause (write_causes s repo branch)
-current_causes s given repo branch version is =
-    ap (λ b. first_cause (guarded_causes s given repo branch b)) (eq-eqb version (branch_version given repo branch) is)
 
 -- a guarded step that was read
 pub guarded_step : {X : Type 0} (refusal write stage : Option StepFault) (value : X) (entry : HistoryEntry) (result : Result X StepFault) (old new : List HistoryEntry)

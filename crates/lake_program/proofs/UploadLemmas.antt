@@ -43,14 +43,18 @@ lake_by history objects calls = record { history = history; objects = objects; c
 pub state_with : (h next : List HistoryEntry) (entry : HistoryEntry) → next ≡ h ++ entry ∷ [] → state_at next ≡ after (state_at h) entry
 state_with h next entry is = ap state_at is ∙ replay-append (fresh usual_cut) h (entry ∷ [])
 
+-- a ticket that was put
+pub ticket_tied : (s : State) (by : By) (number : ℕ) → get (insert s.tickets number by.seat) number ≡ Some by.seat
+ticket_tied s by number =
+    get-insert nat_cmp_total s.tickets number by.seat number
+    ∙ ap (λ t. cond t (Some by.seat) (get s.tickets number)) (unsigned_tied number number ∙ eq-eqb number number refl)
+
 -- the ticket that was taken is the seat's
 pub ticket_there : (h next : List HistoryEntry) (by : By) (repo branch : List ℕ) (number : ℕ) → number ≡ (state_at h).next_number
     → next ≡ h ++ accepted_entry by (TicketTake repo branch (state_at h).next_number) ∷ [] → HasTicket (state_at next) by.seat number
 ticket_there h next by repo branch number is entries =
     subst (λ s. HasTicket s by.seat number) (sym (state_with h next (accepted_entry by (TicketTake repo branch (state_at h).next_number)) entries))
-    (subst (λ n. get (insert (state_at h).tickets n by.seat) number ≡ Some by.seat) is
-    (get-insert nat_cmp_total (state_at h).tickets number by.seat number
-    ∙ ap (λ t. cond t (Some by.seat) (get (state_at h).tickets number)) (unsigned_tied number number ∙ eq-eqb number number refl)))
+    (subst (λ n. get (insert (state_at h).tickets n by.seat) number ≡ Some by.seat) is (ticket_tied (state_at h) by number))
 
 -- a body is held, and its entry staged
 pub held_and_staged : (history next : List HistoryEntry) (objects held : HeldObjects) (by : By) (repo branch path : List ℕ) (change wanted : Change)

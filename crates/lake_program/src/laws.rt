@@ -1,15 +1,20 @@
 //! What a batch's lines come to, in a user's words. Each law is the contract of a function that does nothing.
 ghost use Rattle.std.specs.Prelude.{◌≡◌, ◌≢◌, ◌+◌, ℕ, List, true, false};
+ghost use Rattle.lake_model.specs.History.{IsLegal};
+ghost use Rattle.lake_model.specs.Soundness.{fresh};
 ghost use Rattle.lake_calls.specs.Calls.{Call, UploadCall, Upload};
 ghost use Rattle.lake_calls.specs.Courses.{course_entries};
 ghost use Rattle.lake_calls.specs.Replies.{Lost};
-ghost use Rattle.lake_program.specs.Batch.{AreServed, IsLineServed, LineEffect, fresh_lake, next_request, reply_of, state_of};
+ghost use Rattle.lake_program.specs.Batch.{AreServed, IsLineServed, LineEffect, fresh_lake, next_request, reply_of, state_of, usual_cut};
 ghost use Rattle.lake_program.specs.Command.{Asks, cat_call, line_value};
 ghost use Rattle.lake_program.specs.LastUploads.{HasMemory, cat_text, lake_left, last_upload};
 ghost use Rattle.lake_program.specs.OwnEntries.{entries_by};
 
-/// Where no line ran out of memory, `fs cat` of a path shows the body of the last upload to it that was accepted
-/// before, or that there is none; and no reply ever tells that an object's bytes are lost.
+use step_laws::tickets::law_of_ticket_steps;
+use step_laws::writes::law_of_write_steps;
+
+/// Where no line ran out of memory, `fs cat` of a path shows the body of the last upload to it that was accepted before,
+/// or that there is none; and no reply ever tells that an object's bytes are lost.
 pub fn laws_of_bodies()
     ensures last { (texts : List (List ℕ)) (lines : List LineEffect) (path text : List ℕ) (line : LineEffect)
         → AreServed texts fresh_lake lines → HasMemory lines
@@ -33,3 +38,13 @@ pub fn law_of_uploads()
         ≡ course_entries (next_request (lake_left fresh_lake lines) (Upload u) moment)
         (state_of (lake_left fresh_lake lines)).next_number) }
 {}
+
+/// Whatever lines are served, and whether or not memory ran out at them, the entries are one legal history of the fresh
+/// lake.
+pub fn law_of_histories()
+    ensures { (texts : List (List ℕ)) (lines : List LineEffect) → AreServed texts fresh_lake lines
+        → IsLegal (fresh usual_cut) (lake_left fresh_lake lines).history }
+{
+    law_of_ticket_steps();
+    law_of_write_steps();
+}

@@ -3,9 +3,11 @@
 //! - `run`: the call that the program makes, with the promise of what it prints; `status`: how it ends.
 //! - `words`: the words that the program was started with. `command`, `word`: the commands of lines. `limits`:
 //!   how long a line and a batch may be.
+//! - `lines`: one line. `session`, `calls`: the calls of one client, on `memory_lake`, a lake over a keeper that never
+//!   fails. `reply`, `text`: what is shown. `laws`: what lines come to, in a user's words.
 //! - `line_buffer`, `batch`: the source read piece by piece and cut into lines. `serving`: the lines, served one
 //!   after the other.
-//! - `session`: the requests of one client. `text`: what is printed. `output`, `write`: holding it back, and writing it.
+//! - `output`, `write`: what is shown is held back, and written.
 //! - `adapters`, `host`: the real streams, clock and machine.
 //!
 //! The promise to the layer above: what `run` prints is the fold of the lines over the one-thread lake,
