@@ -4,7 +4,7 @@ use Rattle.std.proofs.lemmas.List.{append-nil}
 use Rattle.std.specs.Str.Lines.{lines}
 use Rattle.lake_base.specs.declared.outside.Failed.{Failed}
 use Rattle.lake_program.specs.declared.words.Timing.{Timing}
-use Rattle.lake_program.specs.Batch.{LineEffect, fresh_lake, IsLineServed, AreServed}
+use Rattle.batch_lines.specs.Batch.{LineEffect, fresh_lake, IsLineServed, AreServed}
 use Rattle.lake_program.specs.Effects.{text_of, moments_of, all_done, any_starved}
 use Rattle.lake_program.specs.Front.{Wrote, WroteFront, Shows}
 use Rattle.lake_program.specs.Lines.{ended_lines, last_part}

@@ -4,7 +4,7 @@ use Rattle.std.proofs.lemmas.List.{append-nil}
 use Rattle.std.proofs.lemmas.List.Concat.{flat_map-append}
 use Rattle.std.proofs.lemmas.List.Folds.{list_all-append, list_any-append}
 use Rattle.std.proofs.lemmas.List.Sums.{fold-append}
-use Rattle.lake_program.specs.Batch.{Lake, LineEffect, IsLineServed, AreServed}
+use Rattle.batch_lines.specs.Batch.{Lake, LineEffect, IsLineServed, AreServed}
 use Rattle.lake_program.specs.Effects.{text_of, moments_of, all_done, any_starved, lake_after}
 
 pub served_more : (lines : List (List ℕ)) (lake : Lake) (effects : List LineEffect) (line : List ℕ) (effect : LineEffect) → AreServed lines lake effects

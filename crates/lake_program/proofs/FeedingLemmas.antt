@@ -5,7 +5,7 @@ use Rattle.std.proofs.Math.Seq.{take-nil}
 use Rattle.std.specs.Str.Lines.{strip_carriage_return}
 use Rattle.lake_base.specs.declared.outside.Failed.{Failed}
 use Rattle.lake_program.specs.declared.words.Timing.{Timing}
-use Rattle.lake_program.specs.Batch.{Lake, LineEffect, fresh_lake, IsLineServed, AreServed}
+use Rattle.batch_lines.specs.Batch.{Lake, LineEffect, fresh_lake, IsLineServed, AreServed}
 use Rattle.lake_program.specs.Effects.{text_of, moments_of}
 use Rattle.lake_program.specs.Feeding.{line_room, HasServed, IsCutOff, Feeds}
 use Rattle.lake_program.specs.Front.{WroteFront, Shows}

@@ -9,7 +9,7 @@ use Rattle.lake_program.specs.declared.status.ExitStatus.TheVariants.{SourceFail
 use Rattle.lake_program.specs.Effects.{text_of, all_done, any_starved}
 use Rattle.lake_program.specs.Front.{IsPrefix}
 use Rattle.lake_program.specs.Lines.{ended_lines, batch_lines, end_text}
-use Rattle.lake_program.specs.Text.{too_long_text}
+use Rattle.batch_lines.specs.Text.{too_long_text}
 use Rattle.lake_program.specs.Progress.{Progress}
 use Rattle.lake_program.specs.Feeding.{HasWritten, IsCutOff}
 use Rattle.lake_program.specs.Reading.{IsBroken}

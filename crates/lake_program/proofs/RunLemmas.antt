@@ -12,7 +12,7 @@ use Rattle.lake_program.specs.Outcome.{Outcome}
 use Rattle.lake_program.specs.Status.{ShowsUsage}
 use Rattle.lake_program.specs.Streams.{Trace, Streams, trace_of}
 use Rattle.lake_program.specs.Lines.{batch_lines}
-use Rattle.lake_program.specs.Batch.{fresh_lake, AreServed}
+use Rattle.batch_lines.specs.Batch.{fresh_lake, AreServed}
 use Rattle.lake_program.specs.Outcome.{IsWhole, IsUnbegun}
 use Rattle.lake_program.specs.Run.{IsBatchRun, IsUnbegunRun, Run}
 use Rattle.lake_program.proofs.ReadingLemmas.{told_then, told_all}

@@ -27,9 +27,9 @@ use Rattle.lake_core.specs.Opening.{IsUnopened}
 use Rattle.lake_core.specs.Steps.{IsFaulted, Leaves, Making}
 use Rattle.lake_keeping.specs.Views.{KeeperView}
 use Rattle.lake_calls.specs.Replies.{guarded_refusal, reading_causes}
-use Rattle.lake_program.specs.Batch.{usual_cut}
+use Rattle.batch_lines.specs.Batch.{usual_cut}
 use Rattle.lake_program.specs.Steps.{IsFromFresh, IsStep, state_at}
-use Rattle.lake_program.proofs.GuardLemmas.{current_causes}
+use Rattle.batch_lines.proofs.GuardLemmas.{current_causes}
 
 -- ---- answers and refusals
 

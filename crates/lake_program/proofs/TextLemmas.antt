@@ -6,7 +6,7 @@ use Rattle.lake_model.specs.declared.fault.StepFault.{StepFault}
 use Rattle.lake_model.specs.declared.fault.StepFault.TheVariants.{Protected, NoMemory, NoPath}
 use Rattle.lake_program.specs.declared.text.LineText.{LineText}
 use Rattle.lake_program.specs.Reply.{batch_names, text_bytes}
-use Rattle.lake_program.specs.Text.{CallNames, refusal_text}
+use Rattle.batch_lines.specs.Text.{CallNames, refusal_text}
 
 -- the pattern that protects is told
 pub protection_told : (number : ℕ) (fault : StepFault) (result : Result LineText no_memory) → fault ≡ Protected number

@@ -27,12 +27,13 @@ use Rattle.lake_calls.specs.Courses.{upload_entry}
 use Rattle.lake_calls.specs.Effects.{drop_entries, drop_entry, entries_alone, nothing, upload_effect, with_body}
 use Rattle.lake_calls.specs.Replies.{CallReply, UploadReply, guarded_refusal, is_done, reply_or, stage_refusal, ticket_entry, ticket_refusal}
 use Rattle.lake_program.specs.declared.reply.Reply.{Reply}
-use Rattle.lake_program.specs.Batch.{Lake, after_call, usual_cut}
+use Rattle.batch_lines.specs.Batch.{Lake, after_call, usual_cut}
 use Rattle.lake_program.specs.Calling.{IsAnswered, IsCutOff, IsRefused, IsStaged, ServesCall, ShowsReply, with_entry, with_held}
 use Rattle.lake_program.specs.Reply.{batch_names, text_bytes}
 use Rattle.lake_program.specs.Steps.{IsStep, state_at}
-use Rattle.lake_program.specs.Text.{CallNames, names_of, refusal_text, reply_text, upload_text}
+use Rattle.batch_lines.specs.Text.{CallNames, names_of, refusal_text, reply_text, upload_text}
 use Rattle.lake_program.specs.Uploads.{upload_request}
+use Rattle.batch_lines.proofs.TicketLemmas.{drops_are, ticket_tied}
 use Rattle.lake_program.proofs.PathlessLemmas.{guarded_pathless, write_pathless}
 
 -- a lake by its parts
@@ -42,12 +43,6 @@ lake_by history objects calls = record { history = history; objects = objects; c
 -- the state once an entry more stands
 pub state_with : (h next : List HistoryEntry) (entry : HistoryEntry) → next ≡ h ++ entry ∷ [] → state_at next ≡ after (state_at h) entry
 state_with h next entry is = ap state_at is ∙ replay-append (fresh usual_cut) h (entry ∷ [])
-
--- a ticket that was put
-pub ticket_tied : (s : State) (by : By) (number : ℕ) → get (insert s.tickets number by.seat) number ≡ Some by.seat
-ticket_tied s by number =
-    get-insert nat_cmp_total s.tickets number by.seat number
-    ∙ ap (λ t. cond t (Some by.seat) (get s.tickets number)) (unsigned_tied number number ∙ eq-eqb number number refl)
 
 -- the ticket that was taken is the seat's
 pub ticket_there : (h next : List HistoryEntry) (by : By) (repo branch : List ℕ) (number : ℕ) → number ≡ (state_at h).next_number
@@ -77,12 +72,6 @@ names_are : (u : UploadCall) → u.repo ≡ codes "quickstart" → u.branch ≡ 
 names_are u repo branch =
     ap (λ (r : List ℕ). let n : CallNames = record { repo = r; reference = codes "main"; path = u.path } in n) (sym repo)
     ∙ ap (λ (b : List ℕ). let n : CallNames = record { repo = u.repo; reference = b; path = u.path } in n) (sym branch)
-
--- a ticket is dropped or stays
-pub drops_are : (state : State) (by : By) (number : ℕ) → (drop_entries state by number ≡ []) ⊎ (drop_entries state by number ≡ drop_entry by number ∷ [])
-drops_are state by number = elim (is_none (first_cause (causes_of_change state)))
-    as (λ b. ((if b then drop_entry by number ∷ [] else []) ≡ []) ⊎ ((if b then drop_entry by number ∷ [] else []) ≡ drop_entry by number ∷ []))
-    [ true ↦ inr refl | false ↦ inl refl ]
 
 -- what staging left, where it was refused or ran out of memory
 pub record IsLeft (refusal : Option StepFault) (fault : StepFault) (number : ℕ) (body : List ℕ) (history : List HistoryEntry)

@@ -11,9 +11,9 @@ use Rattle.lake_calls.specs.Calls.{Request}
 use Rattle.lake_calls.specs.Replies.{CallReply, is_done}
 use Rattle.lake_calls.specs.Effects.{CallEffect, effect, fronts}
 use Rattle.lake_program.specs.declared.reply.Reply.{Reply}
-use Rattle.lake_program.specs.Batch.{Lake, state_of, reply_of, after_call}
+use Rattle.batch_lines.specs.Batch.{Lake, state_of, reply_of, after_call}
 use Rattle.lake_program.specs.Reply.{batch_names, text_bytes}
-use Rattle.lake_program.specs.Text.{refusal_text, shown}
+use Rattle.batch_lines.specs.Text.{refusal_text, shown}
 
 -- the lake of entries and objects, at which so many requests were made
 abbrev pub lake_at : ℕ → List HistoryEntry → SureBlocksValue → Lake

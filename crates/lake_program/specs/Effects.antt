@@ -1,7 +1,7 @@
 -- What lines come to that were served one after the other.
 use Rattle.std.specs.Prelude.{ℕ, Bool, List, fold}
 use Rattle.std.specs.List.{flat_map, list_all, list_any}
-use Rattle.lake_program.specs.Batch.{Lake, LineEffect}
+use Rattle.batch_lines.specs.Batch.{Lake, LineEffect}
 
 -- what they showed
 abbrev pub text_of : List LineEffect → List ℕ

@@ -2,7 +2,7 @@
 use Rattle.std.specs.Prelude.{◌≡◌, ◌+◌, ℕ, List, [], ◌++◌, take, Result, Ok, Err}
 use Rattle.lake_base.specs.declared.outside.Failed.{Failed}
 use Rattle.lake_program.specs.declared.words.Timing.{Timing}
-use Rattle.lake_program.specs.Batch.{LineEffect, fresh_lake, AreServed}
+use Rattle.batch_lines.specs.Batch.{LineEffect, fresh_lake, AreServed}
 use Rattle.lake_program.specs.Effects.{text_of, moments_of, all_done, any_starved, lake_after}
 use Rattle.lake_program.specs.Front.{IsPrefix, Wrote, WroteFront, Shows}
 use Rattle.lake_program.specs.Lines.{ended_lines, last_part}

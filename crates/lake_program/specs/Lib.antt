@@ -1,14 +1,10 @@
-pub mod Batch
 pub mod Calling
-pub mod Command
 pub mod CommandView
 pub mod Effects
 pub mod Feeding
 pub mod Front
-pub mod LastUploads
 pub mod Lines
 pub mod Outcome
-pub mod OwnEntries
 pub mod Progress
 pub mod Reading
 pub mod Reply
@@ -19,6 +15,5 @@ pub mod Session
 pub mod Status
 pub mod Steps
 pub mod Streams
-pub mod Text
 pub mod Uploads
 pub mod Words

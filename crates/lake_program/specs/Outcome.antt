@@ -4,7 +4,7 @@ use Rattle.lake_program.specs.declared.words.Timing.{Timing}
 use Rattle.lake_program.specs.declared.status.ExitStatus.{ExitStatus}
 use Rattle.lake_program.specs.declared.status.ExitStatus.TheVariants.{Done, Refused, Usage}
 use Rattle.lake_program.specs.declared.status.ExitStatus.TheVariants.{SourceFailed, SinkFailed, OutOfMemory}
-use Rattle.lake_program.specs.Batch.{LineEffect, fresh_lake, AreServed}
+use Rattle.batch_lines.specs.Batch.{LineEffect, fresh_lake, AreServed}
 use Rattle.lake_program.specs.Effects.{text_of, moments_of, all_done, any_starved}
 use Rattle.lake_program.specs.Front.{IsPrefix, Wrote}
 use Rattle.lake_program.specs.Lines.{ended_lines, batch_lines, end_text}

@@ -3,7 +3,7 @@ use Rattle.std.specs.Prelude.{◌≡◌, ℕ, Bool, true, false, List, [], ◌++
 use Rattle.std.specs.List.{AllByRecursion}
 use Rattle.lake_program.specs.declared.words.Timing.{Timing}
 use Rattle.lake_program.specs.declared.words.Timing.TheVariants.{Clock, At}
-use Rattle.lake_program.specs.Batch.{Lake, fresh_lake}
+use Rattle.batch_lines.specs.Batch.{Lake, fresh_lake}
 
 -- the lake that its lines left, whether each was done, whether memory ran out at one, and what was shown and isn't
 -- written yet

@@ -2,7 +2,7 @@
 use Rattle.std.specs.Prelude.{ℕ, List, codes}
 use Rattle.lake_program.specs.declared.text.LineText.{LineText}
 use Rattle.lake_program.specs.declared.text.LineText.TheVariants.{Own, Fixed}
-use Rattle.lake_program.specs.Text.{CallNames}
+use Rattle.batch_lines.specs.Text.{CallNames}
 
 -- the bytes of a text
 abbrev pub text_bytes : LineText → List ℕ

@@ -5,7 +5,7 @@ use Rattle.lake_program.specs.declared.words.Timing.{Timing}
 use Rattle.lake_program.specs.declared.status.ExitStatus.{ExitStatus}
 use Rattle.lake_program.specs.declared.status.ExitStatus.TheVariants.{Usage, SourceFailed, SinkFailed, OutOfMemory}
 use Rattle.lake_program.specs.Words.{timing_of}
-use Rattle.lake_program.specs.Batch.{LineEffect, fresh_lake, AreServed}
+use Rattle.batch_lines.specs.Batch.{LineEffect, fresh_lake, AreServed}
 use Rattle.lake_program.specs.Effects.{text_of, moments_of}
 use Rattle.lake_program.specs.Lines.{batch_lines, end_text}
 use Rattle.lake_program.specs.Progress.{AreMoments}

@@ -2,7 +2,7 @@
 use Rattle.std.specs.Prelude.{◌≡◌, ◌&&◌, ◌||◌, List, ℕ, ◌++◌, Result, MatchResult}
 use Rattle.lake_base.specs.declared.outside.Failed.{Failed}
 use Rattle.lake_program.specs.declared.words.Timing.{Timing}
-use Rattle.lake_program.specs.Batch.{LineEffect, IsLineServed}
+use Rattle.batch_lines.specs.Batch.{LineEffect, IsLineServed}
 use Rattle.lake_program.specs.Front.{WroteFront, Shows}
 use Rattle.lake_program.specs.Progress.{Progress, AreMoments}
 use Rattle.lake_program.specs.Streams.{Trace}

@@ -10,7 +10,7 @@ use Rattle.lake_model.specs.Soundness.{fresh}
 use Rattle.lake_state.specs.Founding as founding
 use Rattle.lake_state.specs.Lakes.{lake_value}
 use Rattle.lake_core.specs.Lakes.{LakeValue}
-use Rattle.lake_program.specs.Batch.{usual_cut}
+use Rattle.batch_lines.specs.Batch.{usual_cut}
 
 -- it was opened as the fresh lake
 abbrev pub IsFromFresh : LakeValue KeptPairs → Type 0

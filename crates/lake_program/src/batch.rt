@@ -2,7 +2,7 @@
 ghost use Rattle.std.specs.Prelude.{◌≡◌, ◌+◌, ◌≤◌, ◌<◌, ◌^◌, ◌≢◌, ◌↔◌, ◌∷◌, [], ℕ, List, Option, IfOk, IfSome, length};
 ghost use Rattle.std.specs.Str.Lines.{lines};
 ghost use Rattle.lake_base.specs.Outside.{HasCause, Rose};
-ghost use Rattle.lake_program.specs.Text.{too_long_text};
+ghost use Rattle.batch_lines.specs.Text.{too_long_text};
 ghost use Rattle.lake_program.specs.Streams.{Trace};
 ghost use Rattle.lake_program.specs.Lines.{ended_lines};
 ghost use Rattle.lake_program.specs.Progress.{start};

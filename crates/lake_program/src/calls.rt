@@ -13,7 +13,7 @@ ghost use Rattle.lake_calls.specs.Replies.{guarded_refusal, found_reply, place_r
 ghost use Rattle.lake_program.specs.Calling.{IsRefused, IsStaged, ServesCall, ShowsReply, lake_at};
 ghost use Rattle.lake_program.specs.Reply.{batch_names, text_bytes};
 ghost use Rattle.lake_program.specs.Steps.{state_at};
-ghost use Rattle.lake_program.specs.Text.{reply_text, upload_text};
+ghost use Rattle.batch_lines.specs.Text.{reply_text, upload_text};
 ghost use Rattle.lake_program.specs.Uploads.{upload_of, upload_request};
 
 use crate::memory_lake::MemoryLake;

@@ -4,7 +4,7 @@
 //! - `words`: the words that the program was started with. `command`, `word`: the commands of lines. `limits`:
 //!   how long a line and a batch may be.
 //! - `lines`: one line. `session`, `calls`: the calls of one client, on `memory_lake`, a lake over a keeper that never
-//!   fails. `reply`, `text`: what is shown. `laws`: what lines come to, in a user's words.
+//!   fails. `reply`, `text`: what is shown.
 //! - `line_buffer`, `batch`: the source read piece by piece and cut into lines. `serving`: the lines, served one
 //!   after the other.
 //! - `output`, `write`: what is shown is held back, and written.
@@ -19,7 +19,6 @@ pub mod batch;
 pub mod calls;
 pub mod command;
 pub mod host;
-pub mod laws;
 pub mod limits;
 pub mod line_buffer;
 pub mod lines;

@@ -8,7 +8,7 @@ ghost use Rattle.lake_model.specs.Soundness.{fresh};
 ghost use Rattle.lake_model.specs.Steps.{write_causes};
 ghost use Rattle.lake_model.specs.Uncommitted.{HasTicket, put_number};
 ghost use Rattle.lake_calls.specs.Replies.{guarded_refusal};
-ghost use Rattle.lake_program.specs.Batch.{usual_cut};
+ghost use Rattle.batch_lines.specs.Batch.{usual_cut};
 ghost use Rattle.lake_program.specs.Steps.{IsStep, state_at};
 
 use commit_graph::RefExpr;

@@ -1,6 +1,6 @@
 use Rattle.std.proofs.Common.{[], inl, refl, sym, ap, ◌∙◌, subst}
-use Rattle.lake_program.specs.Batch.{IsValueServed, skipped_effect, starved_effect, unbuilt_effect}
-use Rattle.lake_program.specs.Command.{line_value}
+use Rattle.batch_lines.specs.Batch.{IsValueServed, skipped_effect, starved_effect, unbuilt_effect}
+use Rattle.batch_lines.specs.Command.{line_value}
 use Rattle.lake_program.specs.CommandView.{line_view}
 use Rattle.lake_program.specs.Session.{lake_of}
 use Rattle.lake_program.proofs.MomentsLemmas.{moments_none}

@@ -1,7 +1,7 @@
 use Rattle.std.proofs.Common.{refl}
 use Rattle.lake_program.specs.ServerView.{progress_of}
 use Rattle.lake_program.specs.Streams.{Trace}
-use Rattle.lake_program.specs.Text.{too_long_text}
+use Rattle.batch_lines.specs.Text.{too_long_text}
 use Rattle.lake_program.proofs.ClosingLemmas.{closed_too_long, cut_too_long}
 use Rattle.lake_program.proofs.ReadingLemmas.{with_pending}
 use Rattle.lake_program.proofs.batch.Batch.cut_off.Goals as goal

@@ -2,7 +2,7 @@ use Rattle.std.proofs.Common.{inr, refl, sym}
 use Rattle.lake_state.specs.Lakes.{lake_value}
 use Rattle.lake_core.specs.Lakes.{versions}
 use Rattle.lake_core.specs.Makings.{stage}
-use Rattle.lake_program.specs.Batch.{usual_cut}
+use Rattle.batch_lines.specs.Batch.{usual_cut}
 use Rattle.lake_program.proofs.StepsLemmas.{staged_step, state_of_entries, unread_branch}
 use Rattle.lake_program.proofs.memory_lake.MemoryLake.stage.Goals as goal
 

@@ -4,9 +4,9 @@ use Rattle.std.specs.List.{AllByRecursion}
 use Rattle.std.specs.Option.{option_or}
 use Rattle.std.specs.Str.{bytes_eq}
 use Rattle.lake_calls.specs.Calls.{Upload, Object}
-use Rattle.lake_program.specs.Batch.{Lake, LineEffect}
-use Rattle.lake_program.specs.Command.{LineValue, Skipped, NotBuilt, Asks, line_value}
-use Rattle.lake_program.specs.Text.{line}
+use Rattle.batch_lines.specs.Batch.{Lake, LineEffect}
+use Rattle.batch_lines.specs.Command.{LineValue, Skipped, NotBuilt, Asks, line_value}
+use Rattle.batch_lines.specs.Text.{line}
 
 -- the lake after lines
 abbrev pub lake_left : Lake → List LineEffect → Lake

@@ -1,5 +1,5 @@
-use Rattle.lake_program.proofs.LegalLemmas.{batch_legal}
-use Rattle.lake_program.proofs.laws.law_of_histories.Goals as goal
+use Rattle.batch_lines.proofs.LegalLemmas.{batch_legal}
+use Rattle.batch_lines.proofs.laws.law_of_histories.Goals as goal
 
 pub returns : goal.returns
 returns c = batch_legal (record {

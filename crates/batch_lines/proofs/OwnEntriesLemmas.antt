@@ -14,11 +14,11 @@ use Rattle.lake_calls.specs.Courses.{course_entries, upload_entry}
 use Rattle.lake_calls.specs.Effects.{CallEffect, drop_entry, effect, fronts, upload_effect}
 use Rattle.lake_calls.specs.Replies.{stage_refusal, ticket_entry, ticket_refusal}
 use Rattle.lake_calls.proofs.EffectLemmas.{accepted_effect, both_none, done_by}
-use Rattle.lake_program.specs.Batch.{AreServed, CutShort, IsCallServed, IsLineServed, IsValueServed, Lake, LineEffect, Served, Unread, after_call, fresh_lake, next_request, state_of}
-use Rattle.lake_program.specs.Command.{LineValue, Skipped, NotBuilt, Asks, line_value}
-use Rattle.lake_program.specs.LastUploads.{lake_left}
-use Rattle.lake_program.specs.OwnEntries.{entries_by}
-use Rattle.lake_program.proofs.UploadLemmas.{drops_are}
+use Rattle.batch_lines.specs.Batch.{AreServed, CutShort, IsCallServed, IsLineServed, IsValueServed, Lake, LineEffect, Served, Unread, after_call, fresh_lake, next_request, state_of}
+use Rattle.batch_lines.specs.Command.{LineValue, Skipped, NotBuilt, Asks, line_value}
+use Rattle.batch_lines.specs.LastUploads.{lake_left}
+use Rattle.batch_lines.specs.OwnEntries.{entries_by}
+use Rattle.batch_lines.proofs.TicketLemmas.{drops_are}
 
 -- ---- entries by a call
 

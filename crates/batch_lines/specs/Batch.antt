@@ -11,8 +11,8 @@ use Rattle.lake_model.specs.Soundness.{fresh}
 use Rattle.lake_calls.specs.Calls.{Call, Request}
 use Rattle.lake_calls.specs.Replies.{CallReply, is_done, reply}
 use Rattle.lake_calls.specs.Effects.{CallEffect, effect, fronts}
-use Rattle.lake_program.specs.Command.{LineValue, Skipped, NotBuilt, Asks, line_value}
-use Rattle.lake_program.specs.Text.{not_built_text, out_of_memory_text, shown}
+use Rattle.batch_lines.specs.Command.{LineValue, Skipped, NotBuilt, Asks, line_value}
+use Rattle.batch_lines.specs.Text.{not_built_text, out_of_memory_text, shown}
 
 -- a lake with the objects that it holds, as one client sees it
 pub record Lake : Type 0 where

@@ -1,5 +1,5 @@
-use Rattle.lake_program.proofs.LineBodyLemmas.{last_shown, never_lost}
-use Rattle.lake_program.proofs.laws.laws_of_bodies.Goals as goal
+use Rattle.batch_lines.proofs.LineBodyLemmas.{last_shown, never_lost}
+use Rattle.batch_lines.proofs.laws.laws_of_bodies.Goals as goal
 
 pub returns-clause-last : goal.returns-clause-last
 returns-clause-last c = last_shown

@@ -5,10 +5,10 @@ ghost use Rattle.lake_model.specs.Soundness.{fresh};
 ghost use Rattle.lake_calls.specs.Calls.{Call, UploadCall, Upload};
 ghost use Rattle.lake_calls.specs.Courses.{course_entries};
 ghost use Rattle.lake_calls.specs.Replies.{Lost};
-ghost use Rattle.lake_program.specs.Batch.{AreServed, IsLineServed, LineEffect, fresh_lake, next_request, reply_of, state_of, usual_cut};
-ghost use Rattle.lake_program.specs.Command.{Asks, cat_call, line_value};
-ghost use Rattle.lake_program.specs.LastUploads.{HasMemory, cat_text, lake_left, last_upload};
-ghost use Rattle.lake_program.specs.OwnEntries.{entries_by};
+ghost use Rattle.batch_lines.specs.Batch.{AreServed, IsLineServed, LineEffect, fresh_lake, next_request, reply_of, state_of, usual_cut};
+ghost use Rattle.batch_lines.specs.Command.{Asks, cat_call, line_value};
+ghost use Rattle.batch_lines.specs.LastUploads.{HasMemory, cat_text, lake_left, last_upload};
+ghost use Rattle.batch_lines.specs.OwnEntries.{entries_by};
 
 use step_laws::tickets::law_of_ticket_steps;
 use step_laws::writes::law_of_write_steps;

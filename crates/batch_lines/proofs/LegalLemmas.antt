@@ -20,11 +20,11 @@ use Rattle.lake_calls.specs.Courses.{upload_entry}
 use Rattle.lake_calls.specs.Effects.{drop_entries, drop_entry, effect, upload_effect}
 use Rattle.lake_calls.specs.Replies.{guarded_refusal, stage_refusal, ticket_entry, ticket_refusal}
 use Rattle.lake_calls.proofs.EffectLemmas.{both_none}
-use Rattle.lake_program.specs.Batch.{AreServed, CutShort, IsCallServed, IsValueServed, Lake, LineEffect, Served, Unread, fresh_lake, next_request, state_of, usual_cut}
-use Rattle.lake_program.specs.Command.{LineValue, Skipped, NotBuilt, Asks, line_value}
-use Rattle.lake_program.specs.LastUploads.{lake_left}
-use Rattle.lake_program.proofs.GuardLemmas.{current_causes}
-use Rattle.lake_program.proofs.UploadLemmas.{ticket_tied}
+use Rattle.batch_lines.specs.Batch.{AreServed, CutShort, IsCallServed, IsValueServed, Lake, LineEffect, Served, Unread, fresh_lake, next_request, state_of, usual_cut}
+use Rattle.batch_lines.specs.Command.{LineValue, Skipped, NotBuilt, Asks, line_value}
+use Rattle.batch_lines.specs.LastUploads.{lake_left}
+use Rattle.batch_lines.proofs.GuardLemmas.{current_causes}
+use Rattle.batch_lines.proofs.TicketLemmas.{ticket_tied}
 
 -- a legal history that goes on legally
 legal_more : (s : State) (first later : List HistoryEntry) → IsLegal s first → IsLegal (replay s first) later → IsLegal s (first ++ later)

@@ -29,13 +29,13 @@ use Rattle.lake_calls.specs.Calls.{Call, UploadCall, Upload, Request}
 use Rattle.lake_calls.specs.Courses.{upload_entry}
 use Rattle.lake_calls.specs.Effects.{drop_entries, drop_entry, effect, upload_effect}
 use Rattle.lake_calls.specs.Replies.{CallReply, Lost, UploadReply, is_done, object_reply, reply_or, stage_refusal, ticket_entry, ticket_refusal}
-use Rattle.lake_program.specs.Batch.{AreServed, CutShort, IsCallServed, IsLineServed, IsValueServed, Lake, LineEffect, Served, Unread, fresh_lake, next_request, reply_of, state_of, usual_cut, with_object}
-use Rattle.lake_program.specs.Command.{LineValue, Skipped, NotBuilt, Asks, cat_call, line_value}
-use Rattle.lake_program.specs.LastUploads.{HasMemory, body_put, cat_text, lake_left, last_upload}
-use Rattle.lake_program.specs.Text.{names_of, reply_text}
-use Rattle.lake_program.proofs.AskedLemmas.{IsOnBranch, IsOnBranchOnly, asked}
-use Rattle.lake_program.proofs.LastUploadLemmas.{HasBodies, IsBodyOf, IsReading, body_over, drop_bodies, main, quickstart, reading_of, same_bodies, stage_bodies, ticket_bodies}
-use Rattle.lake_program.proofs.UploadLemmas.{drops_are}
+use Rattle.batch_lines.specs.Batch.{AreServed, CutShort, IsCallServed, IsLineServed, IsValueServed, Lake, LineEffect, Served, Unread, fresh_lake, next_request, reply_of, state_of, usual_cut, with_object}
+use Rattle.batch_lines.specs.Command.{LineValue, Skipped, NotBuilt, Asks, cat_call, line_value}
+use Rattle.batch_lines.specs.LastUploads.{HasMemory, body_put, cat_text, lake_left, last_upload}
+use Rattle.batch_lines.specs.Text.{names_of, reply_text}
+use Rattle.batch_lines.proofs.AskedLemmas.{IsOnBranch, IsOnBranchOnly, asked}
+use Rattle.batch_lines.proofs.LastUploadLemmas.{HasBodies, IsBodyOf, IsReading, body_over, drop_bodies, main, quickstart, reading_of, same_bodies, stage_bodies, ticket_bodies}
+use Rattle.batch_lines.proofs.TicketLemmas.{drops_are}
 
 -- ---- the fresh lake
 

@@ -1,0 +1,5 @@
+pub mod Batch
+pub mod Command
+pub mod LastUploads
+pub mod OwnEntries
+pub mod Text
