@@ -14,7 +14,7 @@ use Rattle.lake_program.specs.Progress.{Progress}
 use Rattle.lake_program.specs.Feeding.{HasWritten, IsCutOff}
 use Rattle.lake_program.specs.Reading.{IsBroken}
 use Rattle.lake_program.specs.Status.{status_of}
-use Rattle.lake_program.specs.Outcome.{Course, batch_status, IsWhole, EndsWith, Outcome}
+use Rattle.lake_program.specs.Outcome.{Extent, batch_status, IsWhole, EndsWith, Outcome}
 use Rattle.lake_program.specs.Streams.{Trace}
 use Rattle.lake_program.proofs.FrontLemmas.{front_of_self, front_of_append, front_more, wrote_none, wrote_as}
 use Rattle.lake_program.proofs.LinesLemmas.{lines_of_part, ended_of_part}
@@ -56,7 +56,7 @@ module _ (timing : Timing) (limit : ℕ) (t0 t1 : Trace) (input : List ℕ) (sou
   outcome_cut part front cut =
       let more = first_lines limit input part front in
       record {
-        course = record { served = ended_lines part; unserved = more.0; effects = cut.effects; out = cut.shown.out };
+        extent = record { served = ended_lines part; unserved = more.0; effects = cut.effects; out = cut.shown.out };
         lines = more.1;
         each = cut.each;
         took = cut.took;
@@ -72,7 +72,7 @@ module _ (timing : Timing) (limit : ℕ) (t0 t1 : Trace) (input : List ℕ) (sou
       let more = first_lines limit input broken.given part in
       let effects = broken.served.effects in
       record {
-        course = record { served = ended_lines broken.given; unserved = more.0; effects = effects; out = text_of effects };
+        extent = record { served = ended_lines broken.given; unserved = more.0; effects = effects; out = text_of effects };
         lines = more.1;
         each = broken.served.each;
         took = broken.served.took;
@@ -90,10 +90,10 @@ module _ (timing : Timing) (limit : ℕ) (t0 t1 : Trace) (input : List ℕ) (sou
       }
 
   -- what is said of a batch by the status of its effects
-  whole_ends : (course : Course) (starved done : Bool) → IsWhole limit input course (status_of starved done) → EndsWith timing limit t0 t1 input source course (status_of starved done)
-  whole_ends course true done whole = inl whole
-  whole_ends course false true whole = whole
-  whole_ends course false false whole = whole
+  whole_ends : (extent : Extent) (starved done : Bool) → IsWhole limit input extent (status_of starved done) → EndsWith timing limit t0 t1 input source extent (status_of starved done)
+  whole_ends extent true done whole = inl whole
+  whole_ends extent false true whole = whole
+  whole_ends extent false false whole = whole
 
   -- all lines were served, and all was written
   pub outcome_whole : (all : List (List ℕ)) (text : List ℕ) (progress : Progress) (within : Bool) (status : ExitStatus)
@@ -101,25 +101,25 @@ module _ (timing : Timing) (limit : ℕ) (t0 t1 : Trace) (input : List ℕ) (sou
       → HasWritten timing t0 t1 all text progress → Outcome timing limit t0 t1 input source status
   outcome_whole all text progress within status are is test tells served =
       let effects = served.effects in
-      let course : Course = record { served = all; unserved = []; effects = effects; out = text_of effects ++ text } in
+      let extent : Extent = record { served = all; unserved = []; effects = effects; out = text_of effects ++ text } in
       let stands : status ≡ batch_status limit input effects =
       tells ∙ ap (λ b. status_of b (progress.done && within)) served.starved ∙ ap (λ b. status_of (any_starved effects) (b && within)) served.done
       ∙ ap (λ b. status_of (any_starved effects) (all_done effects && b)) (sym test) in
       record {
-        course = course;
+        extent = extent;
         lines = append-nil all ∙ are;
         each = served.each;
         took = served.took;
         wrote = served.wrote;
         front = subst (λ (l : List ℕ). IsPrefix (text_of effects ++ text) (text_of effects ++ l)) is (front_of_self (text_of effects ++ text));
-        ended = subst (λ (s : ExitStatus). EndsWith timing limit t0 t1 input source course s) (sym stands)
-            (whole_ends course (any_starved effects) (all_done effects && nat_le (length input) limit) (record { all = refl; text = ap (λ (l : List ℕ). text_of effects ++ l) is; tells = refl }));
+        ended = subst (λ (s : ExitStatus). EndsWith timing limit t0 t1 input source extent s) (sym stands)
+            (whole_ends extent (any_starved effects) (all_done effects && nat_le (length input) limit) (record { all = refl; text = ap (λ (l : List ℕ). text_of effects ++ l) is; tells = refl }));
       }
 
   -- all lines were served, and the sink failed at what was to be written last
   pub outcome_end_cut : (all : List (List ℕ)) (text : List ℕ) → all ≡ batch_lines limit input → text ≡ end_text limit input [] → IsCutOff timing t0 t1 all text → Outcome timing limit t0 t1 input source SinkFailed
   outcome_end_cut all text are is cut = record {
-    course = record { served = all; unserved = []; effects = cut.effects; out = cut.shown.out };
+    extent = record { served = all; unserved = []; effects = cut.effects; out = cut.shown.out };
     lines = append-nil all ∙ are;
     each = cut.each;
     took = cut.took;
@@ -157,7 +157,7 @@ outcome_too_long_cut timing limit t0 t1 input source more cut =
 -- no memory was found before the first byte was read
 pub outcome_none : (timing : Timing) (limit : ℕ) (trace : Trace) (input : List ℕ) (source : Option (List ℕ)) → source ≡ Some input → Outcome timing limit trace trace input source OutOfMemory
 outcome_none timing limit trace input source told = record {
-  course = record { served = []; unserved = batch_lines limit input; effects = []; out = [] };
+  extent = record { served = []; unserved = batch_lines limit input; effects = []; out = [] };
   lines = refl;
   each = tt;
   took = moments_none timing trace.readings;

@@ -37,12 +37,12 @@ without_timing : (found : Option Timing) → found ≡ None → (P : Timing → 
 without_timing found is P = subst (λ (o : Option Timing). IfSome o P) (sym is) tt
 
 whole_run : (timing : Timing) (input : List ℕ) (before after : Streams) (status : ExitStatus) → (o : Outcome timing 1073741824 (trace_of before) (trace_of after) input after.left status)
-    → IsWhole 1073741824 input o.course status → IfSome before.written (λ written. IsBatchRun timing input written before after status)
+    → IsWhole 1073741824 input o.extent status → IfSome before.written (λ written. IsBatchRun timing input written before after status)
 whole_run timing input before after status o whole =
-    let all : o.course.served ≡ batch_lines 1073741824 input = sym (append-nil o.course.served) ∙ ap (λ (l : List (List ℕ)). o.course.served ++ l) (sym whole.all) ∙ o.lines in
-    told_then before.written (λ written. after.written ≡ Some (written ++ o.course.out)) _ (λ written wrote. record {
-      effects = o.course.effects;
-      each = subst (λ (l : List (List ℕ)). AreServed l fresh_lake o.course.effects) all o.each;
+    let all : o.extent.served ≡ batch_lines 1073741824 input = sym (append-nil o.extent.served) ∙ ap (λ (l : List (List ℕ)). o.extent.served ++ l) (sym whole.all) ∙ o.lines in
+    told_then before.written (λ written. after.written ≡ Some (written ++ o.extent.out)) _ (λ written wrote. record {
+      effects = o.extent.effects;
+      each = subst (λ (l : List (List ℕ)). AreServed l fresh_lake o.extent.effects) all o.each;
       took = o.took;
       text = wrote ∙ ap (λ (t : List ℕ). Some (written ++ t)) whole.text;
       tells = whole.tells;

@@ -12,8 +12,9 @@ use Rattle.lake_program.specs.Progress.{AreMoments}
 use Rattle.lake_program.specs.Status.{status_of}
 use Rattle.lake_program.specs.Streams.{Trace}
 
--- the lines of a batch that were served and those that weren't, what each served line came to, and what was written
-pub record Course : Type 0 where
+-- how far a batch came: the lines that were served and those that weren't, what each served line came to, and what was
+-- written
+pub record Extent : Type 0 where
   pub served : List (List ℕ)
   pub unserved : List (List ℕ)
   pub effects : List LineEffect
@@ -25,20 +26,20 @@ abbrev pub batch_status : ℕ → List ℕ → List LineEffect → ExitStatus
 batch_status limit input effects = status_of (any_starved effects) (all_done effects && nat_le (length input) limit)
 
 -- All lines were served, and all that they show was written.
-pub record IsWhole (limit : ℕ) (input : List ℕ) (course : Course) (status : ExitStatus) : Type 0 where
-  pub all : course.unserved ≡ []
-  pub text : course.out ≡ text_of course.effects ++ end_text limit input []
-  pub tells : status ≡ batch_status limit input course.effects
+pub record IsWhole (limit : ℕ) (input : List ℕ) (extent : Extent) (status : ExitStatus) : Type 0 where
+  pub all : extent.unserved ≡ []
+  pub text : extent.out ≡ text_of extent.effects ++ end_text limit input []
+  pub tells : status ≡ batch_status limit input extent.effects
 
 -- Just the lines that ended in what the source gave were served, and all that they show was written.
-pub record IsGiven (limit : ℕ) (input : List ℕ) (source : Option (List ℕ)) (course : Course) : Type 0 where
+pub record IsGiven (limit : ℕ) (input : List ℕ) (source : Option (List ℕ)) (extent : Extent) : Type 0 where
   pub given : List ℕ
   pub rest : List ℕ
   pub whole : given ++ rest ≡ input
   pub left : source ≡ Some rest
   pub within : length given ≤ limit
-  pub lines : course.served ≡ ended_lines given
-  pub text : course.out ≡ text_of course.effects
+  pub lines : extent.served ≡ ended_lines given
+  pub text : extent.out ≡ text_of extent.effects
 
 -- Nothing was read and nothing written.
 pub record IsUnbegun (before after : Trace) (input : List ℕ) (source : Option (List ℕ)) : Type 0 where
@@ -47,24 +48,24 @@ pub record IsUnbegun (before after : Trace) (input : List ℕ) (source : Option 
 
 module _ (timing : Timing) (limit : ℕ) (before after : Trace) (input : List ℕ) (source : Option (List ℕ)) where
   -- how much was served and written, by the status
-  abbrev pub EndsWith : Course → ExitStatus → Type 0
-  EndsWith course Done = IsWhole limit input course Done
-  EndsWith course Refused = IsWhole limit input course Refused
-  EndsWith course Usage = ⊥
-  EndsWith course SourceFailed = IsGiven limit input source course
-  EndsWith course SinkFailed = Unit {0}
-  EndsWith course OutOfMemory = IsWhole limit input course OutOfMemory ⊎ IsUnbegun before after input source
+  abbrev pub EndsWith : Extent → ExitStatus → Type 0
+  EndsWith extent Done = IsWhole limit input extent Done
+  EndsWith extent Refused = IsWhole limit input extent Refused
+  EndsWith extent Usage = ⊥
+  EndsWith extent SourceFailed = IsGiven limit input source extent
+  EndsWith extent SinkFailed = Unit {0}
+  EndsWith extent OutOfMemory = IsWhole limit input extent OutOfMemory ⊎ IsUnbegun before after input source
 
   -- What became of the batch of an input, of which this is left in its source.
   pub record Outcome (status : ExitStatus) : Type 0 where
-    pub course : Course
+    pub extent : Extent
     -- the lines were served in their order,
-    pub lines : course.served ++ course.unserved ≡ batch_lines limit input
+    pub lines : extent.served ++ extent.unserved ≡ batch_lines limit input
     -- each from the lake that the one before left, the first from a fresh one
-    pub each : AreServed course.served fresh_lake course.effects
+    pub each : AreServed extent.served fresh_lake extent.effects
     -- they took these moments, one after the other
-    pub took : AreMoments timing before.readings after.readings (moments_of course.effects)
+    pub took : AreMoments timing before.readings after.readings (moments_of extent.effects)
     -- a front of what they show was written, and nothing else
-    pub wrote : Wrote before.written after.written course.out
-    pub front : IsPrefix course.out (text_of course.effects ++ end_text limit input course.unserved)
-    pub ended : EndsWith course status
+    pub wrote : Wrote before.written after.written extent.out
+    pub front : IsPrefix extent.out (text_of extent.effects ++ end_text limit input extent.unserved)
+    pub ended : EndsWith extent status

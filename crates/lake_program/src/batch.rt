@@ -1,5 +1,6 @@
 //! Batches: the source is read piece by piece and cut into lines, each of which is served.
-ghost use Rattle.std.specs.Prelude.{◌≡◌, ◌+◌, ◌≤◌, ◌<◌, ◌^◌, ◌≢◌, ◌↔◌, ◌∷◌, [], ℕ, List, Option, IfOk, IfSome, length};
+ghost use Rattle.std.specs.Prelude.{◌≡◌, ◌+◌, ◌≤◌, ◌<◌, ◌^◌, ◌≢◌, ◌↔◌, ◌∷◌, []};
+ghost use Rattle.std.specs.Prelude.{ℕ, List, Option, IfOk, IfSome, length};
 ghost use Rattle.std.specs.Str.Lines.{lines};
 ghost use Rattle.lake_base.specs.Outside.{HasCause, Rose};
 ghost use Rattle.batch_lines.specs.Text.{too_long_text};
@@ -185,7 +186,8 @@ impl Batch {
 
     // Shows that the batch is too long, and writes what is pending.
     fn cut_off<W: Sink>(&mut self, sink: &mut W) -> Result<(), Failed>
-        ensures cuts { (before : Trace) (readings : Option (List ℕ)) (input : List ℕ) → HasServed self.old.server.timing before
+        ensures cuts { (before : Trace) (readings : Option (List ℕ)) (input : List ℕ)
+            → HasServed self.old.server.timing before
             (record { readings = readings; written = W.written sink.old })
             input (progress_of self.old.server) self.old.line
             → Finishes self.old.server.timing before
