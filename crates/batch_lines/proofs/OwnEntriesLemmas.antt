@@ -181,7 +181,7 @@ lines_stay call (text ∷ texts) lake (one ∷ lines) are made =
 -- what an accepted upload left
 accepted_line : (lake : Lake) (u : UploadCall) (one : LineEffect) → IsCallServed lake (Upload u) one → one.done ≡ true
     → (moment : ℕ) × (one.lake.history ≡ lake.history ++ course_entries (next_request lake (Upload u) moment) (state_of lake).next_number)
-    × (one.lake.calls ≡ lake.calls + 1)
+    × (one.lake.calls ≡ lake.calls + 1) × (one.moments ≡ moment ∷ [])
 accepted_line lake u one (Served moment is) done =
     let s : State = state_of lake in
     let by : By = record { seat = 0; call = lake.calls + 1 } in
@@ -191,6 +191,7 @@ accepted_line lake u one (Served moment is) done =
       ap (λ (o : LineEffect). o.lake.history) is
           ∙ ap (λ es. lake.history ++ es) (accepted_effect s (next_request lake (Upload u) moment) u _ _ none),
       ap (λ (o : LineEffect). o.lake.calls) is,
+      ap (λ (o : LineEffect). o.moments) is,
     )
 accepted_line lake u one (Unread is) done = let refused = ap (λ (o : LineEffect). o.done) is in absurd cc
 accepted_line lake u one (CutShort cut) done = let refused = ap (λ (o : LineEffect). o.done) cut.left in absurd cc
@@ -199,7 +200,7 @@ accepted_line lake u one (CutShort cut) done = let refused = ap (λ (o : LineEff
 pub stands_once : (before : List (List ℕ)) (lines : List LineEffect) (text : List ℕ) (one : LineEffect) (later : List (List ℕ)) (others : List LineEffect)
     (u : UploadCall) → AreServed before fresh_lake lines → IsLineServed text (lake_left fresh_lake lines) one → line_value text ≡ Asks (Upload u)
     → one.done ≡ true → AreServed later one.lake others
-    → (moment : ℕ) × (entries_by ((lake_left fresh_lake lines).calls + 1) (lake_left one.lake others).history
+    → (moment : ℕ) × (one.moments ≡ moment ∷ []) × (entries_by ((lake_left fresh_lake lines).calls + 1) (lake_left one.lake others).history
     ≡ course_entries (next_request (lake_left fresh_lake lines) (Upload u) moment) (state_of (lake_left fresh_lake lines)).next_number)
 stands_once before lines text one later others u are is asks done served =
     let lake : Lake = lake_left fresh_lake lines in
@@ -207,6 +208,7 @@ stands_once before lines text one later others u are is asks done served =
     let call : ℕ = lake.calls + 1 in
     let own : AreBy call (course_entries (next_request lake (Upload u) left.0) (state_of lake).next_number) = (refl, (refl, tt)) in (
       left.0,
+      left.3,
       lines_stay call later one.lake others served (same_calls call one.lake.calls left.2)
           ∙ ap (entries_by call) left.1
           ∙ filter-append (λ (e : HistoryEntry). e.by.call == call) lake.history _

@@ -1,11 +1,12 @@
 //! What a batch's lines come to, in a user's words. Each law is the contract of a function that does nothing.
-ghost use Rattle.std.specs.Prelude.{◌≡◌, ◌≢◌, ◌+◌, ℕ, List, true, false};
+ghost use Rattle.std.specs.Prelude.{◌≡◌, ◌≢◌, ◌+◌, ◌∷◌, [], ℕ, List, true, false};
 ghost use Rattle.lake_model.specs.History.{IsLegal};
 ghost use Rattle.lake_model.specs.Soundness.{fresh};
 ghost use Rattle.lake_calls.specs.Calls.{Call, UploadCall, Upload};
 ghost use Rattle.lake_calls.specs.Courses.{course_entries};
 ghost use Rattle.lake_calls.specs.Replies.{Lost};
-ghost use Rattle.batch_lines.specs.Batch.{AreServed, IsLineServed, LineEffect, fresh_lake, next_request, reply_of, state_of, usual_cut};
+ghost use Rattle.batch_lines.specs.Batch.{AreServed, IsLineServed, LineEffect, fresh_lake, next_request};
+ghost use Rattle.batch_lines.specs.Batch.{reply_of, state_of, usual_cut};
 ghost use Rattle.batch_lines.specs.Command.{Asks, cat_call, line_value};
 ghost use Rattle.batch_lines.specs.LastUploads.{HasMemory, cat_text, lake_left, last_upload};
 ghost use Rattle.batch_lines.specs.OwnEntries.{entries_by};
@@ -13,8 +14,8 @@ ghost use Rattle.batch_lines.specs.OwnEntries.{entries_by};
 use step_laws::tickets::law_of_ticket_steps;
 use step_laws::writes::law_of_write_steps;
 
-/// Where no line ran out of memory, `fs cat` of a path shows the body of the last upload to it that was accepted before,
-/// or that there is none; and no reply ever tells that an object's bytes are lost.
+/// Where no line ran out of memory, `fs cat` of a path shows the body of the last upload to it that was accepted
+/// before, or that there is none; and no reply ever tells that an object's bytes are lost.
 pub fn laws_of_bodies()
     ensures last { (texts : List (List ℕ)) (lines : List LineEffect) (path text : List ℕ) (line : LineEffect)
         → AreServed texts fresh_lake lines → HasMemory lines
@@ -34,7 +35,8 @@ pub fn law_of_uploads()
         (later : List (List ℕ)) (others : List LineEffect) (u : UploadCall)
         → AreServed before fresh_lake lines → IsLineServed text (lake_left fresh_lake lines) line
         → line_value text ≡ Asks (Upload u) → line.done ≡ true → AreServed later line.lake others
-        → (moment : ℕ) × (entries_by ((lake_left fresh_lake lines).calls + 1) (lake_left line.lake others).history
+        → (moment : ℕ) × (line.moments ≡ moment ∷ [])
+        × (entries_by ((lake_left fresh_lake lines).calls + 1) (lake_left line.lake others).history
         ≡ course_entries (next_request (lake_left fresh_lake lines) (Upload u) moment)
         (state_of (lake_left fresh_lake lines)).next_number) }
 {}
