@@ -3,12 +3,13 @@ use Rattle.std.proofs.Common.{◌≡◌, ◌<◌, ◌&&◌, ◌||◌, lit<, ℕ,
 use Rattle.std.proofs.lemmas.List.{append-nil}
 use Rattle.std.specs.Str.Lines.{lines}
 use Rattle.lake_base.specs.declared.outside.Failed.{Failed}
-use Rattle.lake_program.specs.declared.words.Timing.{Timing}
+use Rattle.batch_session.specs.declared.timing.Timing.{Timing}
 use Rattle.batch_lines.specs.Batch.{LineEffect, fresh_lake, IsLineServed, AreServed}
 use Rattle.lake_program.specs.Effects.{text_of, moments_of, all_done, any_starved}
 use Rattle.lake_program.specs.Front.{Wrote, WroteFront, Shows}
 use Rattle.lake_program.specs.Lines.{ended_lines, last_part}
-use Rattle.lake_program.specs.Progress.{Progress, AreMoments}
+use Rattle.batch_session.specs.Moments.{AreMoments}
+use Rattle.lake_program.specs.Progress.{Progress}
 use Rattle.lake_program.specs.Feeding.{line_room, HasServed, HasWritten, IsCutOff, Finishes}
 use Rattle.lake_program.specs.Serving.{Serves}
 use Rattle.lake_program.specs.Streams.{Trace}

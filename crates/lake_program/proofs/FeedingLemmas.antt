@@ -4,13 +4,14 @@ use Rattle.std.proofs.lemmas.List.{append-nil, take_more}
 use Rattle.std.proofs.Math.Seq.{take-nil}
 use Rattle.std.specs.Str.Lines.{strip_carriage_return}
 use Rattle.lake_base.specs.declared.outside.Failed.{Failed}
-use Rattle.lake_program.specs.declared.words.Timing.{Timing}
+use Rattle.batch_session.specs.declared.timing.Timing.{Timing}
 use Rattle.batch_lines.specs.Batch.{Lake, LineEffect, fresh_lake, IsLineServed, AreServed}
 use Rattle.lake_program.specs.Effects.{text_of, moments_of}
 use Rattle.lake_program.specs.Feeding.{line_room, HasServed, IsCutOff, Feeds}
 use Rattle.lake_program.specs.Front.{WroteFront, Shows}
 use Rattle.lake_program.specs.Lines.{ended_lines, last_part}
-use Rattle.lake_program.specs.Progress.{Progress, start, AreMoments}
+use Rattle.batch_session.specs.Moments.{AreMoments}
+use Rattle.lake_program.specs.Progress.{Progress, start}
 use Rattle.lake_program.specs.Serving.{Serves}
 use Rattle.lake_program.specs.Streams.{Trace}
 use Rattle.lake_program.proofs.BatchLemmas.{served_same}
@@ -18,7 +19,7 @@ use Rattle.lake_program.proofs.EffectsLemmas.{served_more, text_of-more, moments
 use Rattle.lake_program.proofs.FrontLemmas.{front_of_self, front_trans, front_after, wrote_none, front_as, shows_then, shows_cut}
 use Rattle.lake_program.proofs.LineBufferLemmas.{value_ended, take-push}
 use Rattle.lake_program.proofs.LinesLemmas.{ended_in_line, last_in_line, ended_by_feed, last_by_feed}
-use Rattle.lake_program.proofs.MomentsLemmas.{moments_none, moments_then, moments_as}
+use Rattle.batch_session.proofs.MomentsLemmas.{moments_none, moments_then, moments_as}
 
 -- the text of one line more
 more_text : (effects : List LineEffect) (effect : LineEffect) → text_of effects ++ effect.text ≡ text_of (effects ++ effect ∷ [])

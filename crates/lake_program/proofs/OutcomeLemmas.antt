@@ -3,7 +3,7 @@ use Rattle.std.proofs.Common.{◌≡◌, ◌<◌, ◌≤◌, inl, inr, ◌&&◌,
 use Rattle.std.proofs.lemmas.Bool.Decides.{nat_tests}
 use Rattle.std.proofs.lemmas.List.{append-nil, take_all}
 use Rattle.std.specs.Str.Lines.{lines}
-use Rattle.lake_program.specs.declared.words.Timing.{Timing}
+use Rattle.batch_session.specs.declared.timing.Timing.{Timing}
 use Rattle.lake_program.specs.declared.status.ExitStatus.{ExitStatus}
 use Rattle.lake_program.specs.declared.status.ExitStatus.TheVariants.{SourceFailed, SinkFailed, OutOfMemory}
 use Rattle.lake_program.specs.Effects.{text_of, all_done, any_starved}
@@ -19,7 +19,7 @@ use Rattle.lake_program.specs.Streams.{Trace}
 use Rattle.lake_program.proofs.FrontLemmas.{front_of_self, front_of_append, front_more, wrote_none, wrote_as}
 use Rattle.lake_program.proofs.LinesLemmas.{lines_of_part, ended_of_part}
 use Rattle.lake_program.proofs.ReadingLemmas.{front_within}
-use Rattle.lake_program.proofs.MomentsLemmas.{moments_none}
+use Rattle.batch_session.proofs.MomentsLemmas.{moments_none}
 
 within_test : (m n : ℕ) → m ≤ n → nat_le m n ≡ true
 within_test m n le = grind (arith, nat_tests)

@@ -4,7 +4,7 @@ use Rattle.std.proofs.lemmas.List.{append-nil, take-take}
 use Rattle.std.proofs.Math.Seq.{take-append-add}
 use Rattle.lake_base.specs.Outside.{Reads}
 use Rattle.lake_base.specs.declared.outside.Failed.{Failed}
-use Rattle.lake_program.specs.declared.words.Timing.{Timing}
+use Rattle.batch_session.specs.declared.timing.Timing.{Timing}
 use Rattle.lake_program.specs.Effects.{text_of}
 use Rattle.lake_program.specs.Front.{IsPrefix, Wrote, WroteFront}
 use Rattle.lake_program.specs.Lines.{ended_lines}

@@ -2,7 +2,7 @@
 use Rattle.std.proofs.Common.{◌≡◌, ◌≢◌, ◌<◌, ◌≤◌, ◌++◌, ◌⊎◌, inl, inr, ⊎_elim, ℕ, true, List, Option, Some, None, IsNone, is_some, IfSome, refl, sym, ◌∙◌, ap, subst, arith}
 use Rattle.std.proofs.lemmas.List.{append-nil}
 use Rattle.lake_base.specs.Outside.{Rose, Quiet}
-use Rattle.lake_program.specs.declared.words.Timing.{Timing}
+use Rattle.batch_session.specs.declared.timing.Timing.{Timing}
 use Rattle.lake_program.specs.declared.batch.End.{End}
 use Rattle.lake_program.specs.declared.batch.End.TheVariants.{Source, TooLong, SourceFailed, SinkFailed}
 use Rattle.lake_program.specs.declared.status.ExitStatus.{ExitStatus}

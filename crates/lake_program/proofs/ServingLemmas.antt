@@ -1,10 +1,11 @@
 -- What a line comes to, and what is shown of it.
 use Rattle.std.proofs.Common.{◌≡◌, ◌&&◌, ◌||◌, Bool, ℕ, List, ◌++◌, Result, Ok, Err, MatchResult, OnOk, OnErr, sym, ◌∙◌, ap, subst}
 use Rattle.lake_base.specs.declared.outside.Failed.{Failed}
-use Rattle.lake_program.specs.declared.words.Timing.{Timing}
+use Rattle.batch_session.specs.declared.timing.Timing.{Timing}
 use Rattle.batch_lines.specs.Batch.{LineEffect, IsLineServed}
 use Rattle.lake_program.specs.Front.{WroteFront, Shows}
-use Rattle.lake_program.specs.Progress.{Progress, AreMoments}
+use Rattle.batch_session.specs.Moments.{AreMoments}
+use Rattle.lake_program.specs.Progress.{Progress}
 use Rattle.lake_program.specs.Serving.{Serves}
 use Rattle.lake_program.specs.Streams.{Trace}
 

@@ -1,12 +1,13 @@
 -- What a batch has done once some bytes of its source were given.
 use Rattle.std.specs.Prelude.{◌≡◌, ◌+◌, ℕ, List, [], ◌++◌, take, Result, Ok, Err}
 use Rattle.lake_base.specs.declared.outside.Failed.{Failed}
-use Rattle.lake_program.specs.declared.words.Timing.{Timing}
+use Rattle.batch_session.specs.declared.timing.Timing.{Timing}
 use Rattle.batch_lines.specs.Batch.{LineEffect, fresh_lake, AreServed}
 use Rattle.lake_program.specs.Effects.{text_of, moments_of, all_done, any_starved, lake_after}
 use Rattle.lake_program.specs.Front.{IsPrefix, Wrote, WroteFront, Shows}
 use Rattle.lake_program.specs.Lines.{ended_lines, last_part}
-use Rattle.lake_program.specs.Progress.{Progress, AreMoments}
+use Rattle.batch_session.specs.Moments.{AreMoments}
+use Rattle.lake_program.specs.Progress.{Progress}
 use Rattle.lake_program.specs.Streams.{Trace}
 
 -- So many bytes are kept of the line under way: enough to tell that it is too long, with a carriage return at its end.

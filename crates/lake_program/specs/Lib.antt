@@ -1,5 +1,3 @@
-pub mod Calling
-pub mod CommandView
 pub mod Effects
 pub mod Feeding
 pub mod Front
@@ -7,13 +5,9 @@ pub mod Lines
 pub mod Outcome
 pub mod Progress
 pub mod Reading
-pub mod Reply
 pub mod Run
 pub mod ServerView
 pub mod Serving
-pub mod Session
 pub mod Status
-pub mod Steps
 pub mod Streams
-pub mod Uploads
 pub mod Words

@@ -1,6 +1,6 @@
 -- What became of a whole batch.
 use Rattle.std.specs.Prelude.{◌≡◌, ◌≤◌, ◌&&◌, ◌⊎◌, ℕ, nat_le, List, [], ◌++◌, length, Option, Some}
-use Rattle.lake_program.specs.declared.words.Timing.{Timing}
+use Rattle.batch_session.specs.declared.timing.Timing.{Timing}
 use Rattle.lake_program.specs.declared.status.ExitStatus.{ExitStatus}
 use Rattle.lake_program.specs.declared.status.ExitStatus.TheVariants.{Done, Refused, Usage}
 use Rattle.lake_program.specs.declared.status.ExitStatus.TheVariants.{SourceFailed, SinkFailed, OutOfMemory}
@@ -8,7 +8,7 @@ use Rattle.batch_lines.specs.Batch.{LineEffect, fresh_lake, AreServed}
 use Rattle.lake_program.specs.Effects.{text_of, moments_of, all_done, any_starved}
 use Rattle.lake_program.specs.Front.{IsPrefix, Wrote}
 use Rattle.lake_program.specs.Lines.{ended_lines, batch_lines, end_text}
-use Rattle.lake_program.specs.Progress.{AreMoments}
+use Rattle.batch_session.specs.Moments.{AreMoments}
 use Rattle.lake_program.specs.Status.{status_of}
 use Rattle.lake_program.specs.Streams.{Trace}
 

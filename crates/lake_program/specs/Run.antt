@@ -1,14 +1,14 @@
 -- What a run of the program promises.
 use Rattle.std.specs.Prelude.{◌≡◌, ◌≤◌, ◌⊎◌, ℕ, List, [], ◌++◌, Some, IfSome, IsSome, IsNone}
 use Rattle.lake_base.specs.Outside.{Rose, Quiet}
-use Rattle.lake_program.specs.declared.words.Timing.{Timing}
+use Rattle.batch_session.specs.declared.timing.Timing.{Timing}
 use Rattle.lake_program.specs.declared.status.ExitStatus.{ExitStatus}
 use Rattle.lake_program.specs.declared.status.ExitStatus.TheVariants.{Usage, SourceFailed, SinkFailed, OutOfMemory}
 use Rattle.lake_program.specs.Words.{timing_of}
 use Rattle.batch_lines.specs.Batch.{LineEffect, fresh_lake, AreServed}
 use Rattle.lake_program.specs.Effects.{text_of, moments_of}
 use Rattle.lake_program.specs.Lines.{batch_lines, end_text}
-use Rattle.lake_program.specs.Progress.{AreMoments}
+use Rattle.batch_session.specs.Moments.{AreMoments}
 use Rattle.lake_program.specs.Outcome.{Outcome, batch_status}
 use Rattle.lake_program.specs.Status.{status_number, ShowsUsage}
 use Rattle.lake_program.specs.Streams.{Streams, trace_of}

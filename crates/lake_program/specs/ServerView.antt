@@ -1,6 +1,6 @@
 -- What a batch under way has come to, as contracts see it.
 use Rattle.lake_program.specs.declared.serving.LineServer.{LineServer}
-use Rattle.lake_program.specs.Session.{lake_of}
+use Rattle.batch_session.specs.Session.{lake_of}
 use Rattle.lake_program.specs.Progress.{Progress}
 
 -- the lake and the tally of what serves its lines, and what is pending

@@ -1,10 +1,11 @@
 -- How one line of a batch is served.
 use Rattle.std.specs.Prelude.{◌≡◌, ◌&&◌, ◌||◌, List, ℕ, ◌++◌, Result, MatchResult}
 use Rattle.lake_base.specs.declared.outside.Failed.{Failed}
-use Rattle.lake_program.specs.declared.words.Timing.{Timing}
+use Rattle.batch_session.specs.declared.timing.Timing.{Timing}
 use Rattle.batch_lines.specs.Batch.{LineEffect, IsLineServed}
 use Rattle.lake_program.specs.Front.{WroteFront, Shows}
-use Rattle.lake_program.specs.Progress.{Progress, AreMoments}
+use Rattle.batch_session.specs.Moments.{AreMoments}
+use Rattle.lake_program.specs.Progress.{Progress}
 use Rattle.lake_program.specs.Streams.{Trace}
 
 -- The line was served, and what it shows is written or pending; where writing failed, a front of that was written.

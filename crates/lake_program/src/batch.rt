@@ -12,8 +12,8 @@ ghost use Rattle.lake_program.specs.Feeding.{HasServed, Feeds, Finishes};
 use crate::line_buffer::LineBuffer;
 use crate::serving::LineServer;
 use crate::status::ExitStatus;
-use crate::text::TOO_LONG;
-use crate::words::Timing;
+use batch_session::text::TOO_LONG;
+use batch_session::timing::Timing;
 use lake_base::{Clock, Failed, NoMemory, Sink, Source};
 use std::alloc::Global;
 

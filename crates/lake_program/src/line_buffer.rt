@@ -3,7 +3,7 @@ ghost use Rattle.std.specs.Prelude.{◌≡◌, ◌++◌, ◌∷◌, [], take, If
 ghost use Rattle.std.specs.Str.Lines.{strip_carriage_return};
 ghost use Rattle.lake_program.specs.Feeding.{line_room};
 
-use crate::limits::LINE_LIMIT;
+use batch_session::limits::LINE_LIMIT;
 use lake_base::NoMemory;
 use std::alloc::Global;
 use std::marker::Model;

@@ -4,7 +4,7 @@ use crate::adapters::{StdSink, StdSource, SystemClock};
 use crate::host::NoHost;
 use crate::output::PendingOutput;
 use crate::run::{run, serve_batch};
-use crate::words::Timing;
+use batch_session::timing::Timing;
 use lake_base::{Clock, FixedClock, MemorySink, MemorySource, ScriptClock, Sink, Source, Text};
 use std::alloc::Global;
 use std::fs;

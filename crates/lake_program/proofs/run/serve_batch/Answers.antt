@@ -1,5 +1,5 @@
 use Rattle.std.proofs.Common.{sym, ◌∙◌, subst}
-use Rattle.lake_program.specs.declared.words.Timing.{Timing}
+use Rattle.batch_session.specs.declared.timing.Timing.{Timing}
 use Rattle.lake_program.specs.ServerView.{progress_of}
 use Rattle.lake_program.specs.Outcome.{Outcome}
 use Rattle.lake_program.specs.Reading.{Ends}

@@ -1,6 +1,6 @@
 use Rattle.std.proofs.Common.{◌∷◌, ◌++◌, [], List, ℕ, take, get_or, Err, refl, sym, ◌∙◌, arith, subst}
 use Rattle.std.proofs.lemmas.List.{append-nil}
-use Rattle.lake_program.specs.declared.words.Timing.{Timing}
+use Rattle.batch_session.specs.declared.timing.Timing.{Timing}
 use Rattle.lake_program.specs.ServerView.{progress_of}
 use Rattle.lake_program.specs.Feeding.{HasServed, Feeds}
 use Rattle.lake_program.specs.Streams.{Trace}

@@ -1,0 +1,9 @@
+pub mod CommandLemmas
+pub mod MomentsLemmas
+pub mod PathlessLemmas
+pub mod ServedLemmas
+pub mod SessionLemmas
+pub mod StepsLemmas
+pub mod TextLemmas
+pub mod UploadLemmas
+pub mod WordLemmas

@@ -1,0 +1,152 @@
+//! What a batch prints.
+ghost use Rattle.std.specs.Prelude.{◌≡◌, ◌≢◌, ◌++◌, ℕ, List, IfOk};
+ghost use Rattle.lake_base.specs.Digest.{encode_lower};
+ghost use Rattle.batch_lines.specs.Text.{CallNames, gone_text, lost_text, outside_text, refusal_text, upload_text};
+ghost use Rattle.batch_session.specs.Reply.{text_bytes, batch_names};
+
+use lake_base::{Digest, NoMemory, Path};
+use lake_model::StepFault;
+use std::alloc::Global;
+
+/// A line of no form that is built yet.
+pub const NOT_BUILT: &[u8] = b"Error: not built yet\n";
+
+/// No memory is left.
+pub const OUT_OF_MEMORY: &[u8] = b"Error: out of memory [507]\n";
+
+/// More bytes than a batch may have.
+pub const TOO_LONG: &[u8] = b"Error: batch too long\n";
+
+/// The program's words are no command.
+pub const USAGE: &[u8] = b"Error: usage\n";
+
+/// What a line shows: bytes of its own, or a text that is always the same and takes no memory.
+#[derive(Debug, Drop)]
+pub enum LineText {
+    Own(Vec<u8>),
+    Fixed(&'static [u8]),
+}
+
+impl LineText {
+    /// Its bytes. It takes no memory.
+    pub fn as_slice(&self) -> &[u8]
+        ensures { result.now ≡ text_bytes self.now }
+    {
+        match self {
+            LineText::Own(bytes) => bytes.as_slice(),
+            LineText::Fixed(bytes) => bytes,
+        }
+    }
+}
+
+/// What is printed of an upload that was made: its path, its size in bytes and its digest.
+pub fn upload_text(
+    alloc: Global,
+    path: &Path,
+    size: u64,
+    digest: Digest,
+) -> Result<Vec<u8>, NoMemory>
+    ensures { IfOk result (λ printed. printed.items ≡ upload_text path.now size (encode_lower digest.0)) }
+{
+    let mut printed = Vec::new(alloc);
+    printed.extend_from_slice(b"Path: ")?;
+    printed.extend_from_slice(path.as_slice())?;
+    printed.extend_from_slice(b"\nSize: ")?;
+    let size = size.to_string(alloc)?;
+    printed.extend_from_slice(size.as_bytes())?;
+    printed.extend_from_slice(b"\nChecksum: ")?;
+    let checksum = digest.hex(alloc)?;
+    printed.extend_from_slice(checksum.as_slice())?;
+    printed.extend_from_slice(b"\n")?;
+    Ok(printed)
+}
+
+// A line of a path between two texts.
+fn about_path(alloc: Global, front: &[u8], path: &Path, end: &[u8]) -> Result<LineText, NoMemory>
+    ensures { IfOk result (λ printed. text_bytes printed ≡ front.now ++ path.now ++ end.now) }
+{
+    let mut printed = Vec::new(alloc);
+    printed.extend_from_slice(front)?;
+    printed.extend_from_slice(path.as_slice())?;
+    printed.extend_from_slice(end)?;
+    Ok(LineText::Own(printed))
+}
+
+/// What is printed where nothing stands at the path.
+pub fn no_path_text(alloc: Global, path: &Path) -> Result<LineText, NoMemory>
+    ensures { IfOk result (λ printed. text_bytes printed ≡ refusal_text (batch_names path.now) StepFault.NoPath) }
+{
+    about_path(alloc, b"Error: path not found: ", path, b" [404]\n")
+}
+
+/// What is printed where the object at the path is gone for good.
+pub fn gone_text(alloc: Global, path: &Path) -> Result<LineText, NoMemory>
+    ensures { IfOk result (λ printed. text_bytes printed ≡ gone_text path.now) }
+{
+    about_path(alloc, b"Error: object gone: ", path, b" [410]\n")
+}
+
+/// What is printed where the object at the path stands outside.
+pub fn outside_text(alloc: Global, path: &Path) -> Result<LineText, NoMemory>
+    ensures { IfOk result (λ printed. text_bytes printed ≡ outside_text path.now) }
+{
+    about_path(alloc, b"Error: object held outside: ", path, b" [422]\n")
+}
+
+/// What is printed where the bytes of the object at the path aren't held.
+pub fn lost_text(alloc: Global, path: &Path) -> Result<LineText, NoMemory>
+    ensures { IfOk result (λ printed. text_bytes printed ≡ lost_text path.now) }
+{
+    about_path(alloc, b"Error: object lost: ", path, b" [500]\n")
+}
+
+// What is printed where the pattern of a number protects the branch.
+fn protected_text(alloc: Global, number: usize) -> Result<LineText, NoMemory>
+    ensures { IfOk result (λ printed. (names : CallNames)
+        → text_bytes printed ≡ refusal_text names (StepFault.Protected number)) }
+{
+    let mut printed = Vec::new(alloc);
+    printed.extend_from_slice(b"Error: branch protected by rule ")?;
+    let number = number.to_string(alloc)?;
+    printed.extend_from_slice(number.as_bytes())?;
+    printed.extend_from_slice(b" [403]\n")?;
+    Ok(LineText::Own(printed))
+}
+
+/// What is printed of a refused call on the branch, where its refusal isn't that nothing stands at the path.
+pub fn step_refusal_text(alloc: Global, fault: &StepFault) -> Result<LineText, NoMemory>
+    ensures { IfOk result (λ printed. (fault.now ≢ StepFault.NoMemory)
+        × ((path : List ℕ) → fault.now ≢ StepFault.NoPath
+        → text_bytes printed ≡ refusal_text (batch_names path) fault.now)) }
+{
+    match fault {
+        StepFault::Stopped => Ok(LineText::Fixed(b"Error: store stopped [503]\n")),
+        StepFault::HistoryFull => Ok(LineText::Fixed(b"Error: history full [503]\n")),
+        StepFault::NoRepo => Ok(LineText::Fixed(
+            b"Error: repository not found: quickstart [404]\n",
+        )),
+        StepFault::NoRef => Ok(LineText::Fixed(b"Error: reference not found: main [404]\n")),
+        StepFault::Protected(number) => protected_text(alloc, *number),
+        StepFault::NoMemory => Err(NoMemory),
+        StepFault::NoParent(_)
+        | StepFault::NoNote
+        | StepFault::Exists
+        | StepFault::DefaultBranch
+        | StepFault::Changed { .. }
+        | StepFault::NoPath
+        | StepFault::Expired(_)
+        | StepFault::NameClash { .. }
+        | StepFault::StoreFault => Ok(LineText::Fixed(NOT_BUILT)),
+    }
+}
+
+/// What is printed of a refused call on the branch.
+pub fn refusal_text(alloc: Global, path: &Path, fault: &StepFault) -> Result<LineText, NoMemory>
+    ensures { IfOk result (λ printed. (fault.now ≢ StepFault.NoMemory)
+        × (text_bytes printed ≡ refusal_text (batch_names path.now) fault.now)) }
+{
+    match fault {
+        StepFault::NoPath => no_path_text(alloc, path),
+        _ => step_refusal_text(alloc, fault),
+    }
+}

@@ -1,5 +1,0 @@
-use Rattle.lake_program.proofs.SessionLemmas.{only_memory}
-use Rattle.lake_program.proofs.session.read_branch.Goals as goal
-
-pub memory_alone-requires : goal.memory_alone-requires
-memory_alone-requires c = only_memory _ c.in-Err.fault c.in-Err.ensures
