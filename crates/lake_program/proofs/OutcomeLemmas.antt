@@ -91,7 +91,7 @@ module _ (timing : Timing) (limit : ℕ) (t0 t1 : Trace) (input : List ℕ) (sou
 
   -- what is said of a batch by the status of its effects
   whole_ends : (extent : Extent) (starved done : Bool) → IsWhole limit input extent (status_of starved done) → EndsWith timing limit t0 t1 input source extent (status_of starved done)
-  whole_ends extent true done whole = inl whole
+  whole_ends extent true done whole = whole
   whole_ends extent false true whole = whole
   whole_ends extent false false whole = whole
 
@@ -153,15 +153,3 @@ pub outcome_too_long_cut : (timing : Timing) (limit : ℕ) (t0 t1 : Trace) (inpu
 outcome_too_long_cut timing limit t0 t1 input source more cut =
     let test = beyond_test (length input) limit more in
     outcome_end_cut timing limit t0 t1 input source (ended_lines (take limit input)) too_long_text (sym (lines_beyond limit input test)) (ap (λ b. cond b [] too_long_text) (sym test)) cut
-
--- no memory was found before the first byte was read
-pub outcome_none : (timing : Timing) (limit : ℕ) (trace : Trace) (input : List ℕ) (source : Option (List ℕ)) → source ≡ Some input → Outcome timing limit trace trace input source OutOfMemory
-outcome_none timing limit trace input source told = record {
-  extent = record { served = []; unserved = batch_lines limit input; effects = []; out = [] };
-  lines = refl;
-  each = tt;
-  took = moments_none timing trace.readings;
-  wrote = wrote_none trace.written;
-  front = (_, refl);
-  ended = inr (record { same = refl; left = told });
-}

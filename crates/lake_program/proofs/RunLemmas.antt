@@ -13,8 +13,8 @@ use Rattle.lake_program.specs.Status.{ShowsUsage}
 use Rattle.lake_program.specs.Streams.{Trace, Streams, trace_of}
 use Rattle.lake_program.specs.Lines.{batch_lines}
 use Rattle.batch_lines.specs.Batch.{fresh_lake, AreServed}
-use Rattle.lake_program.specs.Outcome.{IsWhole, IsUnbegun}
-use Rattle.lake_program.specs.Run.{IsBatchRun, IsUnbegunRun, Run}
+use Rattle.lake_program.specs.Outcome.{IsWhole}
+use Rattle.lake_program.specs.Run.{IsBatchRun, IsUnbegun, Run}
 use Rattle.lake_program.proofs.ReadingLemmas.{told_then, told_all}
 
 pub sink_cause : (end : End) (a b c : ℕ) (status : ExitStatus) → (a ≤ b) × (end ≡ SinkFailed → Rose a b) → (b ≤ c) × (status ≡ exit.SinkFailed → end ≢ SinkFailed → Rose b c)
@@ -48,27 +48,15 @@ whole_run timing input before after status o whole =
       tells = whole.tells;
     }) o.wrote
 
-unbegun_run : (input : List ℕ) (before after : Streams) → before.left ≡ Some input → IsUnbegun (trace_of before) (trace_of after) input after.left → IsUnbegunRun before after exit.OutOfMemory
-unbegun_run input before after told is = record {
-  starved = refl;
-  left = is.left ∙ sym told;
-  written = ap (λ (t : Trace). t.written) is.same;
-  readings = ap (λ (t : Trace). t.readings) is.same;
-}
-
 -- what a run without a failed stream came to
 quiet_run : (timing : Timing) (input : List ℕ) (before after : Streams) (status : ExitStatus) → before.left ≡ Some input → (status ≡ exit.SourceFailed → ⊥) → (status ≡ exit.SinkFailed → ⊥)
-    → Outcome timing 1073741824 (trace_of before) (trace_of after) input after.left status → IfSome before.written (λ written. IsBatchRun timing input written before after status ⊎ IsUnbegunRun before after status)
+    → Outcome timing 1073741824 (trace_of before) (trace_of after) input after.left status → IfSome before.written (λ written. IsBatchRun timing input written before after status ⊎ IsUnbegun before after status)
 quiet_run timing input before after exit.Done told source sink o = told_then before.written _ _ (λ written r. inl r) (whole_run timing input before after exit.Done o o.ended)
 quiet_run timing input before after exit.Refused told source sink o = told_then before.written _ _ (λ written r. inl r) (whole_run timing input before after exit.Refused o o.ended)
 quiet_run timing input before after exit.Usage told source sink o = absurd o.ended
 quiet_run timing input before after exit.SourceFailed told source sink o = absurd (source refl)
 quiet_run timing input before after exit.SinkFailed told source sink o = absurd (sink refl)
-quiet_run timing input before after exit.OutOfMemory told source sink o =
-    elim o.ended [
-      | inl whole ↦ told_then before.written _ _ (λ written r. inl r) (whole_run timing input before after exit.OutOfMemory o whole)
-      | inr is ↦ told_all before.written _ (λ written. inr (unbegun_run input before after told is))
-    ]
+quiet_run timing input before after exit.OutOfMemory told source sink o = told_then before.written _ _ (λ written r. inl r) (whole_run timing input before after exit.OutOfMemory o o.ended)
 
 -- where the source tells what is left of it
 pub told_run : (left : Option (List ℕ)) (P Q : List ℕ → Type 0) → ((input : List ℕ) → left ≡ Some input → P input → Q input) → IfSome left P → IfSome left Q
@@ -77,13 +65,16 @@ told_run (Some input) P Q f p = f input refl p
 
 -- a batch was served
 pub run_of_batch : (words : List (List ℕ)) (before after : Streams) (timing : Timing) (status : ExitStatus) → timing_of words ≡ Some timing → status ≢ exit.Usage
-    → IfSome before.left (λ input. Outcome timing 1073741824 (trace_of before) (trace_of after) input after.left status)
+    → IsUnbegun before after status ⊎ IfSome before.left (λ input. Outcome timing 1073741824 (trace_of before) (trace_of after) input after.left status)
     → (before.source_faults ≤ after.source_faults) × (status ≡ exit.SourceFailed → Rose before.source_faults after.source_faults)
     → (before.sink_faults ≤ after.sink_faults) × (status ≡ exit.SinkFailed → Rose before.sink_faults after.sink_faults)
     → before.errors_faults ≤ after.errors_faults → Run words before after status
 run_of_batch words before after timing status is no_usage outcome source sink errors = record {
-  batch = λ quiet. for_timing (timing_of words) timing is _ (told_run before.left _ _ (λ input told o. quiet_run timing input before after status told
-      (λ failed. quiet_rose before.source_faults after.source_faults quiet.source (source.1 failed)) (λ failed. quiet_rose before.sink_faults after.sink_faults quiet.sink (sink.1 failed)) o) outcome);
+  batch = λ quiet. for_timing (timing_of words) timing is _ (⊎_elim
+      (λ unbegun. told_all before.left _ (λ input. told_all before.written _ (λ written. inr unbegun)))
+      (λ some. told_run before.left _ _ (λ input told o. quiet_run timing input before after status told
+      (λ failed. quiet_rose before.source_faults after.source_faults quiet.source (source.1 failed)) (λ failed. quiet_rose before.sink_faults after.sink_faults quiet.sink (sink.1 failed)) o) some)
+      outcome);
   prefix = for_timing (timing_of words) timing is _ outcome;
   usage = λ none. absurd (has_timing (timing_of words) timing is none);
   usage_only = λ usage. absurd (no_usage usage);

@@ -1,5 +1,5 @@
 -- What became of a whole batch.
-use Rattle.std.specs.Prelude.{◌≡◌, ◌≤◌, ◌&&◌, ◌⊎◌, ℕ, nat_le, List, [], ◌++◌, length, Option, Some}
+use Rattle.std.specs.Prelude.{◌≡◌, ◌≤◌, ◌&&◌, ℕ, nat_le, List, [], ◌++◌, length, Option, Some}
 use Rattle.batch_session.specs.declared.timing.Timing.{Timing}
 use Rattle.lake_program.specs.declared.status.ExitStatus.{ExitStatus}
 use Rattle.lake_program.specs.declared.status.ExitStatus.TheVariants.{Done, Refused, Usage}
@@ -41,11 +41,6 @@ pub record IsGiven (limit : ℕ) (input : List ℕ) (source : Option (List ℕ))
   pub lines : extent.served ≡ ended_lines given
   pub text : extent.out ≡ text_of extent.effects
 
--- Nothing was read and nothing written.
-pub record IsUnbegun (before after : Trace) (input : List ℕ) (source : Option (List ℕ)) : Type 0 where
-  pub same : after ≡ before
-  pub left : source ≡ Some input
-
 module _ (timing : Timing) (limit : ℕ) (before after : Trace) (input : List ℕ) (source : Option (List ℕ)) where
   -- how much was served and written, by the status
   abbrev pub EndsWith : Extent → ExitStatus → Type 0
@@ -54,7 +49,7 @@ module _ (timing : Timing) (limit : ℕ) (before after : Trace) (input : List �
   EndsWith extent Usage = ⊥
   EndsWith extent SourceFailed = IsGiven limit input source extent
   EndsWith extent SinkFailed = Unit {0}
-  EndsWith extent OutOfMemory = IsWhole limit input extent OutOfMemory ⊎ IsUnbegun before after input source
+  EndsWith extent OutOfMemory = IsWhole limit input extent OutOfMemory
 
   -- What became of the batch of an input, of which this is left in its source.
   pub record Outcome (status : ExitStatus) : Type 0 where

@@ -32,22 +32,20 @@ pub record IsBatchRun (timing : Timing) (input written : List ℕ) (before after
   -- 7 where memory ran out at a line, else 0 where each was done and the batch isn't too long, else 1
   pub tells : status ≡ batch_status 1073741824 input effects
 
--- memory ran out before the first line: nothing was read and nothing written
-pub record IsUnbegunRun (before after : Streams) (status : ExitStatus) : Type 0 where
+-- memory ran out before the first line: nothing was tried, so that no count of faults rose either
+pub record IsUnbegun (before after : Streams) (status : ExitStatus) : Type 0 where
   pub starved : status ≡ OutOfMemory
-  pub left : after.left ≡ before.left
-  pub written : after.written ≡ before.written
-  pub readings : after.readings ≡ before.readings
+  pub same : after ≡ before
 
 -- what is promised of a run with these words that ended so
 pub record Run (words : List (List ℕ)) (before after : Streams) (status : ExitStatus) : Type 0 where
   -- Where no stream failed, each line was served, and the sink got just what they show.
   pub batch : AreQuiet before after
       → IfSome (timing_of words) (λ timing. IfSome before.left (λ input. IfSome before.written (λ written.
-      IsBatchRun timing input written before after status ⊎ IsUnbegunRun before after status)))
+      IsBatchRun timing input written before after status ⊎ IsUnbegun before after status)))
   -- Whatever failed, the sink got a front of what the lines show that were served, and all of it where no stream
   -- failed or the source did.
-  pub prefix : IfSome (timing_of words) (λ timing. IfSome before.left (λ input.
+  pub prefix : IfSome (timing_of words) (λ timing. IsUnbegun before after status ⊎ IfSome before.left (λ input.
       Outcome timing 1073741824 (trace_of before) (trace_of after) input after.left status))
   -- Other words are a usage fault, which is shown on `errors`,
   pub usage : IsNone (timing_of words) → ShowsUsage before.errors after.errors status

@@ -96,7 +96,8 @@ pub fn serve_batch<S: Source, W: Sink, C: Clock>(
     clock: &mut C,
 ) -> ExitStatus
     requires { limit < 2 ^ 63 }
-    ensures outcome { IfSome (S.left source.old) (λ input.
+    ensures outcome { ((result ≡ ExitStatus.OutOfMemory) × (source.new ≡ source.old) × (sink.new ≡ sink.old)
+        × (clock.new ≡ clock.old)) ⊎ IfSome (S.left source.old) (λ input.
         Outcome timing limit
         (record { readings = C.readings clock.old; written = W.written sink.old })
         (record { readings = C.readings clock.new; written = W.written sink.new })

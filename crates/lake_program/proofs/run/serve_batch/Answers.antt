@@ -1,25 +1,18 @@
-use Rattle.std.proofs.Common.{sym, ◌∙◌, subst}
+use Rattle.std.proofs.Common.{inl, inr, refl, sym, ◌∙◌, subst}
 use Rattle.batch_session.specs.declared.timing.Timing.{Timing}
 use Rattle.lake_program.specs.ServerView.{progress_of}
 use Rattle.lake_program.specs.Outcome.{Outcome}
 use Rattle.lake_program.specs.Reading.{Ends}
 use Rattle.lake_program.specs.Streams.{Trace}
-use Rattle.lake_program.proofs.OutcomeLemmas.{outcome_none}
-use Rattle.lake_program.proofs.ReadingLemmas.{told_then, told_all}
-use Rattle.lake_program.proofs.RunLemmas.{told_run, sink_cause}
+use Rattle.lake_program.proofs.ReadingLemmas.{told_then}
+use Rattle.lake_program.proofs.RunLemmas.{sink_cause}
 use Rattle.lake_program.proofs.run.serve_batch.Goals as goal
 
 pub returns-in_default-clause-outcome : goal.returns-in_default-clause-outcome
-returns-in_default-clause-outcome g c =
-    let source = g.S.Source.left c.args.source.now in
-    told_run source (λ _. Unit {0}) _ (λ input told _. outcome_none c.args.timing c.args.limit (record { readings = g.C.Clock.readings c.args.clock.now; written = g.W.Sink.written c.args.sink.now }) input source told)
-    (told_all source (λ _. Unit {0}) (λ _. tt))
+returns-in_default-clause-outcome g c = inl (refl, refl, refl, refl)
 
 pub returns-in_default-room_of-clause-outcome : goal.returns-in_default-room_of-clause-outcome
-returns-in_default-room_of-clause-outcome g c =
-    let source = g.S.Source.left c.args.source.now in
-    told_run source (λ _. Unit {0}) _ (λ input told _. outcome_none c.args.timing c.args.limit (record { readings = g.C.Clock.readings c.args.clock.now; written = g.W.Sink.written c.args.sink.now }) input source told)
-    (told_all source (λ _. Unit {0}) (λ _. tt))
+returns-in_default-room_of-clause-outcome g c = inl (refl, refl, refl, refl)
 
 pub returns-clause-outcome : goal.returns-clause-outcome
 returns-clause-outcome g c =
@@ -28,10 +21,10 @@ returns-clause-outcome g c =
     let t2 : Trace = record { readings = g.C.Clock.readings c.finish.new.clock; written = g.W.Sink.written c.finish.new.sink } in
     let left = g.S.Source.left c.read-end.new.source in
     let batch = c.read-end.new.self in
-    told_then (g.S.Source.left c.args.source.now) _ _ (λ input ends.
+    inr (told_then (g.S.Source.left c.args.source.now) _ _ (λ input ends.
     let timed = subst (λ (t : Timing). Ends t t0 t1 (progress_of batch.server) batch.line c.args.limit input left c.read-end.result) (sym c.read-end.ensures.timing) ends in
     subst (λ (t : Timing). Outcome t c.args.limit t0 t2 input left c.finish.result) (c.read-end.ensures.timing ∙ c.in-Ok.ensures.timing)
-    (c.finish.ensures.outcome t0 c.args.limit input left timed)) c.read-end.ensures.ends
+    (c.finish.ensures.outcome t0 c.args.limit input left timed)) c.read-end.ensures.ends)
 
 pub returns-clause-sink : goal.returns-clause-sink
 returns-clause-sink g c =
