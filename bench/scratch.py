@@ -31,8 +31,8 @@ def below(names):
     return found
 
 
-def built(folder, name, program, stands_on):
-    """The path of a program, proved and built in a scratch repository in the folder."""
+def built(folder, name, program, stands_on, modules=None):
+    """The path of a program, proved and built in a scratch repository in the folder; its modules by name."""
     known = lines()
     with open(os.path.join(folder, 'crates.txt'), 'w') as file:
         for crate in below(stands_on):
@@ -46,8 +46,9 @@ def built(folder, name, program, stands_on):
         file.write(f'{name}: {" ".join(stands_on)}\n')
     shutil.copy(os.path.join(HERE, 'HANDLES'), os.path.join(folder, 'HANDLES'))
     os.makedirs(os.path.join(folder, 'crates', name, 'src'), exist_ok=True)
-    with open(os.path.join(folder, 'crates', name, 'src/main.rt'), 'w') as file:
-        file.write(program)
+    for part, text in {'main': program, **(modules or {})}.items():
+        with open(os.path.join(folder, 'crates', name, 'src', part + '.rt'), 'w') as file:
+            file.write(text)
     made = subprocess.run(['rt', 'run'], cwd=os.path.join(folder, 'crates', name), stdin=subprocess.DEVNULL,
                           stdout=subprocess.PIPE, stderr=subprocess.STDOUT)
     path = os.path.join(folder, 'crates', name, 'out', name)
