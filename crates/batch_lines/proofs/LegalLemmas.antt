@@ -57,18 +57,23 @@ module _ (laws : StepLaws) where
       → request.call ≡ Upload u → IsLegal s (upload_effect s request u a b).entries
   legal_upload s request u (Some fault) b first second is = tt
   legal_upload s request u None (Some fault) first second is =
-      let take : HistoryEntry = ticket_entry s request.by u in
-      (laws.take s request.by u.repo u.branch first,
-      legal_drops (after s take) request.by s.next_number (is_none (first_cause (causes_of_change (after s take)))) refl (ticket_tied s request.by s.next_number))
+      let take : HistoryEntry = ticket_entry s request.by u in (
+        laws.take s request.by u.repo u.branch first,
+        legal_drops (after s take) request.by s.next_number (is_none (first_cause (causes_of_change (after s take)))) refl (ticket_tied s request.by s.next_number),
+      )
   legal_upload s request u None None first second is =
       let take : HistoryEntry = ticket_entry s request.by u in
       let write = (both_none _ _ second).1 in
-      subst (λ c. IsLegal s (upload_effect s (record request { call = c }) u None None).entries) (sym is)
-      (laws.take s request.by u.repo u.branch first,
-      (laws.stage (after s take) fresh_versions request.by u.repo u.branch (branch_version fresh_versions u.repo u.branch) u.path
-      (Put (upload_entry u request.moment s.next_number))
-      (current_causes (after s take) fresh_versions u.repo u.branch (branch_version fresh_versions u.repo u.branch) refl ∙ write)
-      (ticket_tied s request.by s.next_number), tt))
+      subst (λ c. IsLegal s (upload_effect s (record request { call = c }) u None None).entries) (sym is) (
+        laws.take s request.by u.repo u.branch first,
+        (
+          laws.stage (after s take) fresh_versions request.by u.repo u.branch (branch_version fresh_versions u.repo u.branch) u.path
+              (Put (upload_entry u request.moment s.next_number))
+              (current_causes (after s take) fresh_versions u.repo u.branch (branch_version fresh_versions u.repo u.branch) refl ∙ write)
+              (ticket_tied s request.by s.next_number),
+          tt,
+        ),
+      )
 
   legal_effect : (s : State) (by : By) (moment : ℕ) (call : Call) → IsLegal s (effect s (record { call = call; moment = moment; by = by })).entries
   legal_effect s by moment (Upload u) = legal_upload s (record { call = Upload u; moment = moment; by = by }) u (ticket_refusal s u) (stage_refusal s by u) refl refl refl

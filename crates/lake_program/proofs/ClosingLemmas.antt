@@ -10,7 +10,7 @@ use Rattle.lake_program.specs.Front.{Wrote, WroteFront, Shows}
 use Rattle.lake_program.specs.Lines.{ended_lines, last_part}
 use Rattle.batch_session.specs.Moments.{AreMoments}
 use Rattle.lake_program.specs.Progress.{Progress}
-use Rattle.lake_program.specs.Feeding.{line_room, HasServed, HasWritten, IsCutOff, Finishes}
+use Rattle.lake_program.specs.Feeding.{line_room, HasServed, HasWritten, IsBrokenOff, Finishes}
 use Rattle.lake_program.specs.Serving.{Serves}
 use Rattle.lake_program.specs.Streams.{Trace}
 use Rattle.lake_program.proofs.BatchLemmas.{served_same}
@@ -46,7 +46,7 @@ module _ (timing : Timing) (t0 t1 : Trace) (all : List (List ℕ)) (effects : Li
     starved = starved;
   }
 
-  cut_all : (text : List ℕ) (written : Option (List ℕ)) → Shows t0.written t1.written [] (text_of effects ++ text) still → WroteFront t1.written written still → IsCutOff timing t0 (with_written t1 written) all text
+  cut_all : (text : List ℕ) (written : Option (List ℕ)) → Shows t0.written t1.written [] (text_of effects ++ text) still → WroteFront t1.written written still → IsBrokenOff timing t0 (with_written t1 written) all text
   cut_all text written shown part = record {
     effects = effects;
     each = each;
@@ -86,7 +86,7 @@ closed_too_long timing t0 t1 input text old new kept between written still resul
 
 -- showing that failed
 pub cut_too_long : (timing : Timing) (t0 t1 : Trace) (input text : List ℕ) (old : Progress) (kept : List ℕ) (written : Option (List ℕ)) → HasServed timing t0 t1 input old kept
-    → WroteFront t1.written written (old.pending ++ text) → IsCutOff timing t0 (with_written t1 written) (ended_lines input) text
+    → WroteFront t1.written written (old.pending ++ text) → IsBrokenOff timing t0 (with_written t1 written) (ended_lines input) text
 cut_too_long timing t0 t1 input text old kept written served part = record {
   effects = served.effects;
   each = served.each;
@@ -123,9 +123,9 @@ module _ (timing : Timing) (t0 t1 t2 : Trace) (input : List ℕ) (old new : Prog
         (shows_no_more t0.written t2.written (text_of effects) new.pending (shown_more timing t0 t1 t2 input old new kept kept served serves.effect new.pending serves.shown)) wrote part
 
   -- showing it failed
-  pub cut_last : (failed : Failed) → Serves timing t1 t2 old new kept (Err failed) → IsCutOff timing t0 t2 (lines input) []
+  pub cut_last : (failed : Failed) → Serves timing t1 t2 old new kept (Err failed) → IsBrokenOff timing t0 t2 (lines input) []
   cut_last failed serves =
-      subst (λ (l : List (List ℕ)). IsCutOff timing t0 t2 l []) all_lines (cut_line timing t0 t1 t2 input old new kept kept served failed serves (last_part input) (last_is serves))
+      subst (λ (l : List (List ℕ)). IsBrokenOff timing t0 t2 l []) all_lines (cut_line timing t0 t1 t2 input old new kept kept served failed serves (last_part input) (last_is serves))
     where
       last_is : (serves : Serves timing t1 t2 old new kept (Err failed)) → IsLineServed (last_part input) old.lake serves.effect
       last_is serves =

@@ -7,7 +7,7 @@ use Rattle.lake_base.specs.declared.outside.Failed.{Failed}
 use Rattle.batch_session.specs.declared.timing.Timing.{Timing}
 use Rattle.batch_lines.specs.Batch.{Lake, LineEffect, fresh_lake, IsLineServed, AreServed}
 use Rattle.lake_program.specs.Effects.{text_of, moments_of}
-use Rattle.lake_program.specs.Feeding.{line_room, HasServed, IsCutOff, Feeds}
+use Rattle.lake_program.specs.Feeding.{line_room, HasServed, IsBrokenOff, Feeds}
 use Rattle.lake_program.specs.Front.{WroteFront, Shows}
 use Rattle.lake_program.specs.Lines.{ended_lines, last_part}
 use Rattle.batch_session.specs.Moments.{AreMoments}
@@ -91,7 +91,7 @@ module _ (timing : Timing) (t0 t1 t2 : Trace) (given : List ℕ) (old new : Prog
 
   -- writing failed
   pub cut_line : (failed : Failed) (serves : Serves timing t1 t2 old new line (Err failed)) → (shown : List ℕ) → IsLineServed shown old.lake serves.effect
-      → IsCutOff timing t0 t2 (ended_lines given ++ shown ∷ []) []
+      → IsBrokenOff timing t0 t2 (ended_lines given ++ shown ∷ []) []
   cut_line failed serves shown is = record {
     effects = served.effects ++ serves.effect ∷ [];
     each = each_more shown serves.effect is;
@@ -120,7 +120,7 @@ feeds_line timing t0 t1 t2 given old new kept line cleared byte (Err failed) fee
     let ended : ended_lines (given ++ byte ∷ []) ≡ ended_lines given ++ strip_carriage_return (last_part given) ∷ [] = ap (λ b. ended_lines (given ++ b ∷ [])) feed ∙ ended_by_feed given in (
       byte ∷ [],
       front_of_self (byte ∷ []),
-      subst (λ (l : List (List ℕ)). IsCutOff timing t0 t2 l []) (sym ended)
+      subst (λ (l : List (List ℕ)). IsBrokenOff timing t0 t2 l []) (sym ended)
           (cut_line timing t0 t1 t2 given old new kept line served failed serves (strip_carriage_return (last_part given))
           (ended_served kept line (last_part given) old.lake serves.effect served.under_way is serves.served)),
     )
@@ -137,5 +137,5 @@ cut_at timing t0 t2 given chunk i new kept failed inside cut = (
   take i chunk ++ cut.0,
   front_trans (take i chunk ++ cut.0) (take i chunk ++ get_or chunk i 0 ∷ []) chunk (front_after (take i chunk) cut.0 (get_or chunk i 0 ∷ []) cut.1)
       (drop (i + 1) chunk, ap (λ (l : List ℕ). l ++ drop (i + 1) chunk) (sym (take_more chunk i 0 inside)) ∙ take-append-drop (i + 1) chunk),
-  subst (λ (l : List ℕ). IsCutOff timing t0 t2 (ended_lines l) []) (append_assoc given (take i chunk) cut.0) cut.2,
+  subst (λ (l : List ℕ). IsBrokenOff timing t0 t2 (ended_lines l) []) (append_assoc given (take i chunk) cut.0) cut.2,
 )

@@ -11,7 +11,7 @@ use Rattle.lake_program.specs.Front.{IsPrefix}
 use Rattle.lake_program.specs.Lines.{ended_lines, batch_lines, end_text}
 use Rattle.batch_lines.specs.Text.{too_long_text}
 use Rattle.lake_program.specs.Progress.{Progress}
-use Rattle.lake_program.specs.Feeding.{HasWritten, IsCutOff}
+use Rattle.lake_program.specs.Feeding.{HasWritten, IsBrokenOff}
 use Rattle.lake_program.specs.Reading.{IsBroken}
 use Rattle.lake_program.specs.Status.{status_of}
 use Rattle.lake_program.specs.Outcome.{Extent, batch_status, IsWhole, EndsWith, Outcome}
@@ -52,7 +52,7 @@ first_lines limit input part front =
 
 module _ (timing : Timing) (limit : ℕ) (t0 t1 : Trace) (input : List ℕ) (source : Option (List ℕ)) where
   -- the sink failed before all lines were served
-  pub outcome_cut : (part : List ℕ) → IsPrefix part (take limit input) → IsCutOff timing t0 t1 (ended_lines part) [] → Outcome timing limit t0 t1 input source SinkFailed
+  pub outcome_cut : (part : List ℕ) → IsPrefix part (take limit input) → IsBrokenOff timing t0 t1 (ended_lines part) [] → Outcome timing limit t0 t1 input source SinkFailed
   outcome_cut part front cut =
       let more = first_lines limit input part front in
       record {
@@ -117,7 +117,7 @@ module _ (timing : Timing) (limit : ℕ) (t0 t1 : Trace) (input : List ℕ) (sou
       }
 
   -- all lines were served, and the sink failed at what was to be written last
-  pub outcome_end_cut : (all : List (List ℕ)) (text : List ℕ) → all ≡ batch_lines limit input → text ≡ end_text limit input [] → IsCutOff timing t0 t1 all text → Outcome timing limit t0 t1 input source SinkFailed
+  pub outcome_end_cut : (all : List (List ℕ)) (text : List ℕ) → all ≡ batch_lines limit input → text ≡ end_text limit input [] → IsBrokenOff timing t0 t1 all text → Outcome timing limit t0 t1 input source SinkFailed
   outcome_end_cut all text are is cut = record {
     extent = record { served = all; unserved = []; effects = cut.effects; out = cut.shown.out };
     lines = append-nil all ∙ are;
@@ -135,7 +135,7 @@ outcome_closed timing limit t0 t1 input source progress status within tells serv
     let test = within_test (length input) limit within in
     outcome_whole timing limit t0 t1 input source (lines input) [] progress true status (sym (lines_within limit input test)) (ap (λ b. cond b [] too_long_text) (sym test)) test tells served
 
-pub outcome_closing_cut : (timing : Timing) (limit : ℕ) (t0 t1 : Trace) (input : List ℕ) (source : Option (List ℕ)) → length input ≤ limit → IsCutOff timing t0 t1 (lines input) []
+pub outcome_closing_cut : (timing : Timing) (limit : ℕ) (t0 t1 : Trace) (input : List ℕ) (source : Option (List ℕ)) → length input ≤ limit → IsBrokenOff timing t0 t1 (lines input) []
     → Outcome timing limit t0 t1 input source SinkFailed
 outcome_closing_cut timing limit t0 t1 input source within cut =
     let test = within_test (length input) limit within in
@@ -149,7 +149,7 @@ outcome_too_long timing limit t0 t1 input source progress status more tells serv
     outcome_whole timing limit t0 t1 input source (ended_lines (take limit input)) too_long_text progress false status (sym (lines_beyond limit input test)) (ap (λ b. cond b [] too_long_text) (sym test)) test tells served
 
 pub outcome_too_long_cut : (timing : Timing) (limit : ℕ) (t0 t1 : Trace) (input : List ℕ) (source : Option (List ℕ)) → limit < length input
-    → IsCutOff timing t0 t1 (ended_lines (take limit input)) too_long_text → Outcome timing limit t0 t1 input source SinkFailed
+    → IsBrokenOff timing t0 t1 (ended_lines (take limit input)) too_long_text → Outcome timing limit t0 t1 input source SinkFailed
 outcome_too_long_cut timing limit t0 t1 input source more cut =
     let test = beyond_test (length input) limit more in
     outcome_end_cut timing limit t0 t1 input source (ended_lines (take limit input)) too_long_text (sym (lines_beyond limit input test)) (ap (λ b. cond b [] too_long_text) (sym test)) cut

@@ -9,7 +9,7 @@ use Rattle.lake_program.specs.Effects.{text_of}
 use Rattle.lake_program.specs.Front.{IsPrefix, Wrote, WroteFront}
 use Rattle.lake_program.specs.Lines.{ended_lines}
 use Rattle.lake_program.specs.Progress.{Progress, start}
-use Rattle.lake_program.specs.Feeding.{HasServed, HasWritten, IsCutOff, Feeds}
+use Rattle.lake_program.specs.Feeding.{HasServed, HasWritten, IsBrokenOff, Feeds}
 use Rattle.lake_program.specs.Reading.{Reaches, IsBroken}
 use Rattle.lake_program.specs.Streams.{Trace}
 use Rattle.lake_program.proofs.FrontLemmas.{front_after, front_trans, front_as, wrote_as, shows_cut, shows_written, shows_flushed, shows_all, wrote_none}
@@ -48,7 +48,7 @@ module _ (timing : Timing) (t0 t1 : Trace) (given : List ℕ) (progress : Progre
   }
 
   -- writing what was pending failed
-  pub cut_flush : (written : Option (List ℕ)) → WroteFront t1.written written progress.pending → IsCutOff timing t0 (with_written t1 written) (ended_lines given) []
+  pub cut_flush : (written : Option (List ℕ)) → WroteFront t1.written written progress.pending → IsBrokenOff timing t0 (with_written t1 written) (ended_lines given) []
   cut_flush written part = record {
     effects = served.effects;
     each = served.each;
@@ -108,7 +108,7 @@ module _ (timing : Timing) (t0 t1 : Trace) (progress : Progress) (kept input : L
 
   -- writing it failed
   pub flush_failed : (written : Option (List ℕ)) → WroteFront t1.written written progress.pending
-      → (part : List ℕ) × IsPrefix part (take limit input) × IsCutOff timing t0 (with_written t1 written) (ended_lines part) []
+      → (part : List ℕ) × IsPrefix part (take limit input) × IsBrokenOff timing t0 (with_written t1 written) (ended_lines part) []
   flush_failed written part = (
     reached.given,
     front_within limit reached.given reached.rest input reached.whole (omega (arith, reached.count)),
@@ -174,7 +174,7 @@ module _ (timing : Timing) (t0 t1 : Trace) (mid : Progress) (kept : List ℕ) (t
 
     -- the sink failed at a piece
     pub sink_failed : (k : ℕ) (failed : Failed) → k ≤ n → total + k ≤ limit → chunk ≡ take k room → Feeds timing t0 t2 reached.given chunk new last (Err failed)
-        → (part : List ℕ) × IsPrefix part (take limit input) × IsCutOff timing t0 t2 (ended_lines part) []
+        → (part : List ℕ) × IsPrefix part (take limit input) × IsBrokenOff timing t0 t2 (ended_lines part) []
     sink_failed k failed part within is cut =
         let piece : chunk ≡ take k reached.rest = is ∙ fed_more k part in (
           reached.given ++ cut.0,

@@ -37,7 +37,7 @@ module _ (timing : Timing) (before now : Trace) where
     pub starved : progress.starved ≡ any_starved effects
 
   -- These lines were served, and a front was written of what they showed and of the text behind it.
-  pub record IsCutOff (lines : List (List ℕ)) (text : List ℕ) : Type 0 where
+  pub record IsBrokenOff (lines : List (List ℕ)) (text : List ℕ) : Type 0 where
     pub effects : List LineEffect
     pub each : AreServed lines fresh_lake effects
     pub took : AreMoments timing before.readings now.readings (moments_of effects)
@@ -47,9 +47,9 @@ module _ (timing : Timing) (before now : Trace) where
   abbrev pub Feeds : List ℕ → List ℕ → Progress → List ℕ → Result (Unit {0}) Failed → Type 0
   Feeds given chunk progress kept (Ok _) = HasServed (given ++ chunk) progress kept
   Feeds given chunk progress kept (Err _) =
-      (part : List ℕ) × IsPrefix part chunk × IsCutOff (ended_lines (given ++ part)) []
+      (part : List ℕ) × IsPrefix part chunk × IsBrokenOff (ended_lines (given ++ part)) []
 
   -- A batch of these lines was ended by this text, all of which was written, or a front where writing failed.
   abbrev pub Finishes : List (List ℕ) → List ℕ → Progress → Result (Unit {0}) Failed → Type 0
   Finishes lines text progress (Ok _) = HasWritten lines text progress
-  Finishes lines text progress (Err _) = IsCutOff lines text
+  Finishes lines text progress (Err _) = IsBrokenOff lines text

@@ -4,7 +4,7 @@ use Rattle.batch_session.specs.declared.timing.Timing.{Timing}
 use Rattle.lake_program.specs.declared.batch.End.{End}
 use Rattle.lake_program.specs.declared.batch.End.TheVariants.{Source, TooLong, SourceFailed, SinkFailed}
 use Rattle.lake_program.specs.Front.{IsPrefix}
-use Rattle.lake_program.specs.Feeding.{HasServed, HasWritten, IsCutOff}
+use Rattle.lake_program.specs.Feeding.{HasServed, HasWritten, IsBrokenOff}
 use Rattle.lake_program.specs.Lines.{ended_lines}
 use Rattle.lake_program.specs.Progress.{Progress}
 use Rattle.lake_program.specs.Streams.{Trace}
@@ -34,4 +34,4 @@ module _ (timing : Timing) (before now : Trace) (progress : Progress) (kept : Li
   Ends limit input left TooLong = (limit < length input) × HasServed timing before now (take limit input) progress kept
   Ends limit input left SourceFailed = IsBroken limit input left
   Ends limit input left SinkFailed =
-      (part : List ℕ) × IsPrefix part (take limit input) × IsCutOff timing before now (ended_lines part) []
+      (part : List ℕ) × IsPrefix part (take limit input) × IsBrokenOff timing before now (ended_lines part) []

@@ -13,11 +13,10 @@ use Rattle.lake_program.specs.Outcome.{Outcome, batch_status}
 use Rattle.lake_program.specs.Status.{status_number, ShowsUsage}
 use Rattle.lake_program.specs.Streams.{Streams, trace_of}
 
--- no stream failed
+-- neither the source nor the sink failed
 pub record AreQuiet (before after : Streams) : Type 0 where
   pub source : Quiet before.source_faults after.source_faults
   pub sink : Quiet before.sink_faults after.sink_faults
-  pub errors : Quiet before.errors_faults after.errors_faults
 
 -- a run in which each line of this input was served, after this was written
 pub record IsBatchRun (timing : Timing) (input written : List ℕ) (before after : Streams)
@@ -39,7 +38,7 @@ pub record IsUnbegun (before after : Streams) (status : ExitStatus) : Type 0 whe
 
 -- what is promised of a run with these words that ended so
 pub record Run (words : List (List ℕ)) (before after : Streams) (status : ExitStatus) : Type 0 where
-  -- Where no stream failed, each line was served, and the sink got just what they show.
+  -- Where the source and the sink didn't fail, each line was served, and the sink got just what they show.
   pub batch : AreQuiet before after
       → IfSome (timing_of words) (λ timing. IfSome before.left (λ input. IfSome before.written (λ written.
       IsBatchRun timing input written before after status ⊎ IsUnbegun before after status)))

@@ -1,8 +1,8 @@
 //! Batches: the source is read piece by piece and cut into lines, each of which is served.
 ghost use Rattle.std.specs.Prelude.{◌≡◌, ◌+◌, ◌≤◌, ◌<◌, ◌^◌, ◌≢◌, ◌↔◌, ◌∷◌, []};
-ghost use Rattle.std.specs.Prelude.{ℕ, List, Option, IfOk, IfSome, length};
+ghost use Rattle.std.specs.Prelude.{ℕ, List, Option, IfOk, IfSome, OnErr, length};
 ghost use Rattle.std.specs.Str.Lines.{lines};
-ghost use Rattle.lake_base.specs.Outside.{HasCause, Rose};
+ghost use Rattle.lake_base.specs.Outside.{HasCause, Reads, Rose};
 ghost use Rattle.batch_lines.specs.Text.{too_long_text};
 ghost use Rattle.lake_program.specs.Streams.{Trace};
 ghost use Rattle.lake_program.specs.Lines.{ended_lines};
@@ -10,6 +10,7 @@ ghost use Rattle.lake_program.specs.Progress.{start};
 ghost use Rattle.lake_program.specs.Feeding.{HasServed, Feeds, Finishes};
 
 use crate::line_buffer::LineBuffer;
+use crate::output::PendingOutput;
 use crate::serving::LineServer;
 use crate::status::ExitStatus;
 use batch_session::text::TOO_LONG;
@@ -139,7 +140,7 @@ impl Batch {
                 Ok(()) => {}
                 Err(_) => return End::SinkFailed,
             }
-            let count = match source.read(room) {
+            let count = match read_piece(source, room, &self.server.output) {
                 Ok(count) => count,
                 Err(_) => return End::SourceFailed,
             };
@@ -229,4 +230,22 @@ impl Batch {
             End::SinkFailed => ExitStatus::SinkFailed,
         }
     }
+}
+
+// Reads a piece of the source. All that lines showed was written before, so that nobody waits for it while the source
+// does.
+fn read_piece<S: Source>(
+    source: &mut S,
+    room: &mut [u8],
+    pending: &PendingOutput,
+) -> Result<usize, Failed>
+    requires { pending.now ≡ [] }
+    ensures within { IfOk result (λ n. n ≤ length room.old) }
+    ensures reads { IfOk result (λ n. IfSome (S.left source.old)
+        (λ bytes. Reads bytes (S.left source.new) room.old room.new n)) }
+    ensures failed { OnErr result (S.left source.new ≡ S.left source.old) }
+    ensures cause { HasCause (S.faults source.old) (S.faults source.new) result }
+{
+    let _ = pending;
+    source.read(room)
 }

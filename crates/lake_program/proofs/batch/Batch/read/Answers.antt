@@ -29,17 +29,17 @@ reading-preserved g c =
     let new = c.feed-in-reading.new.self in
     let piece = c.split_at-in-reading.result.0.now in
     let is = c.split_at-in-reading.ensures.front in
-    let enough : c.reading.total + c.in-Ok-read.count ≤ c.args.limit = omega (arith, c.if-count-allowed.false, c.reading.invariant.within) in
+    let enough : c.reading.total + c.in-Ok-read_piece.count ≤ c.args.limit = omega (arith, c.if-count-allowed.false, c.reading.invariant.within) in
     record {
       reached = told_then (g.S.Source.left c.args.source.now) _ _ (λ input reached.
           let ready = reached_flushed timing t0 t1 now c.reading.self.line input (g.S.Source.left c.reading.source) c.reading.total c.args.limit c.reading.invariant.within reached (g.W.Sink.written c.flush.new.sink) c.flush.new.self c.in-Ok.ensures.none c.in-Ok.ensures.all in
           let fed = feeds_as c.reading.self.server.timing timing c.reading.invariant.timing t0 flushed t2 ready.given piece mid (progress_of new.server) c.reading.self.line new.line (Ok tt) c.in-Ok-feed-2.ensures.feeds ready.served in
-          reached_more timing t0 flushed mid c.reading.self.line c.reading.total c.in-Ok-read.count (g.S.Source.left c.reading.source) (g.S.Source.left c.read.new.self) c.reading.room c.read.new.room input c.args.limit c.reading.invariant.within ready c.in-Ok-read.ensures.reads t2 (progress_of new.server) new.line piece is fed) c.reading.invariant.reached;
+          reached_more timing t0 flushed mid c.reading.self.line c.reading.total c.in-Ok-read_piece.count (g.S.Source.left c.reading.source) (g.S.Source.left c.read_piece.new.source) c.reading.room c.read_piece.new.room input c.args.limit c.reading.invariant.within ready c.in-Ok-read_piece.ensures.reads t2 (progress_of new.server) new.line piece is fed) c.reading.invariant.reached;
       within = enough;
       room = omega (arith, c.reading.invariant.room, c.reading.auto.room, c.requires.room);
       timing = c.in-Ok-feed-2.ensures.timing ∙ c.reading.invariant.timing;
       calls = omega (arith, c.in-Ok-feed-2.ensures.calls, c.reading.invariant.calls);
-      source = omega (arith, c.in-Ok-read.ensures.cause.later, c.reading.invariant.source);
+      source = omega (arith, c.in-Ok-read_piece.ensures.cause.later, c.reading.invariant.source);
       sink = omega (arith, c.in-Ok-feed-2.ensures.cause.later, c.in-Ok.ensures.cause.later, c.reading.invariant.sink);
     }
 
@@ -52,8 +52,8 @@ returns-in-Err-clause-ends g c =
     told_then (g.S.Source.left c.args.source.now) _ _ (λ input reached.
     flush_failed timing t0 t1 now c.reading.self.line input (g.S.Source.left c.reading.source) c.reading.total c.args.limit c.reading.invariant.within reached (g.W.Sink.written c.flush.new.sink) c.in-Err.ensures.front) c.reading.invariant.reached
 
-pub returns-in-Err-read-clause-ends : goal.returns-in-Err-read-clause-ends
-returns-in-Err-read-clause-ends g c =
+pub returns-in-Err-read_piece-clause-ends : goal.returns-in-Err-read_piece-clause-ends
+returns-in-Err-read_piece-clause-ends g c =
     let timing = c.args.self.now.server.timing in
     let t0 : Trace = record { readings = g.C.Clock.readings c.args.clock.now; written = g.W.Sink.written c.args.sink.now } in
     let t1 : Trace = record { readings = g.C.Clock.readings c.reading.clock; written = g.W.Sink.written c.reading.sink } in
@@ -62,7 +62,7 @@ returns-in-Err-read-clause-ends g c =
     let mid = with_pending now c.flush.new.self in
     told_then (g.S.Source.left c.args.source.now) _ _ (λ input reached.
     let ready = reached_flushed timing t0 t1 now c.reading.self.line input (g.S.Source.left c.reading.source) c.reading.total c.args.limit c.reading.invariant.within reached (g.W.Sink.written c.flush.new.sink) c.flush.new.self c.in-Ok.ensures.none c.in-Ok.ensures.all in
-    source_failed timing t0 flushed mid c.reading.self.line input (g.S.Source.left c.reading.source) c.reading.total c.args.limit c.reading.invariant.within ready (g.S.Source.left c.read.new.self) c.in-Ok.ensures.none c.in-Err-read.ensures.failed) c.reading.invariant.reached
+    source_failed timing t0 flushed mid c.reading.self.line input (g.S.Source.left c.reading.source) c.reading.total c.args.limit c.reading.invariant.within ready (g.S.Source.left c.read_piece.new.source) c.in-Ok.ensures.none c.in-Err-read_piece.ensures.failed) c.reading.invariant.reached
 
 pub returns-then-count-eq0-clause-ends : goal.returns-then-count-eq0-clause-ends
 returns-then-count-eq0-clause-ends g c =
@@ -74,7 +74,7 @@ returns-then-count-eq0-clause-ends g c =
     let mid = with_pending now c.flush.new.self in
     told_then (g.S.Source.left c.args.source.now) _ _ (λ input reached.
     let ready = reached_flushed timing t0 t1 now c.reading.self.line input (g.S.Source.left c.reading.source) c.reading.total c.args.limit c.reading.invariant.within reached (g.W.Sink.written c.flush.new.sink) c.flush.new.self c.in-Ok.ensures.none c.in-Ok.ensures.all in
-    source_ended timing t0 flushed mid c.reading.self.line c.reading.total c.in-Ok-read.count (g.S.Source.left c.reading.source) (g.S.Source.left c.read.new.self) c.reading.room c.read.new.room input c.args.limit c.reading.invariant.within ready c.in-Ok-read.ensures.reads c.if-count-eq0.true (omega (arith, c.reading.invariant.room))) c.reading.invariant.reached
+    source_ended timing t0 flushed mid c.reading.self.line c.reading.total c.in-Ok-read_piece.count (g.S.Source.left c.reading.source) (g.S.Source.left c.read_piece.new.source) c.reading.room c.read_piece.new.room input c.args.limit c.reading.invariant.within ready c.in-Ok-read_piece.ensures.reads c.if-count-eq0.true (omega (arith, c.reading.invariant.room))) c.reading.invariant.reached
 
 pub returns-in-Ok-feed-clause-ends : goal.returns-in-Ok-feed-clause-ends
 returns-in-Ok-feed-clause-ends g c =
@@ -91,7 +91,7 @@ returns-in-Ok-feed-clause-ends g c =
     told_then (g.S.Source.left c.args.source.now) _ _ (λ input reached.
     let ready = reached_flushed timing t0 t1 now c.reading.self.line input (g.S.Source.left c.reading.source) c.reading.total c.args.limit c.reading.invariant.within reached (g.W.Sink.written c.flush.new.sink) c.flush.new.self c.in-Ok.ensures.none c.in-Ok.ensures.all in
     let fed = feeds_as c.reading.self.server.timing timing c.reading.invariant.timing t0 flushed t2 ready.given piece mid (progress_of new.server) c.reading.self.line new.line (Ok tt) c.in-Ok-feed.ensures.feeds ready.served in
-    ends_too_long timing t0 flushed mid c.reading.self.line c.reading.total c.in-Ok-read.count (g.S.Source.left c.reading.source) (g.S.Source.left c.read.new.self) c.reading.room c.read.new.room input c.args.limit c.reading.invariant.within ready c.in-Ok-read.ensures.reads t2 (progress_of new.server) new.line piece c.if-count-allowed.true is fed) c.reading.invariant.reached
+    ends_too_long timing t0 flushed mid c.reading.self.line c.reading.total c.in-Ok-read_piece.count (g.S.Source.left c.reading.source) (g.S.Source.left c.read_piece.new.source) c.reading.room c.read_piece.new.room input c.args.limit c.reading.invariant.within ready c.in-Ok-read_piece.ensures.reads t2 (progress_of new.server) new.line piece c.if-count-allowed.true is fed) c.reading.invariant.reached
 
 pub returns-in-Err-feed-clause-ends : goal.returns-in-Err-feed-clause-ends
 returns-in-Err-feed-clause-ends g c =
@@ -108,7 +108,7 @@ returns-in-Err-feed-clause-ends g c =
     told_then (g.S.Source.left c.args.source.now) _ _ (λ input reached.
     let ready = reached_flushed timing t0 t1 now c.reading.self.line input (g.S.Source.left c.reading.source) c.reading.total c.args.limit c.reading.invariant.within reached (g.W.Sink.written c.flush.new.sink) c.flush.new.self c.in-Ok.ensures.none c.in-Ok.ensures.all in
     let fed = feeds_as c.reading.self.server.timing timing c.reading.invariant.timing t0 flushed t2 ready.given piece mid (progress_of new.server) c.reading.self.line new.line (Err c.in-Err-feed.field-0) c.in-Err-feed.ensures.feeds ready.served in
-    sink_failed timing t0 flushed mid c.reading.self.line c.reading.total c.in-Ok-read.count (g.S.Source.left c.reading.source) (g.S.Source.left c.read.new.self) c.reading.room c.read.new.room input c.args.limit c.reading.invariant.within ready c.in-Ok-read.ensures.reads t2 (progress_of new.server) new.line piece (c.args.limit - c.reading.total) c.in-Err-feed.field-0
+    sink_failed timing t0 flushed mid c.reading.self.line c.reading.total c.in-Ok-read_piece.count (g.S.Source.left c.reading.source) (g.S.Source.left c.read_piece.new.source) c.reading.room c.read_piece.new.room input c.args.limit c.reading.invariant.within ready c.in-Ok-read_piece.ensures.reads t2 (progress_of new.server) new.line piece (c.args.limit - c.reading.total) c.in-Err-feed.field-0
     (omega (arith, c.if-count-allowed.true)) (omega (arith, c.reading.invariant.within)) is fed) c.reading.invariant.reached
 
 pub returns-in-Err-feed-2-clause-ends : goal.returns-in-Err-feed-2-clause-ends
@@ -126,5 +126,5 @@ returns-in-Err-feed-2-clause-ends g c =
     told_then (g.S.Source.left c.args.source.now) _ _ (λ input reached.
     let ready = reached_flushed timing t0 t1 now c.reading.self.line input (g.S.Source.left c.reading.source) c.reading.total c.args.limit c.reading.invariant.within reached (g.W.Sink.written c.flush.new.sink) c.flush.new.self c.in-Ok.ensures.none c.in-Ok.ensures.all in
     let fed = feeds_as c.reading.self.server.timing timing c.reading.invariant.timing t0 flushed t2 ready.given piece mid (progress_of new.server) c.reading.self.line new.line (Err c.in-Err-feed-2.field-0) c.in-Err-feed-2.ensures.feeds ready.served in
-    sink_failed timing t0 flushed mid c.reading.self.line c.reading.total c.in-Ok-read.count (g.S.Source.left c.reading.source) (g.S.Source.left c.read.new.self) c.reading.room c.read.new.room input c.args.limit c.reading.invariant.within ready c.in-Ok-read.ensures.reads t2 (progress_of new.server) new.line piece c.in-Ok-read.count c.in-Err-feed-2.field-0
+    sink_failed timing t0 flushed mid c.reading.self.line c.reading.total c.in-Ok-read_piece.count (g.S.Source.left c.reading.source) (g.S.Source.left c.read_piece.new.source) c.reading.room c.read_piece.new.room input c.args.limit c.reading.invariant.within ready c.in-Ok-read_piece.ensures.reads t2 (progress_of new.server) new.line piece c.in-Ok-read_piece.count c.in-Err-feed-2.field-0
     (omega arith) (omega (arith, c.if-count-allowed.false, c.reading.invariant.within)) is fed) c.reading.invariant.reached
