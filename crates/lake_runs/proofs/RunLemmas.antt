@@ -1,9 +1,12 @@
 -- Runs of changes, and the keeper over them.
-use Rattle.std.proofs.Common.{◌≡◌, ◌≤◌, ℕ, refl, sym, subst, ◌∙◌, arith}
+use Rattle.std.proofs.Common.{◌≡◌, ◌≤◌, ℕ, List, [], ◌∷◌, ◌++◌, refl, sym, ap, subst, ◌∙◌, append_assoc, arith}
 use Rattle.std.specs.Prelude.{Option, Some, None, Result, Ok, Err}
+use Rattle.std.proofs.lemmas.List.{append-nil}
 use Rattle.lake_model.specs.declared.fault.StepFault.{StepFault}
 use Rattle.lake_model.specs.declared.fault.StepFault.TheVariants.{StoreFault, NoMemory}
 use Rattle.lake_model.specs.declared.history.By.{By}
+use Rattle.lake_model.specs.declared.history.HistoryEntry.{HistoryEntry}
+use Rattle.lake_model.specs.History.{accepted_entry, faulted_entry}
 use Rattle.lake_keeping.specs.Views.{IsLaterKeeper, KeeperView}
 use Rattle.lake_core.specs.Lakes.{LakeValue}
 use Rattle.lake_core.specs.Steps.{Leaves, Making}
@@ -65,3 +68,45 @@ module _ {K : Type 0} (view : KeeperView K) where
   run_later first Start = later_itself first.keeper
   run_later first (Next {old = old} {new = new} by made answer run left) =
       later_then first.keeper old.keeper new.keeper (run_later first run) (leaves_later by made answer old new left)
+
+-- ---- what becomes of a lake
+
+-- it was opened as before, and its history may be longer
+pub record IsLaterLake {K : Type 0} (old new : LakeValue K) : Type 0 where
+  pub opened : new.opened ≡ old.opened
+  pub later : List HistoryEntry
+  pub history : new.history ≡ old.history ++ later
+
+itself : {K : Type 0} (lake : LakeValue K) → IsLaterLake lake lake
+itself lake = record { opened = refl; later = []; history = sym (append-nil lake.history) }
+
+joined : {K : Type 0} (first old new : LakeValue K) → IsLaterLake first old → IsLaterLake old new
+    → IsLaterLake first new
+joined first old new one two = record {
+  opened = two.opened ∙ one.opened;
+  later = one.later ++ two.later;
+  history =
+      two.history ∙ ap (λ history. history ++ two.later) one.history
+      ∙ append_assoc first.history one.later two.later;
+}
+
+-- after a change
+leaves_lake : {K : Type 0} (view : KeeperView K) (by : By) (made : Option Making) (answer : Result (Unit {0}) StepFault)
+    (old new : LakeValue K)
+    → Leaves view by made answer old new → IsLaterLake old new
+leaves_lake view by (Some m) (Ok answer) old new left =
+    record { opened = left.opened; later = accepted_entry by m.operation ∷ []; history = left.history }
+leaves_lake view by None (Ok answer) old new left = absurd left
+leaves_lake view by (Some m) (Err StoreFault) old new left =
+    record { opened = left.opened; later = faulted_entry by m.operation ∷ []; history = left.history }
+leaves_lake view by None (Err StoreFault) old new left = absurd left
+leaves_lake view by made (Err NoMemory) old new left =
+    record { opened = left.opened; later = []; history = left.history ∙ sym (append-nil old.history) }
+leaves_lake view by made (Err fault) old new left = subst (λ l. IsLaterLake old l) (sym left) (itself old)
+
+-- after a run
+pub run_lake : {K : Type 0} (view : KeeperView K) (first : LakeValue K) {last : LakeValue K} → IsRun view first last
+    → IsLaterLake first last
+run_lake view first Start = itself first
+run_lake view first (Next {old = old} {new = new} by made answer run left) =
+    joined first old new (run_lake view first run) (leaves_lake view by made answer old new left)

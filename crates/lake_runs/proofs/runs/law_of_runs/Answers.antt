@@ -1,5 +1,5 @@
 use Rattle.lake_runs.specs.Runs.{Start}
-use Rattle.lake_runs.proofs.RunLemmas.{run_later, run_next}
+use Rattle.lake_runs.proofs.RunLemmas.{run_lake, run_later, run_next}
 use Rattle.lake_runs.proofs.runs.law_of_runs.Goals as goal
 
 pub returns : goal.returns
@@ -7,4 +7,6 @@ returns g c = record {
   start = λ view lake. Start;
   next = run_next;
   keeper = λ view first last run. run_later view first run;
+  opened = λ view first last run. (run_lake view first run).opened;
+  history = λ view first last run. let lake = run_lake view first run in (lake.later, lake.history);
 }
