@@ -13,10 +13,10 @@ use crate::batch::Batch;
 use crate::host::Host;
 use crate::limits::BATCH_LIMIT;
 use crate::status::ExitStatus;
-use batch_session::text::USAGE;
 use crate::words::batch_timing;
-use batch_session::timing::Timing;
 use crate::write::write_all;
+use batch_session::text::USAGE;
+use batch_session::timing::Timing;
 use lake_base::{Clock, NoMemory, Sink, Source, Text};
 use std::alloc::Global;
 

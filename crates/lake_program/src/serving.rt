@@ -5,10 +5,10 @@ ghost use Rattle.lake_program.specs.Status.{status_of};
 ghost use Rattle.lake_program.specs.Serving.{Serves};
 ghost use Rattle.lake_program.specs.Progress.{start};
 
-use batch_session::lines::answer_line;
 use crate::output::PendingOutput;
-use batch_session::session::Session;
 use crate::status::ExitStatus;
+use batch_session::lines::answer_line;
+use batch_session::session::Session;
 use batch_session::timing::Timing;
 use lake_base::{Clock, Failed, NoMemory, Sink};
 use std::alloc::Global;
