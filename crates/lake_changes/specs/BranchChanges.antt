@@ -22,10 +22,10 @@ pub record IsUnused (b : BranchStateValue) (token : ℕ) : Type 0 where
   pub empty : contains_key b.tokens token ≡ false
 
 -- a seal takes an unused token
-abbrev pub IsPossible : BranchChange → BranchStateValue → Type 0
-IsPossible (Stage path change) b = Unit {0}
-IsPossible (Reset what version) b = Unit {0}
-IsPossible (Seal fresh version) b = IsUnused b fresh
+abbrev pub FitsBranch : BranchChange → BranchStateValue → Type 0
+FitsBranch (Stage path change) b = Unit {0}
+FitsBranch (Reset what version) b = Unit {0}
+FitsBranch (Seal fresh version) b = IsUnused b fresh
 
 -- it has room for a staged change, and for a sealed token
 pub record HasRoom (b : BranchState) : Type 0 where

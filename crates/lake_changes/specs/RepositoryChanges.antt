@@ -11,7 +11,7 @@ use Rattle.lake_changes.specs.declared.repository.RepositoryChange.{RepositoryCh
 use Rattle.lake_changes.specs.declared.repository.RepositoryChange.TheVariants.{PutBranch, DropBranch, PutTag, DropTag, SetNote, InBranch}
 use Rattle.lake_changes.specs.declared.repository.Room.{Room}
 use Rattle.lake_changes.specs.declared.repository.Room.TheVariants as room
-use Rattle.lake_changes.specs.BranchChanges.{HasRoom, IsPossible, branch_after}
+use Rattle.lake_changes.specs.BranchChanges.{HasRoom, FitsBranch, branch_after}
 
 -- a repository after a change of it
 abbrev pub repository_after : RepositoryChange → RepositoryStateValue → RepositoryStateValue
@@ -26,9 +26,9 @@ repository_after (InBranch name change) r =
     record r { branches = changed_at name.now (branch_after change) r.branches }
 
 -- what a change asks of the repository: that a change of a branch is possible there
-abbrev pub IsPossibleIn : RepositoryChange → RepositoryStateValue → Type 0
-IsPossibleIn (InBranch name change) r = (b : BranchStateValue) → get r.branches name.now ≡ Some b → IsPossible change b
-IsPossibleIn _ r = Unit {0}
+abbrev pub FitsRepository : RepositoryChange → RepositoryStateValue → Type 0
+FitsRepository (InBranch name change) r = (b : BranchStateValue) → get r.branches name.now ≡ Some b → FitsBranch change b
+FitsRepository _ r = Unit {0}
 
 -- there is room for a new branch of a name, for a new tag, for a change of the branch of a name
 abbrev pub HasRoomIn : Room → RepositoryState → Type 0

@@ -1,7 +1,7 @@
 //! What is done to a branch that stays, and the room that is made for it.
 ghost use Rattle.std.specs.Prelude.{◌≡◌, OnOk};
 ghost use Rattle.lake_state.specs.Branches.{branch_value, new_branch};
-ghost use Rattle.lake_changes.specs.BranchChanges.{HasRoom, IsPossible, branch_after};
+ghost use Rattle.lake_changes.specs.BranchChanges.{HasRoom, FitsBranch, branch_after};
 
 use branch_record::{BranchRecord, Tokens};
 use lake_base::{NoMemory, Path};
@@ -41,7 +41,7 @@ pub fn make_room(branch: &mut BranchState) -> Result<(), NoMemory>
 /// Makes a change of a branch, for which there is room. It needs no memory, and can't be refused.
 pub fn change_branch(branch: &mut BranchState, change: BranchChange)
     requires room { HasRoom branch.old }
-    requires possible { IsPossible change (branch_value branch.old) }
+    requires possible { FitsBranch change (branch_value branch.old) }
     ensures { branch_value branch.new ≡ branch_after change (branch_value branch.old) }
 {
     match change {

@@ -11,7 +11,7 @@ ghost use Rattle.lake_state.specs.declared.repository.RepositoryState.{Repositor
 ghost use Rattle.lake_state.specs.Repositories.{RepositoryStateValue, repository_value};
 ghost use Rattle.lake_state.specs.Counts.{AreFew};
 ghost use Rattle.lake_state.specs.Lakes.{lake_value, tickets_of};
-ghost use Rattle.lake_changes.specs.RepositoryChanges.{HasRoomFor, HasRoomIn, IsPossibleIn, repository_after};
+ghost use Rattle.lake_changes.specs.RepositoryChanges.{HasRoomFor, HasRoomIn, FitsRepository, repository_after};
 ghost use Rattle.lake_changes.specs.FreshTokens.{AreTokensBelow};
 ghost use Rattle.lake_changes.specs.LakeRoom.{HasRoomAt, HasTicketRoom};
 ghost use Rattle.lake_changes.specs.LakeChanges.{after_branch_create, after_branch_delete, after_copy, after_fault, after_note_set, after_reset, after_seal, after_stage, after_tag_create, after_tag_delete, after_ticket_drop, after_ticket_take};
@@ -80,7 +80,7 @@ fn change_at(
     requires room { (r : AnyRepository) → get repositories.old repo.now ≡ Some (Some r) → HasRoomFor change r }
     requires possible { (r : RepositoryStateValue)
         → get (some_values (option_map repository_value) repositories.old) repo.now ≡ Some r
-        → IsPossibleIn change r }
+        → FitsRepository change r }
     ensures { some_values (option_map repository_value) repositories.new
         ≡ changed_at repo.now (repository_after change.entry)
         (some_values (option_map repository_value) repositories.old) }
@@ -93,7 +93,7 @@ fn change_at(
 // Makes a change of the repository in a place, where one is there.
 fn change_here(place: &mut Option<RepositoryState>, change: RepositoryChange<'_>)
     requires room { IfSome place.old (HasRoomFor change) }
-    requires possible { IfSome place.old (λ r. IsPossibleIn change (repository_value r)) }
+    requires possible { IfSome place.old (λ r. FitsRepository change (repository_value r)) }
     ensures { option_map repository_value place.new
         ≡ option_map (repository_after change.entry) (option_map repository_value place.old) }
 {

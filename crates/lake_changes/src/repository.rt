@@ -7,8 +7,8 @@ ghost use Rattle.lake_model.specs.Parts.{changed_at};
 ghost use Rattle.lake_state.specs.declared.branch.BranchState.{BranchState as AnyBranch};
 ghost use Rattle.lake_state.specs.Branches.{BranchStateValue, branch_value};
 ghost use Rattle.lake_state.specs.Repositories.{repository_value};
-ghost use Rattle.lake_changes.specs.BranchChanges.{HasRoom, IsPossible, branch_after};
-ghost use Rattle.lake_changes.specs.RepositoryChanges.{HasRoomFor, HasRoomIn, IsPossibleIn, repository_after};
+ghost use Rattle.lake_changes.specs.BranchChanges.{HasRoom, FitsBranch, branch_after};
+ghost use Rattle.lake_changes.specs.RepositoryChanges.{HasRoomFor, HasRoomIn, FitsRepository, repository_after};
 
 use crate::branch::{BranchChange, change_branch, make_room};
 use crate::places::{drop_place, make_place, put_in_place};
@@ -81,7 +81,7 @@ pub fn make_room_in(alloc: Global, r: &mut RepositoryState, room: Room<'_>) -> R
 /// Makes a change of a repository, for which there is room. It needs no memory, and can't be refused.
 pub fn change_repository(r: &mut RepositoryState, change: RepositoryChange<'_>)
     requires room { HasRoomFor change r.old }
-    requires possible { IsPossibleIn change (repository_value r.old) }
+    requires possible { FitsRepository change (repository_value r.old) }
     ensures { repository_value r.new ≡ repository_after change.entry (repository_value r.old) }
 {
     match change {
@@ -165,7 +165,7 @@ fn change_branch_at(
 )
     requires room { (b : AnyBranch) → get branches.old name.now ≡ Some (Some b) → HasRoom b }
     requires possible { (b : BranchStateValue)
-        → get (some_values (option_map branch_value) branches.old) name.now ≡ Some b → IsPossible change b }
+        → get (some_values (option_map branch_value) branches.old) name.now ≡ Some b → FitsBranch change b }
     ensures { some_values (option_map branch_value) branches.new
         ≡ changed_at name.now (branch_after change) (some_values (option_map branch_value) branches.old) }
 {
@@ -177,7 +177,7 @@ fn change_branch_at(
 // Changes the branch in a place, where one is there.
 fn change_branch_here(place: &mut Option<BranchState>, change: BranchChange)
     requires room { IfSome place.old HasRoom }
-    requires possible { IfSome place.old (λ b. IsPossible change (branch_value b)) }
+    requires possible { IfSome place.old (λ b. FitsBranch change (branch_value b)) }
     ensures { option_map branch_value place.new
         ≡ option_map (branch_after change) (option_map branch_value place.old) }
 {

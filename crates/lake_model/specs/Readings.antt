@@ -95,8 +95,8 @@ abbrev pub known_commit : Repository → Option Digest → Result (Option Digest
 known_commit r None = Ok None
 known_commit r (Some id) = if is_some (commit_of r.commits id) then Ok (Some id) else Err NoRef
 
-abbrev pub log_answer : State → Repository → LogPageValue → LogReply
-log_answer state r page = record { at = state.entries; commits = commits_in r page.ids; more = page.has_more }
+abbrev pub log_page_reply : State → Repository → LogPageValue → LogReply
+log_page_reply state r page = record { at = state.entries; commits = commits_in r page.ids; more = page.has_more }
 
 -- the ancestors of a commit, dated at or after a moment, that come after another commit: the other one is asked for
 -- before the moves of the expression, and after its name
@@ -104,7 +104,7 @@ abbrev pub log_reply : State → List ℕ → RefExprValue → Option Digest →
 log_reply state repo e after since amount =
     in_repository_of state repo (λ r. expression_target r (record e { moves = [] }) then λ name.
     known_commit r after then λ other. expression_target r e then λ id.
-    Ok (log_answer state r (log_page r.commits id other since amount)))
+    Ok (log_page_reply state r (log_page r.commits id other since amount)))
 
 -- the entries of a map whose keys are above some bytes
 abbrev pub above : {X : Type 0} → List ℕ → ByteMap X → List (List ℕ × X)

@@ -7,7 +7,7 @@ use Rattle.lake_values.specs.Log.{log_page}
 use Rattle.commit_graph.specs.Expressions.{RefExprValue}
 use Rattle.lake_model.specs.declared.fault.StepFault.{StepFault}
 use Rattle.lake_model.specs.declared.fault.StepFault.TheVariants.{NoRef}
-use Rattle.lake_model.specs.Readings.{LogReply, ◌then◌, known_commit, log_answer, log_reply}
+use Rattle.lake_model.specs.Readings.{LogReply, ◌then◌, known_commit, log_page_reply, log_reply}
 use Rattle.lake_model.specs.Resolving.{expression_target, moved_target, name_target}
 use Rattle.lake_model.specs.State.{Repository}
 use Rattle.lake_state.specs.declared.repository.RepositoryState.{RepositoryState}
@@ -19,7 +19,7 @@ use Rattle.lake_readings.proofs.ReplyLemmas.{in_some, then_ok, then_err}
 module _ (l : LakeStateValue) (repo : List ℕ) (e : RefExprValue) (after : Option Digest) (since : Option ℕ) (amount : ℕ)
     (r : RepositoryState) (there : Some (repository_value r) ≡ get l.repositories repo) where
   abbrev page_of : Repository → Option Digest → Digest → LogReply
-  page_of q other id = log_answer (state_of l) q (log_page q.commits id other since amount)
+  page_of q other id = log_page_reply (state_of l) q (log_page q.commits id other since amount)
 
   abbrev pages_from : Repository → Option Digest → Result LogReply StepFault
   pages_from q other = expression_target q e then λ id. Ok (page_of q other id)

@@ -26,7 +26,7 @@ use Rattle.pair_format.specs.declared.stored.Stored.{Stored}
 use Rattle.pair_format.specs.declared.stored.Stored.TheVariants.{Repository, Branch, Tag, Commit, MetaRange, Range, Staged, Note, Gone, Counts}
 use Rattle.pair_format.specs.Keys.{kind_of, note_number}
 use Rattle.pair_format.specs.Spelling.{key_of, key_spelling, value_spelling, pair_spelling, flag, IsSpelledKey, IsSpelledValue, IsSpelledStored}
-use Rattle.pair_format.specs.Reading.{Reader, both, made, read_u64, read_digest, read_repo, read_ref, read_rest, read_path, read_note, read_tokens, read_flag, read_versioned, read_change, key_fields, value_fields, alone, read_key, read_value, placed, value_from, pair_from}
+use Rattle.pair_format.specs.Reading.{Reader, both, map_reader, read_u64, read_digest, read_repo, read_ref, read_rest, read_path, read_note, read_tokens, read_flag, read_versioned, read_change, key_fields, value_fields, alone, read_key, read_value, placed, value_from, pair_from}
 use Rattle.pair_format.proofs.FieldsLemmas.{IsReader, both_reader, u64_reader, digest_reader, repo_reader, ref_reader, note_reader, flag_reader, change_reader, tokens_reader}
 
 -- ---- readers that take all that is left
@@ -182,7 +182,7 @@ kind_in (key.Gone number) = kind.Gone
 kind_in key.Counts = kind.Counts
 
 -- what fields make, in a spelling of its own
-taken : {A B : Type 0} {read : Reader A} {s : A → List ℕ} {P : A → Type 0} (whole : IsWhole read s P) (f : A → B) (bytes : List ℕ) (y : B) → AreBytes bytes → made f read bytes ≡ Ok (y, [])
+taken : {A B : Type 0} {read : Reader A} {s : A → List ℕ} {P : A → Type 0} (whole : IsWhole read s P) (f : A → B) (bytes : List ℕ) (y : B) → AreBytes bytes → map_reader f read bytes ≡ Ok (y, [])
     → (x : A) × (f x ≡ y) × (bytes ≡ s x) × P x
 taken {A} {B} {read} {s} {P} whole f bytes y fits e =
     let a = bind_ok (read bytes) (λ x. Ok (f x.0, x.1)) (y, []) e in
@@ -191,7 +191,7 @@ taken {A} {B} {read} {s} {P} whole f bytes y fits e =
     let t = whole.takes bytes a.0.0 fits (a.1 ∙ ap (λ (l : List ℕ). Ok (a.0.0, l)) none) in
     (a.0.0, ap (λ (z : B × List ℕ). z.0) made, t.0, t.1)
 
-remade : {A B : Type 0} {read : Reader A} {s : A → List ℕ} {P : A → Type 0} (whole : IsWhole read s P) (f : A → B) (x : A) → P x → made f read (s x) ≡ Ok (f x, [])
+remade : {A B : Type 0} {read : Reader A} {s : A → List ℕ} {P : A → Type 0} (whole : IsWhole read s P) (f : A → B) (x : A) → P x → map_reader f read (s x) ≡ Ok (f x, [])
 remade {A} {B} {read} {s} {P} whole f x is = ap (λ (r : Result (A × List ℕ) FieldFault). r >>= λ x. Ok (f x.0, x.1)) (whole.again x is)
 
 -- a key that is spelled by its letter and these bytes
@@ -200,7 +200,7 @@ SpellsKey k bytes y = (letter_of k ∷ bytes ≡ key_spelling y) × IsSpelledKey
 
 key_taken : {A : Type 0} {read : Reader A} {s : A → List ℕ} {P : A → Type 0} (k : Kind) (whole : IsWhole read s P) (f : A → OwnedKey)
     → ((x : A) → letter_of k ∷ s x ≡ key_spelling (f x)) → ((x : A) → P x → IsSpelledKey (f x))
-    → (bytes : List ℕ) (y : OwnedKey) → AreBytes bytes → made f read bytes ≡ Ok (y, []) → SpellsKey k bytes y
+    → (bytes : List ℕ) (y : OwnedKey) → AreBytes bytes → map_reader f read bytes ≡ Ok (y, []) → SpellsKey k bytes y
 key_taken k whole f spelled limits bytes y fits e =
     let t = taken whole f bytes y fits e in
     subst (SpellsKey k bytes) t.1 (ap (λ l. letter_of k ∷ l) t.2 ∙ spelled t.0, limits t.0 t.3)
@@ -304,7 +304,7 @@ SpellsValue k bytes y = (key_of y ≡ k) × (bytes ≡ value_spelling y) × IsSp
 
 value_taken : {A : Type 0} {read : Reader A} {s : A → List ℕ} {P : A → Type 0} (k : OwnedKey) (whole : IsWhole read s P) (f : A → Stored)
     → ((x : A) → key_of (f x) ≡ k) → ((x : A) → s x ≡ value_spelling (f x)) → ((x : A) → P x → IsSpelledValue (f x))
-    → (bytes : List ℕ) (y : Stored) → AreBytes bytes → made f read bytes ≡ Ok (y, []) → SpellsValue k bytes y
+    → (bytes : List ℕ) (y : Stored) → AreBytes bytes → map_reader f read bytes ≡ Ok (y, []) → SpellsValue k bytes y
 value_taken k whole f keyed spelled limits bytes y fits e =
     let t = taken whole f bytes y fits e in
     subst (SpellsValue k bytes) t.1 (keyed t.0, t.2 ∙ spelled t.0, limits t.0 t.3)

@@ -44,8 +44,8 @@ both first second bytes = do
   Ok ((x.0, y.0), y.1)
 
 -- what fields make
-abbrev pub made : {A B : Type 0} → (A → B) → Reader A → Reader B
-made f read bytes = do
+abbrev pub map_reader : {A B : Type 0} → (A → B) → Reader A → Reader B
+map_reader f read bytes = do
   x ← read bytes
   Ok (f x.0, x.1)
 
@@ -55,7 +55,7 @@ read_u64 = read_number w64
 
 -- a digest of 32 bytes
 abbrev pub read_digest : Reader Digest
-read_digest = made (λ bytes. record { 0 = bytes }) (read_bytes 32)
+read_digest = map_reader (λ bytes. record { 0 = bytes }) (read_bytes 32)
 
 -- bytes behind two bytes of their length
 unfoldable pub read_short : Reader (List ℕ)
@@ -127,35 +127,35 @@ read_versioned (version ∷ fields) = if version == 1 then read_commit fields el
 unfoldable pub read_change : Reader Change
 read_change [] = Err (Short 0)
 read_change (zero ∷ rest) = Ok (Delete, rest)
-read_change (suc zero ∷ rest) = made Put read_entry rest
+read_change (suc zero ∷ rest) = map_reader Put read_entry rest
 read_change (suc (suc b) ∷ rest) = Err (Bad (suc (length rest)))
 
 -- the fields of a key behind its letter
 unfoldable pub key_fields : Kind → Reader OwnedKey
-key_fields kind.Repository = made key.Repository read_repo
-key_fields kind.Branch = made (λ x. key.Branch x.0 x.1) (both read_repo read_ref)
-key_fields kind.Tag = made (λ x. key.Tag x.0 x.1) (both read_repo read_ref)
-key_fields kind.Commit = made (λ x. key.Commit x.0 x.1) (both read_repo read_digest)
-key_fields kind.MetaRange = made key.MetaRange read_digest
-key_fields kind.Range = made key.Range read_digest
-key_fields kind.Staged = made (λ x. key.Staged x.0 x.1) (both read_u64 read_path)
-key_fields kind.Note = made (λ x. key.Note x.0 x.1) (both read_repo read_note)
-key_fields kind.Gone = made key.Gone read_u64
+key_fields kind.Repository = map_reader key.Repository read_repo
+key_fields kind.Branch = map_reader (λ x. key.Branch x.0 x.1) (both read_repo read_ref)
+key_fields kind.Tag = map_reader (λ x. key.Tag x.0 x.1) (both read_repo read_ref)
+key_fields kind.Commit = map_reader (λ x. key.Commit x.0 x.1) (both read_repo read_digest)
+key_fields kind.MetaRange = map_reader key.MetaRange read_digest
+key_fields kind.Range = map_reader key.Range read_digest
+key_fields kind.Staged = map_reader (λ x. key.Staged x.0 x.1) (both read_u64 read_path)
+key_fields kind.Note = map_reader (λ x. key.Note x.0 x.1) (both read_repo read_note)
+key_fields kind.Gone = map_reader key.Gone read_u64
 key_fields kind.Counts = λ bytes. Ok (key.Counts, bytes)
 
 -- the fields of the value under a key
 unfoldable pub value_fields : OwnedKey → Reader Stored
-value_fields (key.Repository repo) = made (λ x. Repository repo x.0 x.1.0 x.1.1) (both read_u64 (both read_ref read_u64))
+value_fields (key.Repository repo) = map_reader (λ x. Repository repo x.0 x.1.0 x.1.1) (both read_u64 (both read_ref read_u64))
 value_fields (key.Branch repo branch) =
-    made (λ x. Branch repo branch x.0 x.1.0 x.1.1.0 x.1.1.1) (both read_u64 (both read_digest (both read_u64 read_tokens)))
-value_fields (key.Tag repo tag) = made (Tag repo tag) read_digest
-value_fields (key.Commit repo id) = made (λ x. Commit repo id x.0 x.1) (both read_flag read_versioned)
-value_fields (key.MetaRange name) = made (MetaRange name) read_rest
-value_fields (key.Range name) = made (Range name) read_rest
-value_fields (key.Staged token path) = made (Staged token path) read_change
-value_fields (key.Note repo name) = made (Note repo name) read_rest
+    map_reader (λ x. Branch repo branch x.0 x.1.0 x.1.1.0 x.1.1.1) (both read_u64 (both read_digest (both read_u64 read_tokens)))
+value_fields (key.Tag repo tag) = map_reader (Tag repo tag) read_digest
+value_fields (key.Commit repo id) = map_reader (λ x. Commit repo id x.0 x.1) (both read_flag read_versioned)
+value_fields (key.MetaRange name) = map_reader (MetaRange name) read_rest
+value_fields (key.Range name) = map_reader (Range name) read_rest
+value_fields (key.Staged token path) = map_reader (Staged token path) read_change
+value_fields (key.Note repo name) = map_reader (Note repo name) read_rest
 value_fields (key.Gone number) = λ bytes. Ok (Gone number, bytes)
-value_fields key.Counts = made (λ x. Counts x.0 x.1.0 x.1.1) (both read_u64 (both read_u64 read_u64))
+value_fields key.Counts = map_reader (λ x. Counts x.0 x.1.0 x.1.1) (both read_u64 (both read_u64 read_u64))
 
 -- it, where no byte is left behind it
 abbrev pub alone : {A : Type 0} → A × List ℕ → Result A FieldFault

@@ -3,7 +3,7 @@ ghost use Rattle.std.specs.Prelude.{◌≡◌, []};
 ghost use Rattle.lake_format.specs.Reading.{ReadsAs, read_entry};
 ghost use Rattle.lake_values.specs.declared.entry.Change.TheVariants.{Put};
 ghost use Rattle.pair_format.specs.Keys.{note_of};
-ghost use Rattle.pair_format.specs.Reading.{made, read_repo, read_ref, read_short, read_rest, read_path, read_note, read_more_tokens, read_tokens, read_flag, read_versioned, read_change};
+ghost use Rattle.pair_format.specs.Reading.{map_reader, read_repo, read_ref, read_short, read_rest, read_path, read_note, read_more_tokens, read_tokens, read_flag, read_versioned, read_change};
 
 use commit_graph::read_commit;
 use lake_base::names::{NameFault, Path, RefName, RepoName};
@@ -170,7 +170,7 @@ pub(crate) fn read_versioned(
 
 // An entry that is put.
 fn read_put(alloc: Global, bytes: &[u8]) -> Result<(Change, &[u8]), FieldFault>
-    ensures { ReadsAs (λ x. (x.0, x.1.now)) result (made Put read_entry bytes.now) }
+    ensures { ReadsAs (λ x. (x.0, x.1.now)) result (map_reader Put read_entry bytes.now) }
 {
     let (entry, rest) = read_entry(alloc, bytes)?;
     Ok((Change::Put(entry), rest))

@@ -1,11 +1,11 @@
 use Rattle.lake_state.specs.Branches.{branch_value}
-use Rattle.lake_changes.specs.BranchChanges.{IsPossible, branch_after}
+use Rattle.lake_changes.specs.BranchChanges.{FitsBranch, branch_after}
 use Rattle.lake_changes.proofs.PlacesLemmas.{asked_there, changed_nowhere, changed_place}
 use Rattle.lake_changes.proofs.repository.change_branch_at.Goals as goal
 
 pub change_branch_here-requires-clause-possible : goal.change_branch_here-requires-clause-possible
 change_branch_here-requires-clause-possible c =
-    asked_there branch_value c.args.branches.now c.args.name.now (IsPossible c.args.change) c.requires.possible c.in-Some.place.now c.in-Some.ensures.value
+    asked_there branch_value c.args.branches.now c.args.name.now (FitsBranch c.args.change) c.requires.possible c.in-Some.place.now c.in-Some.ensures.value
 
 pub returns-in-Some : goal.returns-in-Some
 returns-in-Some c =

@@ -6,7 +6,7 @@ use Rattle.lake_pages.specs.Listing.{page_items, has_more}
 use Rattle.lake_model.specs.declared.fault.StepFault.TheVariants.{NoRef, NoNote}
 use Rattle.lake_model.specs.NoteChanges.{note_at}
 use Rattle.lake_model.specs.Resolving.{expression_target}
-use Rattle.lake_model.specs.Readings.{◌then◌, expression_map, first_values, known_commit, log_answer, name_in, names_above, point_of, seen_in}
+use Rattle.lake_model.specs.Readings.{◌then◌, expression_map, first_values, known_commit, log_page_reply, name_in, names_above, point_of, seen_in}
 use Rattle.lake_model.specs.Versions.{settings_version}
 use Rattle.lake_laws.proofs.SealingLemmas.{sealed_map_of, sealed_name, sealed_names, sealed_point, sealed_reply, sealed_repositories, sealed_target}
 use Rattle.lake_laws.proofs.sealing.law_of_sealing.Goals as goal
@@ -29,9 +29,9 @@ pub returns-clause-log : goal.returns-clause-log
 returns-clause-log c state seal repo e after since amount =
     sealed_reply state seal repo
     (λ r. expression_target r (record e { moves = [] }) then λ name. known_commit r after then λ other. expression_target r e then λ id.
-    Ok (log_answer state r (log_page r.commits id other since amount)))
+    Ok (log_page_reply state r (log_page r.commits id other since amount)))
     (λ r i. sealed_target seal.branch r (record e { moves = [] }) i then λ name. known_commit r after then λ other. sealed_target seal.branch r e i then λ id.
-    Ok (log_answer state r (log_page r.commits id other since amount)))
+    Ok (log_page_reply state r (log_page r.commits id other since amount)))
 
 pub returns-clause-repositories : goal.returns-clause-repositories
 returns-clause-repositories c state seal after amount = ap (λ values. Ok (first_values state amount values)) (sealed_repositories state seal after)
