@@ -1,0 +1,3 @@
+pub mod ReplyLemmas
+pub mod SmallLakeLemmas
+pub mod TreesLemmas

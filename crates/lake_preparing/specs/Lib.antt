@@ -1,0 +1,3 @@
+pub mod Gathering
+pub mod Preparations
+pub mod Trees
