@@ -134,7 +134,7 @@ guarded_step refusal write stage value entry result old new none is step =
 
 -- what contracts see of a keeper that never fails
 abbrev pub sure_view : KeeperView KeptPairs
-sure_view = record { kept = λ pairs. Some pairs; faults = λ pairs. 0 }
+sure_view = record { kept = λ pairs. Some pairs; faults = λ pairs. 0; calls = λ pairs. None }
 
 -- its state is that of its entries
 pub state_of_entries : (lake : LakeValue KeptPairs) (history : List HistoryEntry) → state_of (founding.fresh_lake usual_cut) ≡ fresh usual_cut
@@ -167,6 +167,6 @@ unread_branch s lake given repo branch fault same told =
 
 -- a lake over an empty keeper that never fails isn't opened for lack of memory alone
 pub opens_but_for_memory : (cut : Cut) (keeper back : KeptPairs) (fault : OpenFault) → IsUnopened sure_view cut keeper fault back → keeper ≡ empty → fault ≡ opening.NoMemory
-opens_but_for_memory cut keeper back opening.StoreFault is none = let rose : 0 < 0 = is.1 (omega arith) in absurd (omega arith)
-opens_but_for_memory cut keeper back (opening.BadPair number) is none = absurd (is.1 none)
+opens_but_for_memory cut keeper back opening.StoreFault is none = let rose : 0 < 0 = is.cause (omega arith) in absurd (omega arith)
+opens_but_for_memory cut keeper back (opening.BadPair number) is none = absurd (is.cause.1.0 none)
 opens_but_for_memory cut keeper back opening.NoMemory is none = refl

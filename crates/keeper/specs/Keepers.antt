@@ -1,12 +1,12 @@
 -- What a keeper of pairs keeps, and what its calls do to that.
-use Rattle.std.specs.Prelude.{◌≡◌, ◌≤◌, ◌⊎◌, ℕ, List, [], ◌∷◌, map as list_map, find, reverse, Option, Result, IsErrOf}
+use Rattle.std.specs.Prelude.{◌≡◌, ◌≤◌, ◌⊎◌, ℕ, List, [], ◌∷◌, map as list_map, find, reverse, Option, Result, Ok, Err, IsErrOf}
 use Rattle.std.specs.Option.{option_map_or}
 use Rattle.std.specs.Str.{bytes_eq}
 use Rattle.std.specs.FinMap as map
 use Rattle.lake_base.specs.Maps.{ByteMap}
 use Rattle.lake_base.specs.Outside.{Rose}
 use Rattle.lake_base.specs.declared.outside.Trouble.{Trouble}
-use Rattle.lake_base.specs.declared.outside.Trouble.TheVariants.{Failed}
+use Rattle.lake_base.specs.declared.outside.Trouble.TheVariants.{Failed, NoMemory}
 use Rattle.pair_format.specs.declared.pair.Pair.{Pair}
 use Rattle.keeper.specs.declared.put.Put.{Put}
 
@@ -35,7 +35,14 @@ last_put key puts = find (λ put. bytes_eq key put.key) (reverse puts)
 abbrev pub MayHaveMade : List Put → KeptPairs → KeptPairs → Type 0
 MayHaveMade puts before after = (after ≡ before) ⊎ (after ≡ pairs_after puts before)
 
--- a count of faults doesn't fall, and it rose where the object failed
+-- a count is as it was, unless the object failed: out of memory is no failure
+abbrev pub IsQuietUnlessFailed : {T : Type 0} → ℕ → ℕ → Result T Trouble → Type 0
+IsQuietUnlessFailed before now (Ok x) = now ≡ before
+IsQuietUnlessFailed before now (Err Failed) = Unit {0}
+IsQuietUnlessFailed before now (Err NoMemory) = now ≡ before
+
+-- a count of faults doesn't fall, it rose where the object failed, and it is as it was where it didn't
 pub record FailsByFault {T : Type 0} (before now : ℕ) (result : Result T Trouble) : Type 0 where
   pub later : before ≤ now
   pub failed : IsErrOf result Failed → Rose before now
+  pub quiet : IsQuietUnlessFailed before now result

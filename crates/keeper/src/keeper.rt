@@ -1,7 +1,8 @@
 //! The trait of a keeper of pairs.
-ghost use Rattle.std.specs.Prelude.{◌≡◌, ℕ, List, Option, Some, is_some, IfOk, IfSome, OnOk, IsErrOf};
+ghost use Rattle.std.specs.Prelude.{◌≡◌, ℕ, List, Option, Some, is_some, option_map, IfOk, IfSome, OnOk, IsErrOf};
 ghost use Rattle.std.specs.FinMap as map;
 ghost use Rattle.lake_base.specs.Maps.{HasAscendingKeys};
+ghost use Rattle.lake_base.specs.Memory.{next_count};
 ghost use Rattle.lake_base.specs.declared.outside.Trouble.TheVariants.{Failed as trouble_failed, NoMemory as trouble_no_memory};
 ghost use Rattle.keeper.specs.Keepers.{KeptPairs, FailsByFault, MayHaveMade, entries_of, pairs_after};
 
@@ -9,7 +10,8 @@ use crate::put::Put;
 use lake_base::Trouble;
 use pair_format::Pair;
 
-/// A keeper of pairs. It may tell contracts which pairs it keeps. It counts its faults.
+/// A keeper of pairs. It may tell contracts which pairs it keeps, and how often it was called to put. It counts its
+/// faults.
 pub trait Keeper: Drop {
     /// The pairs kept, where the keeper tells them.
     ghost kept: { Self → Option KeptPairs };
@@ -17,12 +19,16 @@ pub trait Keeper: Drop {
     /// How often it has failed.
     ghost faults: { Self → ℕ };
 
+    /// How many calls of `put_all` there were, where the keeper tells it. A 64-bit count stands still at its end.
+    ghost calls: { Self → Option ℕ };
+
     /// All pairs, in byte order of their keys.
     fn load(&mut self) -> Result<Vec<Pair>, Trouble>
         ensures pairs { IfOk result (λ pairs. IfSome (kept self.old)
             (λ before. entries_of pairs.items ≡ map.entries before)) }
         ensures ascending { IfOk result (λ pairs. HasAscendingKeys (entries_of pairs.items)) }
         ensures kept { kept self.new ≡ kept self.old }
+        ensures calls { calls self.new ≡ calls self.old }
         ensures cause { FailsByFault (faults self.old) (faults self.new) result };
 
     /// Makes the puts, one after the other: all of them, or none.
@@ -36,5 +42,6 @@ pub trait Keeper: Drop {
         ensures no_memory { IsErrOf result trouble_no_memory → kept self.new ≡ kept self.old }
 
         ensures told { is_some (kept self.new) ≡ is_some (kept self.old) }
+        ensures called { calls self.new ≡ option_map next_count (calls self.old) }
         ensures cause { FailsByFault (faults self.old) (faults self.new) result };
 }

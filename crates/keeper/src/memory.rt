@@ -119,6 +119,8 @@ impl Keeper for MemoryKeeper {
 
     ghost faults = { λ keeper. keeper.faults };
 
+    ghost calls = { λ keeper. Some keeper.puts };
+
     fn load(&mut self) -> Result<Vec<Pair>, Trouble>
         ensures pairs { IfOk result (λ pairs. entries_of pairs.items ≡ map.entries self.old.pairs) }
         ensures ascending { IfOk result (λ pairs. HasAscendingKeys (entries_of pairs.items)) }
@@ -149,7 +151,7 @@ impl Keeper for MemoryKeeper {
             → MayHaveMade puts.now self.old.pairs self.new.pairs }
         ensures cause { FailsByFault self.old.faults self.new.faults result }
 
-        // It fails exactly where it was told to, and else for memory alone.
+        // It fails only where it was told to, or for memory.
         ensures sure { put_landing self.old.fails self.old.puts ≡ None
             → IfErr result (λ trouble. trouble ≡ trouble_no_memory) }
         ensures fails { put_landing self.old.fails self.old.puts ≢ None → IsErr result }

@@ -1,5 +1,5 @@
 //! A keeper in memory.
-ghost use Rattle.std.specs.Prelude.{◌≡◌, ◌<◌, ◌↔◌, [], reverse, Some, IsTrue, IfOk, IfErr, IfSome, IsErrOf, OnOk, OnErr, is_some, vec_len, vec_capacity, ◌++◌, ◌∷◌};
+ghost use Rattle.std.specs.Prelude.{◌≡◌, ◌<◌, ◌↔◌, [], reverse, Some, None, IsTrue, IfOk, IfErr, IfSome, IsErrOf, OnOk, OnErr, is_some, vec_len, vec_capacity, ◌++◌, ◌∷◌};
 ghost use Rattle.std.specs.FinMap as map;
 ghost use Rattle.lake_base.specs.Maps.{HasAscendingKeys};
 ghost use Rattle.lake_base.specs.declared.outside.Trouble.TheVariants.{NoMemory as trouble_no_memory};
@@ -124,6 +124,8 @@ impl Keeper for SureKeeper {
     ghost kept = { λ keeper. Some keeper };
 
     ghost faults = { λ _. 0 };
+
+    ghost calls = { λ _. None };
 
     fn load(&mut self) -> Result<Vec<Pair>, Trouble>
         ensures pairs { IfOk result (λ pairs. entries_of pairs.items ≡ map.entries self.old) }

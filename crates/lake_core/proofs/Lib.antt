@@ -1,3 +1,4 @@
-pub mod StepLemmas
 pub mod OpeningLemmas
+pub mod PreparingLemmas
 pub mod RepositoryLemmas
+pub mod StepLemmas

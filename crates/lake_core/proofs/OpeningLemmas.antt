@@ -1,10 +1,11 @@
 -- A lake that is opened over a keeper.
 use Rattle.std.proofs.Common.{arith, inl, inr, ◌≡◌, ◌≤◌, ◌<◌, ℕ, zero, suc, List, [], ◌∷◌, length, refl, sym, ap, ◌∙◌, subst}
-use Rattle.std.specs.Prelude.{◌⊎◌, Option, Some, None, IfSome, Result, Ok, Err, IsErrAnd, MatchResult}
+use Rattle.std.specs.Prelude.{◌⊎◌, Option, Some, None, IfSome, Result, Ok, Err, IsErrAnd, MatchResult, is_some, option_map}
 use Rattle.std.specs.FinMap.{empty, empty_of_len, entries, len, len-empty, len-entries}
-use Rattle.keeper.specs.Keepers.{KeptPairs, MayHaveMade, entries_of, pairs_after}
+use Rattle.keeper.specs.Keepers.{IsQuietUnlessFailed, KeptPairs, MayHaveMade, entries_of, pairs_after}
 use Rattle.keeper.specs.declared.put.Put.{Put}
 use Rattle.lake_base.specs.Maps.{byte_order}
+use Rattle.lake_base.specs.Memory.{next_count}
 use Rattle.lake_base.specs.Outside.{Rose}
 use Rattle.lake_base.specs.declared.outside.Trouble.{Trouble}
 use Rattle.lake_base.specs.declared.outside.Trouble.TheVariants.{Failed, NoMemory}
@@ -17,7 +18,7 @@ use Rattle.lake_state.specs.Lakes.{LakeStateValue}
 use Rattle.lake_core.specs.declared.open_fault.OpenFault.{OpenFault}
 use Rattle.lake_core.specs.OpenFaults.{open_fault_of}
 use Rattle.lake_core.specs.Opening.{IsUnopened}
-use Rattle.lake_keeping.specs.Views.{KeeperView}
+use Rattle.lake_keeping.specs.Views.{IsCalledOnce, IsLaterKeeper, KeeperView}
 use Rattle.lake_standing.specs.Standing.{Stands}
 
 -- a number that isn't 0
@@ -53,14 +54,16 @@ stands_opened fresh opened present history stands is none now =
     subst (λ l. Stands l history present) (sym is)
     (subst (λ h. Stands fresh h present) (sym none) (subst (λ l. Stands fresh [] l) (sym now) stands))
 
--- a count that rose after another that didn't fall rose
-rises : (first next last : ℕ) → first ≤ next → next < last → first < last
-rises first next last later more = omega arith
+-- a keeper that was out of memory counted no fault
+pub quiet_out_of_memory : (before now : ℕ) (trouble : Trouble) → IsQuietUnlessFailed {T = Unit {0}} before now (Err trouble)
+    → trouble ≡ NoMemory → now ≡ before
+quiet_out_of_memory before now NoMemory quiet is = quiet
+quiet_out_of_memory before now Failed quiet is = absurd cc
 
 -- A keeper that had no pairs failed to make the puts, or memory ran out.
 module _ {K : Type 0} (view : KeeperView K) (cut : Cut) (old mid new : K) (made : List Put) (are : made ≡ fresh_puts cut)
     (same : view.kept mid ≡ view.kept old) (none : IfSome (view.kept old) (λ before. before ≡ empty))
-    (later : view.faults old ≤ view.faults mid) where
+    (calm : view.faults mid ≡ view.faults old) (called : view.calls mid ≡ view.calls old) where
   which : (b : KeptPairs) → b ≡ empty → (after : Option KeptPairs) → IfSome after (MayHaveMade made b)
       → IfSome after (λ a. (a ≡ b) ⊎ ((b ≡ empty) × (a ≡ pairs_after (fresh_puts cut) b)))
   which b had None may = tt
@@ -73,17 +76,30 @@ module _ {K : Type 0} (view : KeeperView K) (cut : Cut) (old mid new : K) (made 
   landed None had may = tt
   landed (Some b) had may = which b had (view.kept new) may
 
+  -- it was called once, and the count of its faults didn't fall
+  put_called : view.calls new ≡ option_map next_count (view.calls mid) → IsCalledOnce view old new
+  put_called once = once ∙ ap (option_map next_count) called
+
   pub put_failed : (P : LakeState → Type 0) (answer : Result LakeState OpenFault) (trouble : Trouble)
       → IsErrAnd answer (λ e. e ≡ open_fault_of trouble)
       → (trouble ≡ Failed → IfSome (view.kept mid) (λ b. IfSome (view.kept new) (MayHaveMade made b)))
       → (trouble ≡ NoMemory → view.kept new ≡ view.kept mid)
       → (trouble ≡ Failed → Rose (view.faults mid) (view.faults new))
+      → (trouble ≡ NoMemory → view.faults new ≡ view.faults mid)
+      → view.calls new ≡ option_map next_count (view.calls mid) → IsLaterKeeper view mid new
       → MatchResult answer P (λ fault. IsUnopened view cut old fault new)
-  put_failed P (Ok lake) trouble is failed no_memory rose = absurd is
-  put_failed P (Err e) Failed is failed no_memory rose =
-      subst (λ fault. IsUnopened view cut old fault new) (sym is) (
-        landed (view.kept old) none (subst (λ o. IfSome o (λ b. IfSome (view.kept new) (MayHaveMade made b))) same (failed refl)),
-        λ low. rises (view.faults old) (view.faults mid) (view.faults new) later (rose refl low),
-      )
-  put_failed P (Err e) NoMemory is failed no_memory rose =
-      subst (λ fault. IsUnopened view cut old fault new) (sym is) (no_memory refl ∙ same)
+  put_failed P (Ok lake) trouble is failed no_memory rose quiet once last = absurd is
+  put_failed P (Err e) Failed is failed no_memory rose quiet once last =
+      subst (λ fault. IsUnopened view cut old fault new) (sym is) (record {
+        cause = subst (λ n. Rose n (view.faults new)) calm (rose refl);
+        kept = landed (view.kept old) none (subst (λ o. IfSome o (λ b. IfSome (view.kept new) (MayHaveMade made b))) same (failed refl));
+        calls = inr (put_called once);
+        keeper = record { told = last.told ∙ ap is_some same; later = subst (λ n. n ≤ view.faults new) calm last.later };
+      })
+  put_failed P (Err e) NoMemory is failed no_memory rose quiet once last =
+      subst (λ fault. IsUnopened view cut old fault new) (sym is) (record {
+        cause = quiet refl ∙ calm;
+        kept = no_memory refl ∙ same;
+        calls = inr (put_called once);
+        keeper = record { told = last.told ∙ ap is_some same; later = subst (λ n. n ≤ view.faults new) calm last.later };
+      })

@@ -113,6 +113,8 @@ unmade_leaves {K} {X} view by made old new same (Err e) fault is (inl memory) =
       history = refl;
       present = refl;
       kept = refl;
+      calls = inl refl;
+      quiet = refl;
       keeper = record { told = refl; later = omega arith };
     }))
 

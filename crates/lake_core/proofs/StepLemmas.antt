@@ -249,6 +249,8 @@ module _ {K : Type 0} (view : KeeperView K) (by : By) (make : LakeState → Opti
     history = keeps.history;
     present = ap lake_value keeps.present ∙ same;
     kept = keeps.kept;
+    calls = keeps.calls;
+    quiet = keeps.quiet;
     keeper = keeps.keeper;
   }
   refusal_leaves X StoreFault keeps = record {
@@ -256,6 +258,7 @@ module _ {K : Type 0} (view : KeeperView K) (by : By) (make : LakeState → Opti
     history = keeps.history ∙ ap (λ o. history ++ faulted_entry by o ∷ []) is;
     present = keeps.present ∙ ap after_fault same;
     kept = subst (λ ps. IfSome (view.kept keeper) (λ b. IfSome (view.kept after.keeper) (MayHaveMade ps b))) are keeps.kept;
+    once = keeps.once;
     rose = keeps.rose;
     keeper = keeps.keeper;
   }
@@ -302,5 +305,7 @@ module _ {K : Type 0} (view : KeeperView K) (by : By) (make : LakeState → Opti
         history = kept.history ∙ ap (λ o. history ++ accepted_entry by o ∷ []) is;
         present = changed;
         kept = subst (λ ps. IfSome (view.kept keeper) (λ b. view.kept after.keeper ≡ Some (pairs_after ps b))) are kept.kept;
+        once = kept.once;
+        quiet = kept.quiet;
         keeper = kept.keeper;
       }))

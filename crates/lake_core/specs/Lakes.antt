@@ -6,7 +6,7 @@ use Rattle.lake_model.specs.History.{replay}
 use Rattle.lake_model.specs.Versions.{VersionsGiven}
 use Rattle.lake_state.specs.declared.lake.LakeState.{LakeState}
 use Rattle.lake_state.specs.Lakes.{lake_value, state_of}
-use Rattle.lake_standing.specs.Standing.{versions_at}
+use Rattle.lake_standing.specs.Standing.{versions_since}
 
 -- a lake: what it was opened as, the entries since, what it is in memory now, and the keeper of its pairs
 pub record LakeValue (K : Type 0) : Type 0 where
@@ -21,4 +21,4 @@ state l = replay (state_of (lake_value l.opened)) l.history
 
 -- the versions given up to now
 abbrev pub versions : {K : Type 0} → LakeValue K → VersionsGiven
-versions l = versions_at (lake_value l.opened) l.history
+versions l = versions_since (lake_value l.opened) l.history

@@ -10,12 +10,14 @@ use Rattle.lake_state.specs.Lakes.{lake_value}
 use Rattle.lake_core.specs.declared.open_fault.OpenFault.{OpenFault}
 use Rattle.lake_core.specs.declared.open_fault.OpenFault.TheVariants.{BadPair, NoMemory, StoreFault}
 use Rattle.lake_core.specs.Lakes.{LakeValue}
-use Rattle.lake_keeping.specs.Views.{IsLaterKeeper, KeeperView}
+use Rattle.lake_keeping.specs.Views.{IsCalledAtMostOnce, IsCalledOnce, IsLaterKeeper, IsNotCalled, KeeperView}
 
--- a keeper had no pairs, where it tells, and made the fresh lake's puts
+-- a keeper had no pairs, where it tells, and made the fresh lake's puts by one call
 pub record IsFilled {K : Type 0} (view : KeeperView K) (cut : Cut) (old new : K) : Type 0 where
   pub empty : IfSome (view.kept old) (λ before. before ≡ empty)
   pub kept : IfSome (view.kept old) (λ before. view.kept new ≡ Some (pairs_after (fresh_puts cut) before))
+  pub once : IsCalledOnce view old new
+  pub quiet : view.faults new ≡ view.faults old
   pub keeper : IsLaterKeeper view old new
 
 -- a fresh lake was opened: it has no entries, and its keeper its pairs
@@ -25,13 +27,25 @@ pub record IsOpened {K : Type 0} (view : KeeperView K) (cut : Cut) (keeper : K) 
   pub present : lake.present ≡ lake.opened
   pub filled : IsFilled view cut keeper lake.keeper
 
--- It wasn't, for this fault, and the keeper is handed back. Its pairs are as they were, but that a keeper without pairs
--- may have made the fresh lake's puts where the store failed.
-abbrev pub IsUnopened : {K : Type 0} → KeeperView K → Cut → K → OpenFault → K → Type 0
-IsUnopened view cut keeper StoreFault back =
+-- what a keeper keeps after an opening that came to this fault: its pairs are as they were, but that a keeper without
+-- pairs may have made the fresh lake's puts where the store failed
+abbrev pub KeptBy : {K : Type 0} → KeeperView K → Cut → K → OpenFault → K → Type 0
+KeptBy view cut keeper StoreFault back =
     IfSome (view.kept keeper) (λ before. IfSome (view.kept back)
     (λ after. (after ≡ before) ⊎ ((before ≡ empty) × (after ≡ pairs_after (fresh_puts cut) before))))
-    × Rose (view.faults keeper) (view.faults back)
-IsUnopened view cut keeper (BadPair number) back =
-    (number ≡ 0) × IfSome (view.kept keeper) (λ before. before ≡ empty → ⊥) × (view.kept back ≡ view.kept keeper)
-IsUnopened view cut keeper NoMemory back = view.kept back ≡ view.kept keeper
+KeptBy view cut keeper (BadPair number) back = view.kept back ≡ view.kept keeper
+KeptBy view cut keeper NoMemory back = view.kept back ≡ view.kept keeper
+
+-- the cause of a fault: the keeper failed, or it had pairs and wasn't called to put, or memory ran out and it didn't fail
+abbrev pub HasOpenCause : {K : Type 0} → KeeperView K → K → OpenFault → K → Type 0
+HasOpenCause view old StoreFault back = Rose (view.faults old) (view.faults back)
+HasOpenCause view old (BadPair number) back =
+    (number ≡ 0) × (IfSome (view.kept old) (λ before. before ≡ empty → ⊥) × IsNotCalled view old back)
+HasOpenCause view old NoMemory back = view.faults back ≡ view.faults old
+
+-- It wasn't, for this fault, and the keeper is handed back, called to put at most once.
+pub record IsUnopened {K : Type 0} (view : KeeperView K) (cut : Cut) (old : K) (fault : OpenFault) (back : K) : Type 0 where
+  pub cause : HasOpenCause view old fault back
+  pub kept : KeptBy view cut old fault back
+  pub calls : IsCalledAtMostOnce view old back
+  pub keeper : IsLaterKeeper view old back

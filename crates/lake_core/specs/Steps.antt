@@ -10,7 +10,7 @@ use Rattle.lake_model.specs.declared.history.Operation.{Operation}
 use Rattle.lake_model.specs.History.{accepted_entry, faulted_entry}
 use Rattle.lake_state.specs.Lakes.{LakeStateValue, lake_value}
 use Rattle.lake_changes.specs.LakeChanges.{after_fault}
-use Rattle.lake_keeping.specs.Views.{IsLaterKeeper, KeeperView}
+use Rattle.lake_keeping.specs.Views.{IsCalledAtMostOnce, IsCalledOnce, IsLaterKeeper, KeeperView}
 use Rattle.lake_core.specs.Lakes.{LakeValue}
 
 -- a change: its operation, what becomes of the lake in memory, and the puts by which that is kept
@@ -19,30 +19,35 @@ pub record Making : Type 0 where
   pub after : LakeStateValue → LakeStateValue
   pub puts : List Put
 
--- It was made: the history has its one entry more, and the keeper made its puts.
+-- It was made: the history has its one entry more, and the keeper made its puts by one call that didn't fail.
 pub record IsMade {K : Type 0} (view : KeeperView K) (by : By) (made : Making) (old new : LakeValue K) : Type 0 where
   pub opened : new.opened ≡ old.opened
   pub history : new.history ≡ old.history ++ accepted_entry by made.operation ∷ []
   pub present : lake_value new.present ≡ made.after (lake_value old.present)
   pub kept : IfSome (view.kept old.keeper) (λ before. view.kept new.keeper ≡ Some (pairs_after made.puts before))
+  pub once : IsCalledOnce view old.keeper new.keeper
+  pub quiet : view.faults new.keeper ≡ view.faults old.keeper
   pub keeper : IsLaterKeeper view old.keeper new.keeper
 
--- The store failed: the history has its fault, the lake is stopped, the keeper made all of the puts or none, and its
--- count of faults rose.
+-- The store failed at the one call: the history has its fault, the lake is stopped, the keeper made all of the puts or
+-- none, and its count of faults rose.
 pub record IsFaulted {K : Type 0} (view : KeeperView K) (by : By) (made : Making) (old new : LakeValue K) : Type 0 where
   pub opened : new.opened ≡ old.opened
   pub history : new.history ≡ old.history ++ faulted_entry by made.operation ∷ []
   pub present : lake_value new.present ≡ after_fault (lake_value old.present)
   pub kept : IfSome (view.kept old.keeper) (λ before. IfSome (view.kept new.keeper) (MayHaveMade made.puts before))
+  pub once : IsCalledOnce view old.keeper new.keeper
   pub rose : Rose (view.faults old.keeper) (view.faults new.keeper)
   pub keeper : IsLaterKeeper view old.keeper new.keeper
 
--- Memory ran out: nothing changed.
+-- Memory ran out, which is no failure of the keeper: nothing changed.
 pub record IsAsBefore {K : Type 0} (view : KeeperView K) (old new : LakeValue K) : Type 0 where
   pub opened : new.opened ≡ old.opened
   pub history : new.history ≡ old.history
   pub present : lake_value new.present ≡ lake_value old.present
   pub kept : view.kept new.keeper ≡ view.kept old.keeper
+  pub calls : IsCalledAtMostOnce view old.keeper new.keeper
+  pub quiet : view.faults new.keeper ≡ view.faults old.keeper
   pub keeper : IsLaterKeeper view old.keeper new.keeper
 
 -- What a change leaves: where it was accepted it was made, once; where the store failed its fault stands; and where it

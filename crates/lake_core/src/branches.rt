@@ -45,7 +45,7 @@ impl<K: Keeper> Lake<K> {
     ) -> Result<(u64, CommitId), StepFault>
         requires { is_like_id name ≡ false }
         ensures reply { IsCreateBranchReply (state self.old) repo.now name e.now result }
-        ensures leaves { Leaves (record { kept = K.kept; faults = K.faults }) by
+        ensures leaves { Leaves (record { kept = K.kept; faults = K.faults; calls = K.calls }) by
             (create_branch repo.now name e.now (lake_value self.old.present)) result self.old self.new }
     {
         // Test.
@@ -87,7 +87,7 @@ impl<K: Keeper> Lake<K> {
         name: &RefName,
     ) -> Result<u64, StepFault>
         ensures reply { GivesOrFails result (delete_branch_reply (state self.old) repo.now name.now) }
-        ensures leaves { Leaves (record { kept = K.kept; faults = K.faults }) by
+        ensures leaves { Leaves (record { kept = K.kept; faults = K.faults; calls = K.calls }) by
             (Some (delete_branch repo.now name.now (lake_value self.old.present))) result self.old self.new }
     {
         // Test.
@@ -125,7 +125,7 @@ impl<K: Keeper> Lake<K> {
     ) -> Result<Versions, StepFault>
         ensures reply { GivesOrFails result
             (seal_reply why (state self.old) (versions self.old) repo.now branch.now) }
-        ensures leaves { Leaves (record { kept = K.kept; faults = K.faults }) by
+        ensures leaves { Leaves (record { kept = K.kept; faults = K.faults; calls = K.calls }) by
             (Some (seal repo.now branch.now why (lake_value self.old.present))) result self.old self.new }
     {
         // Test.
@@ -175,7 +175,7 @@ impl<K: Keeper> Lake<K> {
         what: ResetWhat,
     ) -> Result<u64, StepFault>
         ensures reply { GivesOrFails result (reset_reply (state self.old) repo.now branch.now) }
-        ensures leaves { Leaves (record { kept = K.kept; faults = K.faults }) by
+        ensures leaves { Leaves (record { kept = K.kept; faults = K.faults; calls = K.calls }) by
             (Some (reset repo.now branch.now what (lake_value self.old.present))) result self.old self.new }
     {
         // Test.

@@ -19,8 +19,8 @@ pub(crate) fn fill<K: Keeper>(
 ) -> Result<LakeState, OpenFault>
     ensures { MatchResult result
         (λ lake. (lake_value lake ≡ fresh_lake cut)
-        × IsFilled (record { kept = K.kept; faults = K.faults }) cut keeper.old keeper.new)
-        (λ fault. IsUnopened (record { kept = K.kept; faults = K.faults }) cut keeper.old fault keeper.new) }
+        × IsFilled (record { kept = K.kept; faults = K.faults; calls = K.calls }) cut keeper.old keeper.new)
+        (λ fault. IsUnopened (record { kept = K.kept; faults = K.faults; calls = K.calls }) cut keeper.old fault keeper.new) }
 {
     let pairs = keeper.load()?;
     if has_pairs(pairs.as_slice()) {

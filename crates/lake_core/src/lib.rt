@@ -3,7 +3,7 @@
 //! - `lake`: the lake, and its keeper; `opening`: a lake that is opened, by `filling` a keeper without pairs.
 //! - `ready`: what a change has ready before it is kept.
 //! - `repositories`, `tickets`, `paths`, `branches`, `tags`, `notes`: the changes.
-//! - `readings`: the readings.
+//! - `readings`: the readings; `preparing`: what a new head of a branch is made from.
 //!
 //! Each change has four blocks: it tests what may refuse it, in the one order; takes its memory; keeps its puts and its
 //! entry by one call of the keeper; and changes the lake in memory, which can't be refused any more.
@@ -20,6 +20,7 @@ pub mod notes;
 mod open_fault;
 pub mod opening;
 pub mod paths;
+pub mod preparing;
 pub mod readings;
 mod ready;
 pub mod repositories;

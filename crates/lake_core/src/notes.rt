@@ -47,7 +47,7 @@ impl<K: Keeper> Lake<K> {
         requires text { IfSome note HasText }
         ensures reply { GivesOrFails result
             (set_note_reply (state self.old) (versions self.old) repo.now expected name note) }
-        ensures leaves { Leaves (record { kept = K.kept; faults = K.faults }) by
+        ensures leaves { Leaves (record { kept = K.kept; faults = K.faults; calls = K.calls }) by
             (Some (set_note repo.now name note (lake_value self.old.present))) result self.old self.new }
     {
         // Test.

@@ -1,5 +1,5 @@
 //! A lake that is opened.
-ghost use Rattle.std.specs.Prelude.{◌≡◌, MatchResult};
+ghost use Rattle.std.specs.Prelude.{◌≡◌, ◌<◌, MatchResult};
 ghost use Rattle.lake_core.specs.Opening.{IsOpened, IsUnopened};
 
 use crate::filling::fill;
@@ -18,9 +18,10 @@ impl<K: Keeper> Lake<K> {
     /// A fresh lake of a cut over a keeper without pairs, whose pairs it puts by one call. A refusal hands the keeper
     /// back. StoreFault, only where the keeper's count of faults rose; BadPair(0) where it has pairs; NoMemory.
     pub fn opened(alloc: Global, keeper: K, cut: Cut) -> Result<Lake<K>, (OpenFault, K)>
+        requires { 0 < cut.modulus }
         ensures { MatchResult result
-            (λ lake. IsOpened (record { kept = K.kept; faults = K.faults }) cut keeper lake)
-            (λ refusal. IsUnopened (record { kept = K.kept; faults = K.faults }) cut keeper refusal.0 refusal.1) }
+            (λ lake. IsOpened (record { kept = K.kept; faults = K.faults; calls = K.calls }) cut keeper lake)
+            (λ refusal. IsUnopened (record { kept = K.kept; faults = K.faults; calls = K.calls }) cut keeper refusal.0 refusal.1) }
     {
         let mut keeper = keeper;
         match fill(alloc, &mut keeper, cut) {

@@ -47,7 +47,7 @@ impl<K: Keeper> Lake<K> {
         requires { IfSome (put_number change) (HasTicket (state self.old) by.seat) }
         ensures reply { GivesOrFails result
             (stage_reply (state self.old) (versions self.old) repo.now branch.now version) }
-        ensures leaves { Leaves (record { kept = K.kept; faults = K.faults }) by
+        ensures leaves { Leaves (record { kept = K.kept; faults = K.faults; calls = K.calls }) by
             (Some (stage repo.now branch.now path change (lake_value self.old.present))) result self.old self.new }
     {
         // Test.
@@ -95,7 +95,7 @@ impl<K: Keeper> Lake<K> {
     ) -> Result<(u64, Entry), StepFault>
         ensures reply { IsCopyReply (state self.old) (versions self.old) repo.now branch.now version
             e.now from.now result }
-        ensures leaves { Leaves (record { kept = K.kept; faults = K.faults }) by
+        ensures leaves { Leaves (record { kept = K.kept; faults = K.faults; calls = K.calls }) by
             (copy repo.now branch.now path e.now from.now (lake_value self.old.present)) result self.old self.new }
     {
         // Test.

@@ -21,7 +21,7 @@ pub fn keep<K: Keeper>(
     puts: Vec<Put>,
 ) -> Result<(), StepFault>
     requires few { AreFew (lake_value present.old) }
-    ensures { Keeps (record { kept = K.kept; faults = K.faults }) by operation puts.items result
+    ensures { Keeps (record { kept = K.kept; faults = K.faults; calls = K.calls }) by operation puts.items result
         (record { keeper = keeper.old; history = history.old.items; present = present.old })
         (record { keeper = keeper.new; history = history.new.items; present = present.new }) }
 {

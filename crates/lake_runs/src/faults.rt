@@ -26,6 +26,7 @@ pub fn law_of_sure_lakes()
     ensures { let view : KeeperView KeptPairs = record {
       kept = ⟦<SureKeeper as Keeper>⟧.kept;
       faults = ⟦<SureKeeper as Keeper>⟧.faults;
+      calls = ⟦<SureKeeper as Keeper>⟧.calls;
     } in
         (cut : Cut) (keeper : KeptPairs) (first last : LakeValue KeptPairs)
         → IsOpened view cut keeper first → IsRun view first last → HasFault last.history → ⊥ }

@@ -10,7 +10,7 @@ use Rattle.lake_state.specs.Index.{HasIndex}
 use Rattle.lake_state.specs.Lakes.{LakeStateValue, state_of}
 use Rattle.lake_changes.specs.FreshTokens.{AreTokensBelow}
 use Rattle.lake_changes.specs.LakeChanges.{after_fault}
-use Rattle.lake_standing.specs.Standing.{MayMake, Stands, versions_at}
+use Rattle.lake_standing.specs.Standing.{MayMake, Stands, versions_since}
 use Rattle.lake_standing.proofs.StandingLemmas.{Follows, stands_more}
 
 module _ (opened : LakeStateValue) (history : List HistoryEntry) (l : LakeStateValue) (by : By) (operation : Operation)
@@ -39,7 +39,7 @@ module _ (opened : LakeStateValue) (history : List HistoryEntry) (l : LakeStateV
   -- it is made, and what holds of the lake before it holds of the lake after it
   pub may_make : (make : LakeStateValue → LakeStateValue)
       → state_of (make l) ≡ after (state_of l) (accepted_entry by operation)
-      → (HasVersions (versions_at opened history) l → HasVersions (versions_after (versions_at opened history) (accepted_entry by operation)) (make l))
+      → (HasVersions (versions_since opened history) l → HasVersions (versions_after (versions_since opened history) (accepted_entry by operation)) (make l))
       → (AreTokensBelow l → AreTokensBelow (make l))
       → (AreFew l → AreCounted (make l))
       → (AreFew l → AreCounted (after_fault l))

@@ -1,5 +1,7 @@
 -- A lake that stands for its history stands for one more entry after it was made.
-use Rattle.std.proofs.Common.{◌≡◌, List, [], ◌∷◌, ◌++◌, refl, sym, ap, ◌∙◌, subst}
+use Rattle.std.proofs.Common.{◌≡◌, ◌<◌, List, [], ◌∷◌, ◌++◌, refl, sym, ap, ◌∙◌, subst}
+use Rattle.lake_format.specs.declared.cut.Cut.{Cut}
+use Rattle.lake_laws.proofs.RepositoryLemmas.{cut_after}
 use Rattle.lake_model.specs.declared.history.HistoryEntry.{HistoryEntry}
 use Rattle.lake_model.specs.State.{State}
 use Rattle.lake_model.specs.History.{Allows, IsLegal, after, replay}
@@ -8,7 +10,7 @@ use Rattle.lake_state.specs.Counts.{AreCounted, HasVersions, versions_of}
 use Rattle.lake_state.specs.Index.{HasIndex}
 use Rattle.lake_state.specs.Lakes.{LakeStateValue, state_of}
 use Rattle.lake_changes.specs.FreshTokens.{AreTokensBelow}
-use Rattle.lake_standing.specs.Standing.{Stands, versions_at}
+use Rattle.lake_standing.specs.Standing.{Stands, versions_since}
 
 -- an entry that may come next makes a legal history longer
 legal_more : (state : State) (history : List HistoryEntry) (entry : HistoryEntry)
@@ -31,7 +33,7 @@ pub record Follows (opened : LakeStateValue) (history : List HistoryEntry) (pres
     (next : LakeStateValue) : Type 0 where
   pub allowed : Allows (state_of present) entry
   pub state : state_of next ≡ after (state_of present) entry
-  pub versions : HasVersions (versions_after (versions_at opened history) entry) next
+  pub versions : HasVersions (versions_after (versions_since opened history) entry) next
   pub tokens : AreTokensBelow next
   pub counted : AreCounted next
   pub index : HasIndex next
@@ -48,4 +50,5 @@ stands_more opened history present entry next stands follows = record {
   tokens = follows.tokens;
   counted = follows.counted;
   index = follows.index;
+  modulus = subst (λ (c : Cut). 0 < c.modulus) (sym (ap (λ (s : State). s.cut) follows.state ∙ cut_after (state_of present) entry)) stands.modulus;
 }

@@ -13,7 +13,7 @@ ghost use Rattle.lake_model.specs.Refusals.{first_cause};
 ghost use Rattle.lake_model.specs.Steps.{create_branch_causes, create_tag_causes, delete_branch_causes, delete_tag_causes, in_it, set_note_causes, target_in};
 ghost use Rattle.lake_state.specs.Lakes.{LakeStateValue, state_of};
 ghost use Rattle.lake_changes.specs.LakeChanges.{after_branch_create, after_branch_delete, after_note_set, after_tag_create, after_tag_delete};
-ghost use Rattle.lake_standing.specs.Standing.{MayMake, Stands, versions_at};
+ghost use Rattle.lake_standing.specs.Standing.{MayMake, Stands, versions_since};
 
 use lake_changes::{laws_of_counts, laws_of_few, laws_of_indexes, laws_of_states, laws_of_tokens};
 use lake_laws::soundness::law_of_soundness;
@@ -60,7 +60,7 @@ pub fn law_of_settings()
     ensures { (opened : LakeStateValue) (history : List HistoryEntry) (present : LakeStateValue)
         (by : By) (repo : List ℕ) (expected : Option ℕ) (name : NoteName) (note : Option Note)
         → Stands opened history present
-        → first_cause (set_note_causes (state_of present) (versions_at opened history) repo expected name note) ≡ None
+        → first_cause (set_note_causes (state_of present) (versions_since opened history) repo expected name note) ≡ None
         → IfSome note (λ n. note_name n ≡ name)
         → MayMake opened history present by (NoteSet repo name note) (after_note_set repo name note) }
 {

@@ -1,5 +1,5 @@
 //! A lake that was just opened.
-ghost use Rattle.std.specs.Prelude.{◌≡◌, []};
+ghost use Rattle.std.specs.Prelude.{◌≡◌, ◌<◌, []};
 ghost use Rattle.lake_model.specs.Soundness.{IsSound};
 ghost use Rattle.lake_model.specs.Versions.{AreBelowNext, VersionsGiven};
 ghost use Rattle.lake_state.specs.Counts.{AreCounted, HasVersions, versions_of};
@@ -11,10 +11,10 @@ ghost use Rattle.lake_standing.specs.Standing.{HasNoHistory, Stands};
 use lake_state::law_of_versions;
 
 /// A sound lake in which nothing has happened stands for no entries, where its versions are below the next one, its
-/// tokens are fresh, its counts are small and its index tells of just what is kept.
+/// tokens are fresh, its counts are small, its index tells of just what is kept, and the modulus of its cut is above 0.
 pub fn law_of_opening()
     ensures { (l : LakeStateValue) → IsSound (state_of l) → HasNoHistory l → AreBelowNext (versions_of l)
-        → AreTokensBelow l → AreCounted l → HasIndex l → Stands l [] l }
+        → AreTokensBelow l → AreCounted l → HasIndex l → 0 < l.cut.modulus → Stands l [] l }
 {
     law_of_versions();
 }

@@ -14,7 +14,7 @@ ghost use Rattle.lake_model.specs.Steps.{copied_entry, copy_causes, copy_source,
 ghost use Rattle.lake_model.specs.Uncommitted.{HasTicket, put_number};
 ghost use Rattle.lake_state.specs.Lakes.{LakeStateValue, state_of};
 ghost use Rattle.lake_changes.specs.LakeChanges.{after_copy, after_reset, after_seal, after_stage, after_ticket_drop, after_ticket_take};
-ghost use Rattle.lake_standing.specs.Standing.{MayMake, Stands, versions_at};
+ghost use Rattle.lake_standing.specs.Standing.{MayMake, Stands, versions_since};
 
 use lake_changes::{laws_of_counts, laws_of_few, laws_of_indexes, laws_of_states, laws_of_tokens};
 use lake_laws::soundness::law_of_soundness;
@@ -49,14 +49,14 @@ pub fn laws_of_writes()
     ensures stage { (opened : LakeStateValue) (history : List HistoryEntry) (present : LakeStateValue)
         (by : By) (repo branch : List ℕ) (version : ℕ) (path : List ℕ) (change : Change)
         → Stands opened history present
-        → first_cause (stage_causes (state_of present) (versions_at opened history) repo branch version) ≡ None
+        → first_cause (stage_causes (state_of present) (versions_since opened history) repo branch version) ≡ None
         → IfSome (put_number change) (HasTicket (state_of present) by.seat)
         → MayMake opened history present by (Stage repo branch path change) (after_stage repo branch path change) }
     ensures copy { (opened : LakeStateValue) (history : List HistoryEntry) (present : LakeStateValue)
         (by : By) (repo branch : List ℕ) (version : ℕ) (path : List ℕ)
         (e : RefExprValue) (source : CopySource) (from : List ℕ) (entry : EntryValue)
         → Stands opened history present
-        → first_cause (copy_causes (state_of present) (versions_at opened history) repo branch version e from) ≡ None
+        → first_cause (copy_causes (state_of present) (versions_since opened history) repo branch version e from) ≡ None
         → copied_entry (state_of present) repo e from ≡ Some entry
         → in_it (state_of present) repo (λ r. copy_source r e) ≡ Some source
         → MayMake opened history present by (Copy repo branch path source from entry)

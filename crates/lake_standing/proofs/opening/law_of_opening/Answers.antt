@@ -2,7 +2,7 @@ use Rattle.std.proofs.Common.{refl}
 use Rattle.lake_standing.proofs.opening.law_of_opening.Goals as goal
 
 pub returns : goal.returns
-returns c l sound fresh below tokens counted index = record {
+returns c l sound fresh below tokens counted index modulus = record {
   sound = sound;
   fresh_start = fresh;
   versions_below = below;
@@ -12,4 +12,5 @@ returns c l sound fresh below tokens counted index = record {
   tokens = tokens;
   counted = counted;
   index = index;
+  modulus = modulus;
 }

@@ -1,7 +1,7 @@
 use Rattle.lake_model.specs.declared.history.Operation.TheVariants.{RepoCreate}
 use Rattle.lake_state.specs.Lakes.{state_of}
 use Rattle.lake_changes.specs.LakeChanges.{after_repository_create}
-use Rattle.lake_standing.specs.Standing.{versions_at}
+use Rattle.lake_standing.specs.Standing.{versions_since}
 use Rattle.lake_standing.proofs.MakingLemmas.{may_make}
 use Rattle.lake_standing.proofs.PresentLemmas.{isnt_there, present_sound}
 use Rattle.lake_standing.proofs.RepositoryLemmas.{no_clash}
@@ -15,7 +15,7 @@ returns c opened history l by repo branch date clash stands causes is plain =
     let sound = present_sound c.law_of_soundness.ensures.replay opened history l stands in
     may_make opened history l by (RepoCreate repo branch date) stands allowed (after_repository_create repo branch date)
     (c.laws_of_states.ensures.repository_create l by repo branch date)
-    (λ has. c.laws_of_counts.ensures.repository_create (versions_at opened history) l by repo branch date has unused)
+    (λ has. c.laws_of_counts.ensures.repository_create (versions_since opened history) l by repo branch date has unused)
     (c.laws_of_tokens.ensures.repository_create l repo branch date)
     (c.laws_of_few.ensures.repository_create l repo branch date) (c.laws_of_few.ensures.fault l)
     (λ has. c.laws_of_indexes.ensures.repository_create l repo branch date has sound unused allowed.possible.admissible)

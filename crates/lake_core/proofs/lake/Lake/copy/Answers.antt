@@ -6,7 +6,7 @@ use Rattle.lake_model.specs.declared.history.Operation.TheVariants as operation
 use Rattle.lake_causes.specs.Finding.{source_of}
 use Rattle.lake_state.specs.Counts.{AreFew}
 use Rattle.lake_state.specs.Lakes.{lake_value, state_of}
-use Rattle.lake_standing.specs.Standing.{versions_at}
+use Rattle.lake_standing.specs.Standing.{versions_since}
 use Rattle.lake_changes.specs.LakeChanges.{after_copy}
 use Rattle.lake_puts.specs.Puts.{stage_puts}
 use Rattle.lake_core.specs.Makings.{copy, copy_making}
@@ -19,40 +19,40 @@ test_copy-requires g c = c.law_of_present.ensures _ _ _ c.self.invariant
 pub returns-in_err-copied-clause-reply : goal.returns-in_err-copied-clause-reply
 returns-in_err-copied-clause-reply g c =
     holds_now (λ s given. IsCopyReply s given c.args.repo.now c.args.branch.now c.args.version c.args.e.now c.args.from.now c.from_residual.result) c.self.view_is c.self.invariant.replayed
-    (refused_found (state_of (lake_value c.self.inside.present)) (copy_causes (state_of (lake_value c.self.inside.present)) (versions_at (lake_value c.self.inside.opened.value) c.self.inside.history.items) c.args.repo.now c.args.branch.now c.args.version c.args.e.now c.args.from.now) (copied_entry (state_of (lake_value c.self.inside.present)) c.args.repo.now c.args.e.now c.args.from.now) (c.laws_of_causes.ensures.copy (state_of (lake_value c.self.inside.present)) (versions_at (lake_value c.self.inside.opened.value) c.self.inside.history.items) c.args.repo.now c.args.branch.now c.args.version c.args.e.now c.args.from.now) _ _ c.from_residual.ensures.1
-    (c.in_err-copied.ensures (versions_at (lake_value c.self.inside.opened.value) c.self.inside.history.items) c.self.invariant.versions))
+    (refused_found (state_of (lake_value c.self.inside.present)) (copy_causes (state_of (lake_value c.self.inside.present)) (versions_since (lake_value c.self.inside.opened.value) c.self.inside.history.items) c.args.repo.now c.args.branch.now c.args.version c.args.e.now c.args.from.now) (copied_entry (state_of (lake_value c.self.inside.present)) c.args.repo.now c.args.e.now c.args.from.now) (c.laws_of_causes.ensures.copy (state_of (lake_value c.self.inside.present)) (versions_since (lake_value c.self.inside.opened.value) c.self.inside.history.items) c.args.repo.now c.args.branch.now c.args.version c.args.e.now c.args.from.now) _ _ c.from_residual.ensures.1
+    (c.in_err-copied.ensures (versions_since (lake_value c.self.inside.opened.value) c.self.inside.history.items) c.self.invariant.versions))
 
 pub returns-in_err-copied-clause-leaves : goal.returns-in_err-copied-clause-leaves
 returns-in_err-copied-clause-leaves g c =
     refused_leaves _ _ (copy c.args.repo.now c.args.branch.now c.args.path c.args.e.now c.args.from.now (lake_value c.args.self.now.present)) _ _ refl _ _ c.from_residual.ensures.1
-    (c.laws_of_causes.ensures.copy (state_of (lake_value c.self.inside.present)) (versions_at (lake_value c.self.inside.opened.value) c.self.inside.history.items) c.args.repo.now c.args.branch.now c.args.version c.args.e.now c.args.from.now _ (c.in_err-copied.ensures (versions_at (lake_value c.self.inside.opened.value) c.self.inside.history.items) c.self.invariant.versions))
+    (c.laws_of_causes.ensures.copy (state_of (lake_value c.self.inside.present)) (versions_since (lake_value c.self.inside.opened.value) c.self.inside.history.items) c.args.repo.now c.args.branch.now c.args.version c.args.e.now c.args.from.now _ (c.in_err-copied.ensures (versions_since (lake_value c.self.inside.opened.value) c.self.inside.history.items) c.self.invariant.versions))
 
 pub keep-requires : goal.keep-requires
 keep-requires g c =
-    let found = c.in_ok-copied.ensures (versions_at (lake_value c.self.inside.opened.value) c.self.inside.history.items) c.self.invariant.versions in
+    let found = c.in_ok-copied.ensures (versions_since (lake_value c.self.inside.opened.value) c.self.inside.history.items) c.self.invariant.versions in
     let may = c.laws_of_writes.ensures.copy _ _ _ c.args.by c.args.repo.now c.args.branch.now c.args.version c.args.path c.args.e.now (source_of c.args.e.now.name c.in_ok-copied.copied.commit) c.args.from.now c.in_ok-copied.copied.entry.now c.self.invariant found.0 found.1.found found.1.source in
     record { few = subst AreFew (sym c.in_ok-puts.ensures.same) may.few }
 
 pub copy-requires-clause-few : goal.copy-requires-clause-few
 copy-requires-clause-few g c =
-    let found = c.in_ok-copied.ensures (versions_at (lake_value c.self.inside.opened.value) c.self.inside.history.items) c.self.invariant.versions in
+    let found = c.in_ok-copied.ensures (versions_since (lake_value c.self.inside.opened.value) c.self.inside.history.items) c.self.invariant.versions in
     let may = c.laws_of_writes.ensures.copy _ _ _ c.args.by c.args.repo.now c.args.branch.now c.args.version c.args.path c.args.e.now (source_of c.args.e.now.name c.in_ok-copied.copied.commit) c.args.from.now c.in_ok-copied.copied.entry.now c.self.invariant found.0 found.1.found found.1.source in
     subst AreFew (sym (ap lake_value c.in_ok-keep.ensures.present ∙ c.in_ok-puts.ensures.same)) may.few
 
 pub invariant_of-self-in_err-keep : goal.invariant_of-self-in_err-keep
 invariant_of-self-in_err-keep g c =
-    let found = c.in_ok-copied.ensures (versions_at (lake_value c.self.inside.opened.value) c.self.inside.history.items) c.self.invariant.versions in
+    let found = c.in_ok-copied.ensures (versions_since (lake_value c.self.inside.opened.value) c.self.inside.history.items) c.self.invariant.versions in
     let may = c.laws_of_writes.ensures.copy _ _ _ c.args.by c.args.repo.now c.args.branch.now c.args.version c.args.path c.args.e.now (source_of c.args.e.now.name c.in_ok-copied.copied.commit) c.args.from.now c.in_ok-copied.copied.entry.now c.self.invariant found.0 found.1.found found.1.source in
     refused_stands may _ _ _ _ _ _ c.self.invariant (c.in_ok-operation.ensures.operation ∙ ap (λ v. operation.Copy c.args.repo.now c.args.branch.now c.args.path (source_of v.name c.in_ok-copied.copied.commit) c.args.from.now c.in_ok-copied.copied.entry.now) c.e.view_is) refl c.in_ok-puts.ensures.same c.in_err-keep.ensures
 
 pub returns-in_err-keep-clause-reply : goal.returns-in_err-keep-clause-reply
 returns-in_err-keep-clause-reply g c =
     holds_now (λ s given. IsCopyReply s given c.args.repo.now c.args.branch.now c.args.version c.args.e.now c.args.from.now c.from_residual-in_err-keep.result) c.self.view_is c.self.invariant.replayed
-    (unkept_found _ _ _ _ _ _ (state_of (lake_value c.self.inside.present)) (copy_causes (state_of (lake_value c.self.inside.present)) (versions_at (lake_value c.self.inside.opened.value) c.self.inside.history.items) c.args.repo.now c.args.branch.now c.args.version c.args.e.now c.args.from.now) (copied_entry (state_of (lake_value c.self.inside.present)) c.args.repo.now c.args.e.now c.args.from.now) (c.in_ok-copied.ensures (versions_at (lake_value c.self.inside.opened.value) c.self.inside.history.items) c.self.invariant.versions).0 _ _ c.from_residual-in_err-keep.ensures.1 c.in_err-keep.ensures)
+    (unkept_found _ _ _ _ _ _ (state_of (lake_value c.self.inside.present)) (copy_causes (state_of (lake_value c.self.inside.present)) (versions_since (lake_value c.self.inside.opened.value) c.self.inside.history.items) c.args.repo.now c.args.branch.now c.args.version c.args.e.now c.args.from.now) (copied_entry (state_of (lake_value c.self.inside.present)) c.args.repo.now c.args.e.now c.args.from.now) (c.in_ok-copied.ensures (versions_since (lake_value c.self.inside.opened.value) c.self.inside.history.items) c.self.invariant.versions).0 _ _ c.from_residual-in_err-keep.ensures.1 c.in_err-keep.ensures)
 
 pub returns-in_err-keep-clause-leaves : goal.returns-in_err-keep-clause-leaves
 returns-in_err-keep-clause-leaves g c =
-    let found = c.in_ok-copied.ensures (versions_at (lake_value c.self.inside.opened.value) c.self.inside.history.items) c.self.invariant.versions in
+    let found = c.in_ok-copied.ensures (versions_since (lake_value c.self.inside.opened.value) c.self.inside.history.items) c.self.invariant.versions in
     unkept_leaves _ _ (λ p. copy c.args.repo.now c.args.branch.now c.args.path c.args.e.now c.args.from.now (lake_value p))
     (copy_making c.args.repo.now c.args.branch.now c.args.path (source_of c.args.e.now.name c.in_ok-copied.copied.commit) c.args.from.now c.in_ok-copied.copied.entry.now (lake_value c.self.inside.present)) _ _ (c.in_ok-operation.ensures.operation ∙ ap (λ v. operation.Copy c.args.repo.now c.args.branch.now c.args.path (source_of v.name c.in_ok-copied.copied.commit) c.args.from.now c.in_ok-copied.copied.entry.now) c.e.view_is) (c.in_ok-puts.ensures.puts ∙ ap (λ x. stage_puts c.args.repo.now c.args.branch.now c.args.path (Put x) (lake_value c.self.inside.present)) c.in_ok-operation.ensures.entry)
     _ _ _ _ _ (record { keeper = c.keep.new.keeper; history = c.keep.new.history.items; present = c.keep.new.present }) c.in_ok-puts.ensures.same (ap (option_and_then (λ source. option_map (λ x. copy_making c.args.repo.now c.args.branch.now c.args.path source c.args.from.now x (lake_value c.self.inside.present)) (copied_entry (state_of (lake_value c.self.inside.present)) c.args.repo.now c.args.e.now c.args.from.now))) found.1.source
@@ -60,20 +60,20 @@ returns-in_err-keep-clause-leaves g c =
 
 pub invariant_of-self-2 : goal.invariant_of-self-2
 invariant_of-self-2 g c =
-    let found = c.in_ok-copied.ensures (versions_at (lake_value c.self.inside.opened.value) c.self.inside.history.items) c.self.invariant.versions in
+    let found = c.in_ok-copied.ensures (versions_since (lake_value c.self.inside.opened.value) c.self.inside.history.items) c.self.invariant.versions in
     let may = c.laws_of_writes.ensures.copy _ _ _ c.args.by c.args.repo.now c.args.branch.now c.args.version c.args.path c.args.e.now (source_of c.args.e.now.name c.in_ok-copied.copied.commit) c.args.from.now c.in_ok-copied.copied.entry.now c.self.invariant found.0 found.1.found found.1.source in
     made_stands may _ _ _ (c.in_ok-operation.ensures.operation ∙ ap (λ v. operation.Copy c.args.repo.now c.args.branch.now c.args.path (source_of v.name c.in_ok-copied.copied.commit) c.args.from.now c.in_ok-copied.copied.entry.now) c.e.view_is) c.in_ok-keep.ensures.history
     (c.copy.ensures ∙ ap (after_copy c.args.repo.now c.args.branch.now c.args.path c.in_ok-operation.entry) (ap lake_value c.in_ok-keep.ensures.present ∙ c.in_ok-puts.ensures.same) ∙ ap (λ x. after_copy c.args.repo.now c.args.branch.now c.args.path x (lake_value c.self.inside.present)) c.in_ok-operation.ensures.entry)
 
 pub returns-clause-reply : goal.returns-clause-reply
 returns-clause-reply g c =
-    let found = c.in_ok-copied.ensures (versions_at (lake_value c.self.inside.opened.value) c.self.inside.history.items) c.self.invariant.versions in
+    let found = c.in_ok-copied.ensures (versions_since (lake_value c.self.inside.opened.value) c.self.inside.history.items) c.self.invariant.versions in
     holds_now (λ s given. IsCopyReply s given c.args.repo.now c.args.branch.now c.args.version c.args.e.now c.args.from.now (Ok (c.place.result, c.in_ok-operation.answer))) c.self.view_is c.self.invariant.replayed
     (found.0, (c.place.ensures ∙ ap (λ l. l.entries) (c.copy.ensures ∙ ap (after_copy c.args.repo.now c.args.branch.now c.args.path c.in_ok-operation.entry) (ap lake_value c.in_ok-keep.ensures.present ∙ c.in_ok-puts.ensures.same) ∙ ap (λ x. after_copy c.args.repo.now c.args.branch.now c.args.path x (lake_value c.self.inside.present)) c.in_ok-operation.ensures.entry), found.1.found ∙ ap Some (sym c.in_ok-operation.ensures.answer)))
 
 pub returns-clause-leaves : goal.returns-clause-leaves
 returns-clause-leaves g c =
-    let found = c.in_ok-copied.ensures (versions_at (lake_value c.self.inside.opened.value) c.self.inside.history.items) c.self.invariant.versions in
+    let found = c.in_ok-copied.ensures (versions_since (lake_value c.self.inside.opened.value) c.self.inside.history.items) c.self.invariant.versions in
     made_leaves _ _ (λ p. copy c.args.repo.now c.args.branch.now c.args.path c.args.e.now c.args.from.now (lake_value p))
     (copy_making c.args.repo.now c.args.branch.now c.args.path (source_of c.args.e.now.name c.in_ok-copied.copied.commit) c.args.from.now c.in_ok-copied.copied.entry.now (lake_value c.self.inside.present)) _ _ (c.in_ok-operation.ensures.operation ∙ ap (λ v. operation.Copy c.args.repo.now c.args.branch.now c.args.path (source_of v.name c.in_ok-copied.copied.commit) c.args.from.now c.in_ok-copied.copied.entry.now) c.e.view_is) (c.in_ok-puts.ensures.puts ∙ ap (λ x. stage_puts c.args.repo.now c.args.branch.now c.args.path (Put x) (lake_value c.self.inside.present)) c.in_ok-operation.ensures.entry)
     _ _ _ _ _ (record { keeper = c.keep.new.keeper; history = c.keep.new.history.items; present = c.keep.new.present }) c.in_ok-puts.ensures.same (ap (option_and_then (λ source. option_map (λ x. copy_making c.args.repo.now c.args.branch.now c.args.path source c.args.from.now x (lake_value c.self.inside.present)) (copied_entry (state_of (lake_value c.self.inside.present)) c.args.repo.now c.args.e.now c.args.from.now))) found.1.source

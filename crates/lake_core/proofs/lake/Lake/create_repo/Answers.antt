@@ -18,7 +18,7 @@ returns-in_err-first-clause-reply g c =
 pub returns-in_err-first-clause-leaves : goal.returns-in_err-first-clause-leaves
 returns-in_err-first-clause-leaves g c =
     let l = lake_value c.self.inside.present in
-    unmade_leaves (record { kept = g.K.Keeper.kept; faults = g.K.Keeper.faults }) c.args.by
+    unmade_leaves (record { kept = g.K.Keeper.kept; faults = g.K.Keeper.faults; calls = g.K.Keeper.calls }) c.args.by
     (Some (create_repo c.args.repo c.args.branch c.args.date (lake_value c.args.self.now.present))) c.args.self.now c.args.self.now refl
     c.from_residual.result _ c.from_residual.ensures.1
     (creation_fault (state_of l) c.args.repo c.args.branch c.args.date _ (c.in_err-first.ensures.asks c.args.branch) (λ clash. c.laws_of_causes.ensures.create_repository (state_of l) c.args.repo clash))

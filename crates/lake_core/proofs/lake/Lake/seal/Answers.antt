@@ -4,7 +4,7 @@ use Rattle.lake_model.specs.Refusals.{GivesOrFails, first_cause}
 use Rattle.lake_model.specs.Steps.{seal_reply, seal_causes}
 use Rattle.lake_state.specs.Counts.{AreFew}
 use Rattle.lake_state.specs.Lakes.{lake_value, state_of}
-use Rattle.lake_standing.specs.Standing.{versions_at}
+use Rattle.lake_standing.specs.Standing.{versions_since}
 use Rattle.lake_changes.specs.LakeChanges.{after_seal}
 use Rattle.lake_core.specs.Makings.{seal}
 use Rattle.lake_core.proofs.StepLemmas.{accepted, at_present, holds_now, made_leaves, made_stands, refused_reply, refused_stands, settings_at, unkept_leaves, unkept_reply}
@@ -16,7 +16,7 @@ use Rattle.lake_core.proofs.lake.Lake.seal.Goals as goal
 pub returns-in_err-test_seal-clause-reply : goal.returns-in_err-test_seal-clause-reply
 returns-in_err-test_seal-clause-reply g c =
     holds_now (λ s given. GivesOrFails c.from_residual.result (seal_reply c.args.why s given c.args.repo.now c.args.branch.now)) c.self.view_is c.self.invariant.replayed
-    (refused_reply (first_cause (seal_causes c.args.why (state_of (lake_value c.self.inside.present)) c.args.repo.now c.args.branch.now)) (record { at = (lake_value c.self.inside.present).entries + 1; version = (versions_at (lake_value c.self.inside.opened.value) c.self.inside.history.items).next; settings = settings_version (versions_at (lake_value c.self.inside.opened.value) c.self.inside.history.items) c.args.repo.now }) (c.laws_of_causes.ensures.seal c.args.why (state_of (lake_value c.self.inside.present)) c.args.repo.now c.args.branch.now) _ _ c.from_residual.ensures.1
+    (refused_reply (first_cause (seal_causes c.args.why (state_of (lake_value c.self.inside.present)) c.args.repo.now c.args.branch.now)) (record { at = (lake_value c.self.inside.present).entries + 1; version = (versions_since (lake_value c.self.inside.opened.value) c.self.inside.history.items).next; settings = settings_version (versions_since (lake_value c.self.inside.opened.value) c.self.inside.history.items) c.args.repo.now }) (c.laws_of_causes.ensures.seal c.args.why (state_of (lake_value c.self.inside.present)) c.args.repo.now c.args.branch.now) _ _ c.from_residual.ensures.1
     c.in_err-test_seal.ensures)
 
 pub keep-requires : goal.keep-requires
@@ -34,7 +34,7 @@ invariant_of-self-in_err-keep g c =
 pub returns-in_err-keep-clause-reply : goal.returns-in_err-keep-clause-reply
 returns-in_err-keep-clause-reply g c =
     holds_now (λ s given. GivesOrFails c.from_residual-in_err-keep.result (seal_reply c.args.why s given c.args.repo.now c.args.branch.now)) c.self.view_is c.self.invariant.replayed
-    (unkept_reply _ _ _ _ _ _ (first_cause (seal_causes c.args.why (state_of (lake_value c.self.inside.present)) c.args.repo.now c.args.branch.now)) (record { at = (lake_value c.self.inside.present).entries + 1; version = (versions_at (lake_value c.self.inside.opened.value) c.self.inside.history.items).next; settings = settings_version (versions_at (lake_value c.self.inside.opened.value) c.self.inside.history.items) c.args.repo.now }) (c.in_ok-test_seal.ensures) _ _ c.from_residual-in_err-keep.ensures.1 c.in_err-keep.ensures)
+    (unkept_reply _ _ _ _ _ _ (first_cause (seal_causes c.args.why (state_of (lake_value c.self.inside.present)) c.args.repo.now c.args.branch.now)) (record { at = (lake_value c.self.inside.present).entries + 1; version = (versions_since (lake_value c.self.inside.opened.value) c.self.inside.history.items).next; settings = settings_version (versions_since (lake_value c.self.inside.opened.value) c.self.inside.history.items) c.args.repo.now }) (c.in_ok-test_seal.ensures) _ _ c.from_residual-in_err-keep.ensures.1 c.in_err-keep.ensures)
 
 pub returns-in_err-keep-clause-leaves : goal.returns-in_err-keep-clause-leaves
 returns-in_err-keep-clause-leaves g c =
@@ -54,7 +54,7 @@ unfolding lake_value
 returns-clause-reply g c =
     accepted {X = Versions} (c.in_ok-test_seal.ensures) (ap (λ at. record { at = at; version = (lake_value c.self.inside.present).next_version; settings = c.settings_of-settings.result }) (c.place-at.ensures ∙ ap (λ l. l.entries) (c.seal.ensures ∙ ap (after_seal c.args.repo.now c.args.branch.now) (ap lake_value c.in_ok-keep.ensures.present ∙ c.in_ok-operation.ensures.same)))
     ∙ ap (λ v. record { at = (lake_value c.self.inside.present).entries + 1; version = v; settings = c.settings_of-settings.result }) (sym c.self.invariant.versions.next)
-    ∙ ap (λ w. record { at = (lake_value c.self.inside.present).entries + 1; version = (versions_at (lake_value c.self.inside.opened.value) c.self.inside.history.items).next; settings = w }) (c.settings_of-settings.ensures ∙ settings_at _ _ c.self.invariant.versions c.args.repo.now _ refl))
+    ∙ ap (λ w. record { at = (lake_value c.self.inside.present).entries + 1; version = (versions_since (lake_value c.self.inside.opened.value) c.self.inside.history.items).next; settings = w }) (c.settings_of-settings.ensures ∙ settings_at _ _ c.self.invariant.versions c.args.repo.now _ refl))
     ∙ at_present (λ s given. seal_reply c.args.why s given c.args.repo.now c.args.branch.now) c.self.view_is c.self.invariant.replayed
 
 pub returns-clause-leaves : goal.returns-clause-leaves

@@ -4,7 +4,7 @@ use Rattle.lake_model.specs.Refusals.{GivesOrFails, first_cause}
 use Rattle.lake_model.specs.Steps.{set_note_reply, set_note_causes}
 use Rattle.lake_state.specs.Counts.{AreFew}
 use Rattle.lake_state.specs.Lakes.{lake_value, state_of}
-use Rattle.lake_standing.specs.Standing.{versions_at}
+use Rattle.lake_standing.specs.Standing.{versions_since}
 use Rattle.lake_changes.specs.LakeChanges.{after_note_set}
 use Rattle.lake_core.specs.Makings.{set_note}
 use Rattle.lake_core.proofs.StepLemmas.{accepted, at_present, holds_now, made_leaves, made_stands, refused_reply, refused_stands, unkept_leaves, unkept_reply}
@@ -13,7 +13,7 @@ use Rattle.lake_core.proofs.lake.Lake.set_note.Goals as goal
 pub returns-in_err-test_set_note-clause-reply : goal.returns-in_err-test_set_note-clause-reply
 returns-in_err-test_set_note-clause-reply g c =
     holds_now (λ s given. GivesOrFails c.from_residual.result (set_note_reply s given c.args.repo.now c.args.expected c.args.name c.args.note)) c.self.view_is c.self.invariant.replayed
-    (refused_reply (first_cause (set_note_causes (state_of (lake_value c.self.inside.present)) (versions_at (lake_value c.self.inside.opened.value) c.self.inside.history.items) c.args.repo.now c.args.expected c.args.name c.args.note)) ((lake_value c.self.inside.present).entries + 1) (c.laws_of_causes.ensures.set_note (state_of (lake_value c.self.inside.present)) (versions_at (lake_value c.self.inside.opened.value) c.self.inside.history.items) c.args.repo.now c.args.expected c.args.name c.args.note) _ _ c.from_residual.ensures.1
+    (refused_reply (first_cause (set_note_causes (state_of (lake_value c.self.inside.present)) (versions_since (lake_value c.self.inside.opened.value) c.self.inside.history.items) c.args.repo.now c.args.expected c.args.name c.args.note)) ((lake_value c.self.inside.present).entries + 1) (c.laws_of_causes.ensures.set_note (state_of (lake_value c.self.inside.present)) (versions_since (lake_value c.self.inside.opened.value) c.self.inside.history.items) c.args.repo.now c.args.expected c.args.name c.args.note) _ _ c.from_residual.ensures.1
     (c.in_err-test_set_note.ensures _ c.self.invariant.versions))
 
 pub keep-requires : goal.keep-requires
@@ -31,7 +31,7 @@ invariant_of-self g c =
 pub returns-in_err-keep-clause-reply : goal.returns-in_err-keep-clause-reply
 returns-in_err-keep-clause-reply g c =
     holds_now (λ s given. GivesOrFails c.from_residual-in_err-keep.result (set_note_reply s given c.args.repo.now c.args.expected c.args.name c.args.note)) c.self.view_is c.self.invariant.replayed
-    (unkept_reply _ _ _ _ _ _ (first_cause (set_note_causes (state_of (lake_value c.self.inside.present)) (versions_at (lake_value c.self.inside.opened.value) c.self.inside.history.items) c.args.repo.now c.args.expected c.args.name c.args.note)) ((lake_value c.self.inside.present).entries + 1) (c.in_ok-test_set_note.ensures _ c.self.invariant.versions) _ _ c.from_residual-in_err-keep.ensures.1 c.in_err-keep.ensures)
+    (unkept_reply _ _ _ _ _ _ (first_cause (set_note_causes (state_of (lake_value c.self.inside.present)) (versions_since (lake_value c.self.inside.opened.value) c.self.inside.history.items) c.args.repo.now c.args.expected c.args.name c.args.note)) ((lake_value c.self.inside.present).entries + 1) (c.in_ok-test_set_note.ensures _ c.self.invariant.versions) _ _ c.from_residual-in_err-keep.ensures.1 c.in_err-keep.ensures)
 
 pub returns-in_err-keep-clause-leaves : goal.returns-in_err-keep-clause-leaves
 returns-in_err-keep-clause-leaves g c =

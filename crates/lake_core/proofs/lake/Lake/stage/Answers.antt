@@ -5,7 +5,7 @@ use Rattle.lake_model.specs.Steps.{stage_causes, stage_reply}
 use Rattle.lake_model.specs.Uncommitted.{HasTicket, put_number}
 use Rattle.lake_state.specs.Counts.{AreFew}
 use Rattle.lake_state.specs.Lakes.{lake_value, state_of}
-use Rattle.lake_standing.specs.Standing.{versions_at}
+use Rattle.lake_standing.specs.Standing.{versions_since}
 use Rattle.lake_changes.specs.LakeChanges.{after_stage}
 use Rattle.lake_core.specs.Makings.{stage}
 use Rattle.lake_core.proofs.StepLemmas.{accepted, at_present, held_then, holds_now, made_leaves, made_stands, refused_reply, refused_stands, staged_entries, unkept_leaves, unkept_reply}
@@ -14,8 +14,8 @@ use Rattle.lake_core.proofs.lake.Lake.stage.Goals as goal
 pub returns-in_err-test_stage-clause-reply : goal.returns-in_err-test_stage-clause-reply
 returns-in_err-test_stage-clause-reply g c =
     holds_now (λ s given. GivesOrFails c.from_residual.result (stage_reply s given c.args.repo.now c.args.branch.now c.args.version)) c.self.view_is c.self.invariant.replayed
-    (refused_reply (first_cause (stage_causes (state_of (lake_value c.self.inside.present)) (versions_at (lake_value c.self.inside.opened.value) c.self.inside.history.items) c.args.repo.now c.args.branch.now c.args.version))
-    ((lake_value c.self.inside.present).entries + 1) (c.laws_of_causes.ensures.stage (state_of (lake_value c.self.inside.present)) (versions_at (lake_value c.self.inside.opened.value) c.self.inside.history.items) c.args.repo.now c.args.branch.now c.args.version) _ _ c.from_residual.ensures.1
+    (refused_reply (first_cause (stage_causes (state_of (lake_value c.self.inside.present)) (versions_since (lake_value c.self.inside.opened.value) c.self.inside.history.items) c.args.repo.now c.args.branch.now c.args.version))
+    ((lake_value c.self.inside.present).entries + 1) (c.laws_of_causes.ensures.stage (state_of (lake_value c.self.inside.present)) (versions_since (lake_value c.self.inside.opened.value) c.self.inside.history.items) c.args.repo.now c.args.branch.now c.args.version) _ _ c.from_residual.ensures.1
     (c.in_err-test_stage.ensures _ c.self.invariant.versions))
 
 pub keep-requires : goal.keep-requires
