@@ -1,0 +1,59 @@
+-- What a new head of a branch makes of a lake in memory.
+use Rattle.std.specs.Prelude.{◌≡◌, ℕ, List, [], ◌∷◌}
+use Rattle.std.specs.FinMap.{empty, insert}
+use Rattle.lake_base.specs.Maps.{ByteMap}
+use Rattle.lake_base.specs.declared.digest.Digest.{Digest}
+use Rattle.lake_values.specs.Ancestry.{Graph}
+use Rattle.lake_values.specs.Commit.{CommitRecordValue}
+use Rattle.lake_format.specs.Cutting.{files}
+use Rattle.lake_format.specs.Spelling.{commit_id, file_name}
+use Rattle.lake_format.specs.declared.cut.Cut.{Cut}
+use Rattle.meta_range.specs.Ranges.{TreeValue}
+use Rattle.branch_record.specs.Tokens.{with_each}
+use Rattle.lake_model.specs.Commits.{Draft, record_of}
+use Rattle.lake_model.specs.Parts.{changed_at}
+use Rattle.lake_state.specs.Branches.{BranchStateValue}
+use Rattle.lake_state.specs.Names.{NameIndexValue}
+use Rattle.lake_state.specs.Repositories.{RepositoryStateValue}
+use Rattle.lake_state.specs.Lakes.{LakeStateValue}
+use Rattle.lake_changes.specs.LakeChanges.{in_repository, with_entry, with_references, with_version}
+
+-- a new commit: its id, what it says, and its tree
+pub record NewCommit : Type 0 where
+  pub id : Digest
+  pub content : CommitRecordValue
+  pub tree : TreeValue
+
+-- it is the commit of a draft: its tree is that of the draft's map, with the files that the cut gives
+pub record IsCommitOf (cut : Cut) (graph : Graph) (draft : Draft) (new : NewCommit) : Type 0 where
+  pub content : new.content ≡ record_of cut graph draft
+  pub id : new.id ≡ commit_id (record_of cut graph draft)
+  pub map : new.tree.map ≡ draft.objects
+  pub files : new.tree.files ≡ files cut draft.objects
+
+-- a branch with a new head: it has a new version, nothing is sealed, and what stood under its sealed tokens is gone
+abbrev pub with_new_head : ℕ → Digest → BranchStateValue → BranchStateValue
+with_new_head version id b =
+    record b { version = version; head = id; sealed = []; tokens = with_each b.sealed (λ _. empty) b.tokens }
+
+-- a repository with a new commit, which is the head of a branch
+abbrev pub with_new_commit : ℕ → List ℕ → NewCommit → RepositoryStateValue → RepositoryStateValue
+with_new_commit version branch new r = record r {
+  commits = insert r.commits new.id.0 new.content;
+  trees = insert r.trees new.id.0 new.tree;
+  branches = changed_at branch (with_new_head version new.id) r.branches;
+}
+
+-- files under their names
+abbrev pub with_files : List (List ℕ) → ByteMap (List ℕ) → ByteMap (List ℕ)
+with_files [] kept = kept
+with_files (file ∷ files) kept = insert (with_files files kept) (file_name file).0 file
+
+-- an index with the names of a new commit and of the files of its tree
+abbrev pub with_names : List ℕ → NewCommit → NameIndexValue → NameIndexValue
+with_names repo new i = record { homes = insert i.homes new.id.0 repo; files = with_files new.tree.files i.files }
+
+-- a new commit becomes the head of a branch
+abbrev pub after_new_head : List ℕ → List ℕ → NewCommit → LakeStateValue → LakeStateValue
+after_new_head repo branch new l = with_entry (with_references (with_version
+    (record (in_repository repo (with_new_commit l.next_version branch new) l) { names = with_names repo new l.names })))
