@@ -20,9 +20,8 @@ use Rattle.lake_calls.specs.Courses.{upload_entry}
 use Rattle.lake_calls.specs.Effects.{drop_entries, drop_entry, effect, upload_effect}
 use Rattle.lake_calls.specs.Replies.{guarded_refusal, stage_refusal, ticket_entry, ticket_refusal}
 use Rattle.lake_calls.proofs.EffectLemmas.{both_none}
-use Rattle.batch_lines.specs.Batch.{AreServed, CutShort, IsCallServed, IsValueServed, Lake, LineEffect, Served, Unread, fresh_lake, next_request, state_of, usual_cut}
+use Rattle.batch_lines.specs.Batch.{AreServed, CutShort, IsCallServed, IsValueServed, Lake, LineEffect, Served, Unread, first_lake, lake_left, next_request, state_of, usual_cut}
 use Rattle.batch_lines.specs.Command.{LineValue, Skipped, NotBuilt, Asks, line_value}
-use Rattle.batch_lines.specs.LastUploads.{lake_left}
 use Rattle.batch_lines.proofs.GuardLemmas.{current_causes}
 use Rattle.batch_lines.proofs.TicketLemmas.{ticket_tied}
 
@@ -104,6 +103,6 @@ module _ (laws : StepLaws) where
   lines_legal (text ∷ texts) lake (one ∷ lines) are legal = lines_legal texts one.lake lines are.1 (value_legal (line_value text) lake one are.0 legal)
 
   -- whatever lines are served, the entries are a legal history of the fresh lake
-  pub batch_legal : (texts : List (List ℕ)) (lines : List LineEffect) → AreServed texts fresh_lake lines
-      → IsLegal (fresh usual_cut) (lake_left fresh_lake lines).history
-  batch_legal texts lines are = lines_legal texts fresh_lake lines are tt
+  pub batch_legal : (texts : List (List ℕ)) (lines : List LineEffect) → AreServed texts first_lake lines
+      → IsLegal (fresh usual_cut) (lake_left first_lake lines).history
+  batch_legal texts lines are = lines_legal texts first_lake lines are tt

@@ -1,5 +1,6 @@
 -- What stands at the paths after the lines of a batch.
 use Rattle.std.proofs.Common.{inl, inr, ◌≡◌, ◌≢◌, ◌⊎◌, ◌∷◌, [], ◌+◌, ℕ, Bool, true, false, cond, List, refl, sym, ap, ◌∙◌, subst, arith, eq-eqb}
+use Rattle.std.proofs.lemmas.Bool.{or_parts}
 use Rattle.std.proofs.lemmas.Cmp.{nat_list_cmp_total, nat_cmp_total}
 use Rattle.std.proofs.lemmas.Map.Text.{is_eq-slice_cmp}
 use Rattle.std.proofs.lemmas.Slice.Eq.{bytes_eq-Decides}
@@ -29,9 +30,9 @@ use Rattle.lake_calls.specs.Calls.{Call, UploadCall, Upload, Request}
 use Rattle.lake_calls.specs.Courses.{upload_entry}
 use Rattle.lake_calls.specs.Effects.{drop_entries, drop_entry, effect, upload_effect}
 use Rattle.lake_calls.specs.Replies.{CallReply, Lost, UploadReply, is_done, object_reply, reply_or, stage_refusal, ticket_entry, ticket_refusal}
-use Rattle.batch_lines.specs.Batch.{AreServed, CutShort, IsCallServed, IsLineServed, IsValueServed, Lake, LineEffect, Served, Unread, fresh_lake, next_request, reply_of, state_of, usual_cut, with_object}
+use Rattle.batch_lines.specs.Batch.{AreServed, CutShort, IsCallServed, IsLineServed, IsValueServed, Lake, LineEffect, Served, Unread, any_starved, first_lake, lake_left, next_request, reply_of, state_of, usual_cut, with_object}
 use Rattle.batch_lines.specs.Command.{LineValue, Skipped, NotBuilt, Asks, cat_call, line_value}
-use Rattle.batch_lines.specs.LastUploads.{HasMemory, body_put, cat_text, lake_left, last_upload}
+use Rattle.batch_lines.specs.LastUploads.{HasMemory, body_put, cat_text, last_upload}
 use Rattle.batch_lines.specs.Text.{names_of, reply_text}
 use Rattle.batch_lines.proofs.AskedLemmas.{IsOnBranch, IsOnBranchOnly, asked}
 use Rattle.batch_lines.proofs.LastUploadLemmas.{HasBodies, IsBodyOf, IsReading, body_over, drop_bodies, main, quickstart, reading_of, same_bodies, stage_bodies, ticket_bodies}
@@ -170,15 +171,16 @@ lines_bodies [] lake [] bodies are memory has = has
 lines_bodies [] lake (one ∷ lines) bodies are memory has = absurd are
 lines_bodies (text ∷ texts) lake [] bodies are memory has = absurd are
 lines_bodies (text ∷ texts) lake (one ∷ lines) bodies are memory has =
-    let next : LeavesBodies (line_value text) bodies one = value_bodies (line_value text) lake bodies one (asked text) are.0 memory.0 has in
+    let each = or_parts one.starved (any_starved lines) memory in
+    let next : LeavesBodies (line_value text) bodies one = value_bodies (line_value text) lake bodies one (asked text) are.0 each.0 has in
     same_bodies _ _ _ _ (λ q. or_or (last_upload q texts lines) (body_put q (line_value text) one.done) (bodies q))
-    (lines_bodies texts one.lake lines (λ q. option_or (body_put q (line_value text) one.done) (bodies q)) are.1 memory.1 next)
+    (lines_bodies texts one.lake lines (λ q. option_or (body_put q (line_value text) one.done) (bodies q)) are.1 each.1 next)
 
 -- after lines without want of memory each path has the body of the last upload to it
-pub batch_bodies : (texts : List (List ℕ)) (lines : List LineEffect) → AreServed texts fresh_lake lines → HasMemory lines
-    → HasBodies (state_of (lake_left fresh_lake lines)) (lake_left fresh_lake lines).objects (λ q. last_upload q texts lines)
+pub batch_bodies : (texts : List (List ℕ)) (lines : List LineEffect) → AreServed texts first_lake lines → HasMemory lines
+    → HasBodies (state_of (lake_left first_lake lines)) (lake_left first_lake lines).objects (λ q. last_upload q texts lines)
 batch_bodies texts lines are memory =
-    same_bodies _ _ _ _ (λ q. or_none (last_upload q texts lines)) (lines_bodies texts fresh_lake lines (λ q. None) are memory fresh_bodies)
+    same_bodies _ _ _ _ (λ q. or_none (last_upload q texts lines)) (lines_bodies texts first_lake lines (λ q. None) are memory fresh_bodies)
 
 -- ---- what is shown
 
@@ -196,11 +198,11 @@ cat_shown lake path its one (CutShort cut) memory reading = let starved = ap (λ
 
 -- `fs cat` shows the body of the last upload
 pub last_shown : (texts : List (List ℕ)) (lines : List LineEffect) (path text : List ℕ) (one : LineEffect)
-    → AreServed texts fresh_lake lines → HasMemory lines → line_value text ≡ Asks (cat_call path)
-    → IsLineServed text (lake_left fresh_lake lines) one → one.starved ≡ false → one.text ≡ cat_text path (last_upload path texts lines)
+    → AreServed texts first_lake lines → HasMemory lines → line_value text ≡ Asks (cat_call path)
+    → IsLineServed text (lake_left first_lake lines) one → one.starved ≡ false → one.text ≡ cat_text path (last_upload path texts lines)
 last_shown texts lines path text one are memory asks is starved =
-    cat_shown (lake_left fresh_lake lines) path (last_upload path texts lines) one
-    (subst (λ v. IsValueServed v (lake_left fresh_lake lines) one) asks is) starved
+    cat_shown (lake_left first_lake lines) path (last_upload path texts lines) one
+    (subst (λ v. IsValueServed v (lake_left first_lake lines) one) asks is) starved
     (reading_of _ _ _ path (batch_bodies texts lines are memory))
 
 -- ---- nothing is lost
@@ -222,7 +224,7 @@ call_kept lake bodies call moment number (inr (path, is)) has lost =
 
 -- no reply tells that bytes are lost
 pub never_lost : (texts : List (List ℕ)) (lines : List LineEffect) (text : List ℕ) (call : Call) (moment number : ℕ)
-    → AreServed texts fresh_lake lines → HasMemory lines → line_value text ≡ Asks call
-    → reply_of (lake_left fresh_lake lines) (next_request (lake_left fresh_lake lines) call moment) ≢ Lost number
+    → AreServed texts first_lake lines → HasMemory lines → line_value text ≡ Asks call
+    → reply_of (lake_left first_lake lines) (next_request (lake_left first_lake lines) call moment) ≢ Lost number
 never_lost texts lines text call moment number are memory asks =
-    call_kept (lake_left fresh_lake lines) (λ q. last_upload q texts lines) call moment number (subst IsOnBranchOnly asks (asked text)) (batch_bodies texts lines are memory)
+    call_kept (lake_left first_lake lines) (λ q. last_upload q texts lines) call moment number (subst IsOnBranchOnly asks (asked text)) (batch_bodies texts lines are memory)

@@ -14,9 +14,8 @@ use Rattle.lake_calls.specs.Courses.{course_entries, upload_entry}
 use Rattle.lake_calls.specs.Effects.{CallEffect, drop_entry, effect, fronts, upload_effect}
 use Rattle.lake_calls.specs.Replies.{stage_refusal, ticket_entry, ticket_refusal}
 use Rattle.lake_calls.proofs.EffectLemmas.{accepted_effect, both_none, done_by}
-use Rattle.batch_lines.specs.Batch.{AreServed, CutShort, IsCallServed, IsLineServed, IsValueServed, Lake, LineEffect, Served, Unread, after_call, fresh_lake, next_request, state_of}
+use Rattle.batch_lines.specs.Batch.{AreServed, CutShort, IsCallServed, IsLineServed, IsValueServed, Lake, LineEffect, Served, Unread, after_call, first_lake, lake_left, next_request, state_of}
 use Rattle.batch_lines.specs.Command.{LineValue, Skipped, NotBuilt, Asks, line_value}
-use Rattle.batch_lines.specs.LastUploads.{lake_left}
 use Rattle.batch_lines.specs.OwnEntries.{entries_by}
 use Rattle.batch_lines.proofs.TicketLemmas.{drops_are}
 
@@ -198,12 +197,12 @@ accepted_line lake u one (CutShort cut) done = let refused = ap (λ (o : LineEff
 
 -- an upload that was accepted stands in the history once, whatever lines come before and after it
 pub stands_once : (before : List (List ℕ)) (lines : List LineEffect) (text : List ℕ) (one : LineEffect) (later : List (List ℕ)) (others : List LineEffect)
-    (u : UploadCall) → AreServed before fresh_lake lines → IsLineServed text (lake_left fresh_lake lines) one → line_value text ≡ Asks (Upload u)
+    (u : UploadCall) → AreServed before first_lake lines → IsLineServed text (lake_left first_lake lines) one → line_value text ≡ Asks (Upload u)
     → one.done ≡ true → AreServed later one.lake others
-    → (moment : ℕ) × (one.moments ≡ moment ∷ []) × (entries_by ((lake_left fresh_lake lines).calls + 1) (lake_left one.lake others).history
-    ≡ course_entries (next_request (lake_left fresh_lake lines) (Upload u) moment) (state_of (lake_left fresh_lake lines)).next_number)
+    → (moment : ℕ) × (one.moments ≡ moment ∷ []) × (entries_by ((lake_left first_lake lines).calls + 1) (lake_left one.lake others).history
+    ≡ course_entries (next_request (lake_left first_lake lines) (Upload u) moment) (state_of (lake_left first_lake lines)).next_number)
 stands_once before lines text one later others u are is asks done served =
-    let lake : Lake = lake_left fresh_lake lines in
+    let lake : Lake = lake_left first_lake lines in
     let left = accepted_line lake u one (subst (λ v. IsValueServed v lake one) asks is) done in
     let call : ℕ = lake.calls + 1 in
     let own : AreBy call (course_entries (next_request lake (Upload u) left.0) (state_of lake).next_number) = (refl, (refl, tt)) in (
@@ -213,6 +212,6 @@ stands_once before lines text one later others u are is asks done served =
           ∙ ap (entries_by call) left.1
           ∙ filter-append (λ (e : HistoryEntry). e.by.call == call) lake.history _
           ∙ ap (λ es. es ++ entries_by call (course_entries (next_request lake (Upload u) left.0) (state_of lake).next_number))
-          (lines_none_later before fresh_lake lines are (λ n later. refl) call (omega arith))
+          (lines_none_later before first_lake lines are (λ n later. refl) call (omega arith))
           ∙ by_it call (course_entries (next_request lake (Upload u) left.0) (state_of lake).next_number) own,
     )

@@ -1,7 +1,7 @@
 -- What one line of a batch shows and leaves, and lines one after the other.
 use Rattle.std.specs.Prelude.{◌≡◌, ◌⊎◌, ◌+◌, ℕ, Bool, true, false, List, [], ◌∷◌, ◌++◌, Option, Some, None}
 use Rattle.std.specs.FinMap.{empty, get, insert}
-use Rattle.std.specs.List.{Contains}
+use Rattle.std.specs.List.{Contains, list_any}
 use Rattle.block_store.specs.Blocks.{HeldObjects}
 use Rattle.lake_format.specs.declared.cut.Cut.{Cut}
 use Rattle.lake_model.specs.declared.history.HistoryEntry.{HistoryEntry}
@@ -12,7 +12,7 @@ use Rattle.lake_calls.specs.Calls.{Call, Request}
 use Rattle.lake_calls.specs.Replies.{CallReply, is_done, reply}
 use Rattle.lake_calls.specs.Effects.{CallEffect, effect, fronts}
 use Rattle.batch_lines.specs.Command.{LineValue, Skipped, NotBuilt, Asks, line_value}
-use Rattle.batch_lines.specs.Text.{not_built_text, out_of_memory_text, shown}
+use Rattle.batch_lines.specs.Text.{call_text, not_built_text, out_of_memory_text}
 
 -- a lake with the objects that it holds, as one client sees it
 pub record Lake : Type 0 where
@@ -31,8 +31,8 @@ abbrev pub state_of : Lake → State
 state_of lake = replay (fresh usual_cut) lake.history
 
 -- a fresh lake, which holds no object
-abbrev pub fresh_lake : Lake
-fresh_lake = record { history = []; objects = empty; calls = 0 }
+abbrev pub first_lake : Lake
+first_lake = record { history = []; objects = empty; calls = 0 }
 
 -- ---- a call
 
@@ -80,7 +80,7 @@ unbuilt_effect lake = record { text = not_built_text; done = false; starved = fa
 -- its call was served at a moment: it shows the one-thread reply, and the lake has what the call adds
 abbrev pub call_line_effect : Lake → Request → LineEffect
 call_line_effect lake request = record {
-  text = shown request.call (reply_of lake request);
+  text = call_text request.call (reply_of lake request);
   done = is_done (reply_of lake request);
   starved = false;
   moments = request.moment ∷ [];
@@ -125,3 +125,12 @@ AreServed [] lake [] = Unit {0}
 AreServed [] lake (line ∷ lines) = ⊥
 AreServed (text ∷ texts) lake [] = ⊥
 AreServed (text ∷ texts) lake (line ∷ lines) = IsLineServed text lake line × AreServed texts line.lake lines
+
+-- the lake that the last of some lines left
+abbrev pub lake_left : Lake → List LineEffect → Lake
+lake_left lake [] = lake
+lake_left lake (line ∷ lines) = lake_left line.lake lines
+
+-- whether memory ran out at one of them
+abbrev pub any_starved : List LineEffect → Bool
+any_starved lines = list_any (λ line. line.starved) lines

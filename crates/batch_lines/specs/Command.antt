@@ -5,17 +5,21 @@ use Rattle.std.specs.List.{slice_split, list_any, starts_with}
 use Rattle.std.specs.Str.{bytes_eq, is_utf8}
 use Rattle.lake_base.specs.Names.{path_fault}
 use Rattle.lake_base.specs.declared.names.NameFault.{NameFault}
-use Rattle.lake_calls.specs.Calls.{Call, Upload, Object}
+use Rattle.lake_calls.specs.Calls.{Call, UploadCall, Upload, Object}
 
--- a text becomes an object at a path of the branch `main` of the repository `quickstart`
-abbrev pub upload_call : (path text : List ℕ) → Call
-upload_call path text = Upload (record {
-  repo = codes "quickstart";
-  branch = codes "main";
+-- a text becomes an object at a path of a branch
+abbrev pub upload_of : (repo branch path text : List ℕ) → UploadCall
+upload_of repo branch path text = record {
+  repo = repo;
+  branch = branch;
   path = path;
   content_type = codes "application/octet-stream";
   body = text;
-})
+}
+
+-- so it does on the branch `main` of the repository `quickstart`
+abbrev pub upload_call : (path text : List ℕ) → Call
+upload_call path text = Upload (upload_of (codes "quickstart") (codes "main") path text)
 
 -- the object that stands there is read
 abbrev pub cat_call : List ℕ → Call

@@ -1,21 +1,15 @@
 -- What the lines of a batch uploaded, line by line.
 use Rattle.std.specs.Prelude.{◌≡◌, ◌&&◌, ℕ, Bool, false, List, [], ◌∷◌, ◌++◌, Option, Some, None, if◌then◌else◌, codes}
-use Rattle.std.specs.List.{AllByRecursion}
 use Rattle.std.specs.Option.{option_or}
 use Rattle.std.specs.Str.{bytes_eq}
 use Rattle.lake_calls.specs.Calls.{Upload, Object}
-use Rattle.batch_lines.specs.Batch.{Lake, LineEffect}
+use Rattle.batch_lines.specs.Batch.{LineEffect, any_starved}
 use Rattle.batch_lines.specs.Command.{LineValue, Skipped, NotBuilt, Asks, line_value}
 use Rattle.batch_lines.specs.Text.{line}
 
--- the lake after lines
-abbrev pub lake_left : Lake → List LineEffect → Lake
-lake_left lake [] = lake
-lake_left lake (one ∷ lines) = lake_left one.lake lines
-
 -- no line ran out of memory
 abbrev pub HasMemory : List LineEffect → Type 0
-HasMemory lines = AllByRecursion (λ (one : LineEffect). one.starved ≡ false) lines
+HasMemory lines = any_starved lines ≡ false
 
 -- the body that a line put at a path, where it asked to, and was done
 abbrev pub body_put : List ℕ → LineValue → Bool → Option (List ℕ)

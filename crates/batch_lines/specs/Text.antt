@@ -5,7 +5,7 @@ use Rattle.lake_base.specs.Digest.{encode_lower}
 use Rattle.lake_values.specs.declared.entry.Place.{Place}
 use Rattle.lake_values.specs.declared.entry.Place.TheVariants.{Own, External}
 use Rattle.lake_model.specs.declared.fault.StepFault.{StepFault}
-use Rattle.lake_model.specs.declared.fault.StepFault.TheVariants.{Stopped, HistoryFull, NoRepo, NoRef, Protected, NoPath}
+use Rattle.lake_model.specs.declared.fault.StepFault.TheVariants.{Stopped, HistoryFull, NoRepo, NoRef, NoParent, NoNote, Exists, DefaultBranch, Protected, Changed, NoPath, Expired, NameClash, StoreFault, NoMemory}
 use Rattle.lake_calls.specs.Calls.{Call, Upload, Object}
 use Rattle.lake_calls.specs.Replies.{CallReply, UploadReply, ObjectReply, Refusal, Gone, NotHeld, Lost}
 
@@ -49,7 +49,8 @@ outside_text path = line (codes "Error: object held outside: " ++ path ++ codes 
 abbrev pub lost_text : List ℕ → List ℕ
 lost_text path = line (codes "Error: object lost: " ++ path ++ codes " [500]")
 
--- the names that a call has: its repository, its reference and its path
+-- the names that a call has: its repository, the name of its reference and its path. A call of today has no expression
+-- that is more than a name.
 pub record CallNames : Type 0 where
   pub repo : List ℕ
   pub reference : List ℕ
@@ -59,16 +60,25 @@ abbrev pub names_of : Call → CallNames
 names_of (Upload u) = record { repo = u.repo; reference = u.branch; path = u.path }
 names_of (Object o) = record { repo = o.repo; reference = o.e.name; path = o.path }
 
--- A call was refused. The calls that are built have no other refusals.
+-- A call was refused. A branch that changed at each try is answered as too many tries.
 abbrev pub refusal_text : CallNames → StepFault → List ℕ
 refusal_text names Stopped = line (codes "Error: store stopped [503]")
 refusal_text names HistoryFull = line (codes "Error: history full [503]")
 refusal_text names NoRepo = line (codes "Error: repository not found: " ++ names.repo ++ codes " [404]")
 refusal_text names NoRef = line (codes "Error: reference not found: " ++ names.reference ++ codes " [404]")
+refusal_text names (NoParent number) = line (codes "Error: no such parent: " ++ names.reference ++ codes " [404]")
+refusal_text names NoNote = line (codes "Error: no such setting [404]")
+refusal_text names Exists = line (codes "Error: already exists: " ++ names.reference ++ codes " [409]")
+refusal_text names DefaultBranch = line (codes "Error: default branch can't be deleted [400]")
 refusal_text names (Protected number) =
     line (codes "Error: branch protected by rule " ++ decimal number ++ codes " [403]")
+refusal_text names (Changed version settings) = line (codes "Error: too many tries [423]")
 refusal_text names NoPath = line (codes "Error: path not found: " ++ names.path ++ codes " [404]")
-refusal_text names _ = not_built_text
+refusal_text names (Expired id) = line (codes "Error: commit expired: " ++ encode_lower id.0 ++ codes " [410]")
+refusal_text names (NameClash name kept new) =
+    line (codes "Error: two contents for name " ++ encode_lower name.0 ++ codes " [500]")
+refusal_text names StoreFault = line (codes "Error: store failed [503]")
+refusal_text names NoMemory = out_of_memory_text
 
 -- WHAT IS SHOWN of the reply to a call
 abbrev pub reply_text : CallNames → CallReply → List ℕ
@@ -79,5 +89,5 @@ reply_text names (Gone number) = gone_text names.path
 reply_text names (NotHeld address) = outside_text names.path
 reply_text names (Lost number) = lost_text names.path
 
-abbrev pub shown : Call → CallReply → List ℕ
-shown call reply = reply_text (names_of call) reply
+abbrev pub call_text : Call → CallReply → List ℕ
+call_text call reply = reply_text (names_of call) reply

@@ -19,7 +19,8 @@ use Rattle.batch_session.specs.Calling.{IsAnswered, IsCutOff, ServesCall, ShowsR
 use Rattle.batch_lines.specs.Command.{LineValue, Skipped, NotBuilt, Asks, call_of, cat_call, is_skipped, line_of_call, line_value, upload_call}
 use Rattle.batch_session.specs.Reply.{batch_names, text_bytes}
 use Rattle.batch_lines.specs.Text.{out_of_memory_text, reply_text}
-use Rattle.batch_session.specs.Uploads.{upload_of, upload_request}
+use Rattle.batch_lines.specs.Command.{upload_of}
+use Rattle.batch_session.specs.Uploads.{upload_request}
 
 -- ---- calls
 

@@ -13,7 +13,7 @@ use Rattle.lake_calls.specs.Effects.{CallEffect, effect, fronts}
 use Rattle.batch_session.specs.declared.reply.Reply.{Reply}
 use Rattle.batch_lines.specs.Batch.{Lake, state_of, reply_of, after_call}
 use Rattle.batch_session.specs.Reply.{batch_names, text_bytes}
-use Rattle.batch_lines.specs.Text.{refusal_text, shown}
+use Rattle.batch_lines.specs.Text.{call_text, refusal_text}
 
 -- the lake of entries and objects, at which so many requests were made
 abbrev pub lake_at : ℕ → List HistoryEntry → SureBlocksValue → Lake
@@ -26,7 +26,7 @@ pub record ShowsReply (bytes : List ℕ) (answer : CallReply) (r : Reply) : Type
 
 -- a request came to its end
 pub record IsAnswered (old : Lake) (request : Request) (r : Reply) (new : Lake) : Type 0 where
-  pub reply : ShowsReply (shown request.call (reply_of old request)) (reply_of old request) r
+  pub reply : ShowsReply (call_text request.call (reply_of old request)) (reply_of old request) r
   pub left : new ≡ after_call (effect (state_of old) request) old
 
 -- a request ran out of memory, and left a front of what it adds

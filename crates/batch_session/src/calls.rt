@@ -14,7 +14,8 @@ ghost use Rattle.batch_session.specs.Calling.{IsRefused, IsStaged, ServesCall, S
 ghost use Rattle.batch_session.specs.Reply.{batch_names, text_bytes};
 ghost use Rattle.batch_session.specs.Steps.{state_at};
 ghost use Rattle.batch_lines.specs.Text.{reply_text, upload_text};
-ghost use Rattle.batch_session.specs.Uploads.{upload_of, upload_request};
+ghost use Rattle.batch_lines.specs.Command.{upload_of};
+ghost use Rattle.batch_session.specs.Uploads.{upload_request};
 
 use crate::memory_lake::MemoryLake;
 use crate::reply::Reply;

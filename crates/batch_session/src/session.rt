@@ -34,13 +34,13 @@ pub struct Session {
 impl Session {
     ghost use Rattle.batch_session.specs.Session.{lake_of};
     ghost use Rattle.batch_session.specs.CommandView.{command_view};
-    ghost use Rattle.batch_lines.specs.Batch.{fresh_lake, next_request};
+    ghost use Rattle.batch_lines.specs.Batch.{first_lake, next_request};
     ghost use Rattle.batch_session.specs.Calling.{ServesCall};
     ghost use Rattle.batch_lines.specs.Command.{cat_call, upload_call};
 
     /// A session on a fresh lake, which holds no object.
     pub fn new(alloc: Global) -> Result<Session, NoMemory>
-        ensures { IfOk result (λ session. lake_of session ≡ fresh_lake) }
+        ensures { IfOk result (λ session. lake_of session ≡ first_lake) }
     {
         Ok(Session {
             alloc,

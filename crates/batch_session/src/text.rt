@@ -72,6 +72,18 @@ fn about_path(alloc: Global, front: &[u8], path: &Path, end: &[u8]) -> Result<Li
     Ok(LineText::Own(printed))
 }
 
+// A line of the name of a commit or a file between two texts.
+fn about_name(alloc: Global, front: &[u8], name: &Digest, end: &[u8]) -> Result<LineText, NoMemory>
+    ensures { IfOk result (λ printed. text_bytes printed ≡ front.now ++ encode_lower name.now.0 ++ end.now) }
+{
+    let mut printed = Vec::new(alloc);
+    printed.extend_from_slice(front)?;
+    let name = name.hex(alloc)?;
+    printed.extend_from_slice(name.as_slice())?;
+    printed.extend_from_slice(end)?;
+    Ok(LineText::Own(printed))
+}
+
 /// What is printed where nothing stands at the path.
 pub fn no_path_text(alloc: Global, path: &Path) -> Result<LineText, NoMemory>
     ensures { IfOk result (λ printed. text_bytes printed ≡ refusal_text (batch_names path.now) StepFault.NoPath) }
@@ -127,16 +139,20 @@ pub fn step_refusal_text(alloc: Global, fault: &StepFault) -> Result<LineText, N
         )),
         StepFault::NoRef => Ok(LineText::Fixed(b"Error: reference not found: main [404]\n")),
         StepFault::Protected(number) => protected_text(alloc, *number),
+        StepFault::NoParent(_) => Ok(LineText::Fixed(b"Error: no such parent: main [404]\n")),
+        StepFault::NoNote => Ok(LineText::Fixed(b"Error: no such setting [404]\n")),
+        StepFault::Exists => Ok(LineText::Fixed(b"Error: already exists: main [409]\n")),
+        StepFault::DefaultBranch => Ok(LineText::Fixed(
+            b"Error: default branch can't be deleted [400]\n",
+        )),
+        StepFault::Changed { .. } => Ok(LineText::Fixed(b"Error: too many tries [423]\n")),
+        StepFault::Expired(id) => about_name(alloc, b"Error: commit expired: ", id, b" [410]\n"),
+        StepFault::NameClash { name, .. } => {
+            about_name(alloc, b"Error: two contents for name ", name, b" [500]\n")
+        }
+        StepFault::StoreFault => Ok(LineText::Fixed(b"Error: store failed [503]\n")),
+        StepFault::NoPath => Ok(LineText::Fixed(b"Error: path not found [404]\n")),
         StepFault::NoMemory => Err(NoMemory),
-        StepFault::NoParent(_)
-        | StepFault::NoNote
-        | StepFault::Exists
-        | StepFault::DefaultBranch
-        | StepFault::Changed { .. }
-        | StepFault::NoPath
-        | StepFault::Expired(_)
-        | StepFault::NameClash { .. }
-        | StepFault::StoreFault => Ok(LineText::Fixed(NOT_BUILT)),
     }
 }
 

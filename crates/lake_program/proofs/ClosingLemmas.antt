@@ -1,25 +1,39 @@
--- How the last line is served, and what is written at the end.
-use Rattle.std.proofs.Common.{◌≡◌, ◌<◌, ◌&&◌, ◌||◌, lit<, ℕ, zero, suc, List, [], ◌∷◌, ◌++◌, length, take, Option, Result, Ok, Err, OnOk, OnErr, refl, sym, ◌∙◌, ap, subst, arith}
-use Rattle.std.proofs.lemmas.List.{append-nil}
+-- What comes last in a batch, and what is shown of it.
+use Rattle.std.proofs.Common.{◌≡◌, ◌<◌, ◌≤◌, lit<, ℕ, zero, suc, Bool, true, false, cond, nat_le}
+use Rattle.std.proofs.Common.{List, [], ◌∷◌, ◌++◌, length, take, Option, Result, Ok, OnOk, OnErr}
+use Rattle.std.proofs.Common.{refl, sym, ◌∙◌, ap, subst, arith}
+use Rattle.std.proofs.lemmas.Bool.Decides.{nat_tests}
+use Rattle.std.proofs.lemmas.List.{append-nil, take_all}
 use Rattle.std.specs.Str.Lines.{lines}
 use Rattle.lake_base.specs.declared.outside.Failed.{Failed}
-use Rattle.batch_session.specs.declared.timing.Timing.{Timing}
-use Rattle.batch_lines.specs.Batch.{LineEffect, fresh_lake, IsLineServed, AreServed}
-use Rattle.lake_program.specs.Effects.{text_of, moments_of, all_done, any_starved}
-use Rattle.lake_program.specs.Front.{Wrote, WroteFront, Shows}
-use Rattle.lake_program.specs.Lines.{ended_lines, last_part}
-use Rattle.batch_session.specs.Moments.{AreMoments}
-use Rattle.lake_program.specs.Progress.{Progress}
-use Rattle.lake_program.specs.Feeding.{line_room, HasServed, HasWritten, IsBrokenOff, Finishes}
+use Rattle.batch_lines.specs.Batch.{IsLineServed}
+use Rattle.batch_lines.specs.Text.{too_long_text}
+use Rattle.lake_program.specs.Feeding.{line_room, HasShown, ShowsLines, HasServed}
+use Rattle.lake_program.specs.Front.{WroteFront, Shows}
+use Rattle.lake_program.specs.Lines.{ended_lines, last_part, batch_lines, end_text}
+use Rattle.lake_program.specs.Progress.{ServerState}
 use Rattle.lake_program.specs.Serving.{Serves}
 use Rattle.lake_program.specs.Streams.{Trace}
 use Rattle.lake_program.proofs.BatchLemmas.{served_same}
-use Rattle.lake_program.proofs.EffectsLemmas.{all_done-more, any_starved-more}
-use Rattle.lake_program.proofs.FeedingLemmas.{each_more, took_more, shown_more, cut_line}
-use Rattle.lake_program.proofs.FrontLemmas.{front_as, shows_then, shows_cut, shows_flushed}
+use Rattle.lake_program.proofs.FeedingLemmas.{line_shown}
 use Rattle.lake_program.proofs.LineBufferLemmas.{value_last}
 use Rattle.lake_program.proofs.LinesLemmas.{last_line-none, last_line-some, lines_is}
-use Rattle.lake_program.proofs.ReadingLemmas.{with_written}
+use Rattle.lake_program.proofs.OutputLemmas.{with_output, text_shown}
+
+pub within_test : {m n : ℕ} → m ≤ n → nat_le m n ≡ true
+within_test {m = m} {n = n} le = grind (arith, nat_tests)
+
+pub beyond_test : {m n : ℕ} → n < m → nat_le m n ≡ false
+beyond_test {m = m} {n = n} lt = grind (arith, nat_tests)
+
+pub tested_within : {m n : ℕ} → nat_le m n ≡ true → m ≤ n
+tested_within {m = m} {n = n} is = grind (arith, nat_tests)
+
+-- a batch within its limit was served whole
+pub served_whole : {before : Trace} {limit : ℕ} {input : List ℕ} {now : ServerState} {kept : List ℕ}
+    → length input ≤ limit → HasServed before input now kept → HasServed before (take limit input) now kept
+served_whole {before = before} {limit = limit} {input = input} {now = now} {kept = kept} within served =
+    subst (λ (l : List ℕ). HasServed before l now kept) (sym (take_all limit input within)) served
 
 nothing_kept : (n : ℕ) (xs : List ℕ) → 0 < n → take n xs ≡ [] → xs ≡ []
 nothing_kept n [] some is = refl
@@ -32,102 +46,62 @@ something_kept (suc n) [] some = some
 something_kept zero (x ∷ xs) some = omega arith
 something_kept (suc n) (x ∷ xs) some = omega arith
 
--- some lines were served and shown, and what was pending is written
-module _ (timing : Timing) (t0 t1 : Trace) (all : List (List ℕ)) (effects : List LineEffect) (progress : Progress) (still : List ℕ)
-    (each : AreServed all fresh_lake effects) (took : AreMoments timing t0.readings t1.readings (moments_of effects)) where
-  written_all : (text : List ℕ) (written : Option (List ℕ)) → progress.done ≡ all_done effects → progress.starved ≡ any_starved effects
-      → Shows t0.written t1.written [] (text_of effects ++ text) still → Wrote t1.written written still → HasWritten timing t0 (with_written t1 written) all text progress
-  written_all text written done starved shown wrote = record {
-    effects = effects;
-    each = each;
-    took = took;
-    wrote = shows_flushed t0.written t1.written written [] (text_of effects ++ text) still shown wrote;
-    done = done;
-    starved = starved;
-  }
+-- the lines of a batch and the text at its end, by whether it is within its limit
+by_test : (limit : ℕ) (input : List ℕ) (before : Trace) (now : ServerState) (result : Result (Unit {0}) Failed)
+    (within : Bool) → nat_le (length input) limit ≡ within
+    → ShowsLines before (cond within (lines input) (ended_lines (take limit input))) (cond within [] too_long_text)
+    now result → ShowsLines before (batch_lines limit input) (end_text limit input []) now result
+by_test limit input before now result within test shows =
+    subst (λ b. ShowsLines before (cond b (lines input) (ended_lines (take limit input))) (cond b [] too_long_text)
+    now result) (sym test) shows
 
-  cut_all : (text : List ℕ) (written : Option (List ℕ)) → Shows t0.written t1.written [] (text_of effects ++ text) still → WroteFront t1.written written still → IsBrokenOff timing t0 (with_written t1 written) all text
-  cut_all text written shown part = record {
-    effects = effects;
-    each = each;
-    took = took;
-    shown = front_as t0.written written ((text_of effects ++ text) ++ []) (text_of effects ++ text) (append-nil (text_of effects ++ text))
-        (shows_cut t0.written t1.written written [] (text_of effects ++ text) still [] shown (front_as t1.written written still (still ++ []) (sym (append-nil still)) part));
-  }
+-- what comes last of a batch whose lines that ended were served
+module _ (limit : ℕ) (input : List ℕ) {before : Trace} {old : ServerState} {kept : List ℕ}
+    (served : HasServed before (take limit input) old kept) where
+  -- it is too long
+  pub shows_too_long : nat_le (length input) limit ≡ false
+      → (written : Option (List ℕ)) (pending : List ℕ) (result : Result (Unit {0}) Failed)
+      → OnOk result (Shows old.trace.written written old.progress.pending too_long_text pending)
+      → OnErr result (WroteFront old.trace.written written (old.progress.pending ++ too_long_text))
+      → ShowsLines before (batch_lines limit input) (end_text limit input []) (with_output old written pending) result
+  shows_too_long beyond written pending result shows part =
+      by_test limit input before (with_output old written pending) result false beyond
+      (text_shown served.ended too_long_text written pending result shows part)
 
-  -- by how the writing came out
-  finished : (text : List ℕ) (written : Option (List ℕ)) (result : Result (Unit {0}) Failed) → progress.done ≡ all_done effects → progress.starved ≡ any_starved effects
-      → Shows t0.written t1.written [] (text_of effects ++ text) still → OnOk result (Wrote t1.written written still) → OnErr result (WroteFront t1.written written still)
-      → Finishes timing t0 (with_written t1 written) all text progress result
-  finished text written (Ok u) done starved shown wrote part = written_all text written done starved shown wrote
-  finished text written (Err failed) done starved shown wrote part = cut_all text written shown part
+  module _ (within : nat_le (length input) limit ≡ true) where
+    abbrev given : List ℕ
+    given = take limit input
 
--- a text that is nothing
-shows_no_more : (a b : Option (List ℕ)) (text still : List ℕ) → Shows a b [] text still → Shows a b [] (text ++ []) still
-shows_no_more a b text still shown = subst (λ (l : List ℕ). Shows a b [] l still) (sym (append-nil text)) shown
+    whole : given ≡ input
+    whole = take_all limit input (tested_within within)
 
--- nothing is kept of the line under way, so that there is no last line
-pub closed_empty : (timing : Timing) (t0 t1 : Trace) (input : List ℕ) (old new : Progress) (kept : List ℕ) (written : Option (List ℕ)) (result : Result (Unit {0}) Failed)
-    → kept ≡ [] → new.done ≡ old.done → new.starved ≡ old.starved → HasServed timing t0 t1 input old kept
-    → OnOk result (Wrote t1.written written old.pending) → OnErr result (WroteFront t1.written written old.pending) → Finishes timing t0 (with_written t1 written) (lines input) [] new result
-closed_empty timing t0 t1 input old new kept written result none done starved served wrote part =
-    let empty : last_part input ≡ [] = nothing_kept line_room (last_part input) (lit< tt) (sym served.under_way ∙ none) in
-    let all : ended_lines input ≡ lines input = sym (append-nil (ended_lines input)) ∙ ap (λ (l : List (List ℕ)). ended_lines input ++ l) (sym (last_line-none (last_part input) empty)) ∙ sym (lines_is input) in
-    finished timing t0 t1 (lines input) served.effects new old.pending (subst (λ (l : List (List ℕ)). AreServed l fresh_lake served.effects) all served.each) served.took
-    [] written result (done ∙ served.done) (starved ∙ served.starved) (shows_no_more t0.written t1.written (text_of served.effects) old.pending served.shown) wrote part
+    -- no line is under way
+    pub shows_nothing : kept ≡ [] → ShowsLines before (batch_lines limit input) (end_text limit input []) old (Ok tt)
+    shows_nothing none =
+        let empty : last_part given ≡ [] =
+        nothing_kept line_room (last_part given) (lit< tt) (sym served.under_way ∙ none) in
+        let all : ended_lines given ≡ lines input =
+        sym (append-nil (ended_lines given))
+        ∙ ap (λ (l : List (List ℕ)). ended_lines given ++ l) (sym (last_line-none (last_part given) empty))
+        ∙ sym (lines_is given) ∙ ap lines whole in
+        by_test limit input before old (Ok tt) true within
+        (subst (λ (l : List (List ℕ)). HasShown before l [] old) all served.ended)
 
--- the batch is too long
-pub closed_too_long : (timing : Timing) (t0 t1 : Trace) (input text : List ℕ) (old new : Progress) (kept : List ℕ) (between written : Option (List ℕ)) (still : List ℕ) (result : Result (Unit {0}) Failed)
-    → new.done ≡ old.done → new.starved ≡ old.starved → HasServed timing t0 t1 input old kept → Shows t1.written between old.pending text still
-    → OnOk result (Wrote between written still) → OnErr result (WroteFront between written still) → Finishes timing t0 (with_written t1 written) (ended_lines input) text new result
-closed_too_long timing t0 t1 input text old new kept between written still result done starved served shown wrote part =
-    finished timing t0 (with_written t1 between) (ended_lines input) served.effects new still served.each served.took text written result (done ∙ served.done) (starved ∙ served.starved)
-    (shows_then t0.written t1.written between [] (text_of served.effects) old.pending text served.shown still shown) wrote part
-
--- showing that failed
-pub cut_too_long : (timing : Timing) (t0 t1 : Trace) (input text : List ℕ) (old : Progress) (kept : List ℕ) (written : Option (List ℕ)) → HasServed timing t0 t1 input old kept
-    → WroteFront t1.written written (old.pending ++ text) → IsBrokenOff timing t0 (with_written t1 written) (ended_lines input) text
-cut_too_long timing t0 t1 input text old kept written served part = record {
-  effects = served.effects;
-  each = served.each;
-  took = served.took;
-  shown = shows_cut t0.written t1.written written [] (text_of served.effects) old.pending text served.shown part;
-}
-
--- the last line, of which something is kept, was served
-module _ (timing : Timing) (t0 t1 t2 : Trace) (input : List ℕ) (old new : Progress) (kept : List ℕ) (some : 0 < length kept) (served : HasServed timing t0 t1 input old kept) where
-  all_lines : ended_lines input ++ last_part input ∷ [] ≡ lines input
-  all_lines =
-      let more : 0 < length (last_part input) = something_kept line_room (last_part input) (subst (λ (l : List ℕ). 0 < length l) served.under_way some) in
-      ap (λ (l : List (List ℕ)). ended_lines input ++ l) (sym (last_line-some (last_part input) more)) ∙ sym (lines_is input)
-
-  module _ (serves : Serves timing t1 t2 old new kept (Ok tt)) where
-    last_served : IsLineServed (last_part input) old.lake serves.effect
-    last_served =
-        served_same (take line_room (last_part input)) (last_part input) old.lake serves.effect (value_last (last_part input))
-        (subst (λ (l : List ℕ). IsLineServed l old.lake serves.effect) served.under_way serves.served)
-
-    each_all : AreServed (lines input) fresh_lake (served.effects ++ serves.effect ∷ [])
-    each_all =
-        subst (λ (l : List (List ℕ)). AreServed l fresh_lake (served.effects ++ serves.effect ∷ [])) all_lines
-        (each_more timing t0 t1 t2 input old new kept kept served (last_part input) serves.effect last_served)
-
-    -- and what it showed was written
-    pub closed_line : (final : Progress) (written : Option (List ℕ)) (result : Result (Unit {0}) Failed) → final.done ≡ new.done → final.starved ≡ new.starved
-        → OnOk result (Wrote t2.written written new.pending) → OnErr result (WroteFront t2.written written new.pending) → Finishes timing t0 (with_written t2 written) (lines input) [] final result
-    closed_line final written result done starved wrote part =
-        let effects = served.effects ++ serves.effect ∷ [] in
-        finished timing t0 t2 (lines input) effects final new.pending each_all (took_more timing t0 t1 t2 input old new kept kept served serves.effect serves.took) [] written result
-        (done ∙ serves.done ∙ ap (λ b. b && serves.effect.done) served.done ∙ sym (all_done-more served.effects serves.effect))
-        (starved ∙ serves.starved ∙ ap (λ b. b || serves.effect.starved) served.starved ∙ sym (any_starved-more served.effects serves.effect))
-        (shows_no_more t0.written t2.written (text_of effects) new.pending (shown_more timing t0 t1 t2 input old new kept kept served serves.effect new.pending serves.shown)) wrote part
-
-  -- showing it failed
-  pub cut_last : (failed : Failed) → Serves timing t1 t2 old new kept (Err failed) → IsBrokenOff timing t0 t2 (lines input) []
-  cut_last failed serves =
-      subst (λ (l : List (List ℕ)). IsBrokenOff timing t0 t2 l []) all_lines (cut_line timing t0 t1 t2 input old new kept kept served failed serves (last_part input) (last_is serves))
-    where
-      last_is : (serves : Serves timing t1 t2 old new kept (Err failed)) → IsLineServed (last_part input) old.lake serves.effect
-      last_is serves =
-          served_same (take line_room (last_part input)) (last_part input) old.lake serves.effect (value_last (last_part input))
-          (subst (λ (l : List ℕ). IsLineServed l old.lake serves.effect) served.under_way serves.served)
+    -- one is, and it was served
+    pub shows_line : {now : ServerState} {line : List ℕ} {result : Result (Unit {0}) Failed} → line ≡ kept
+        → 0 < length kept → Serves old now line result
+        → ShowsLines before (batch_lines limit input) (end_text limit input []) now result
+    shows_line {now = now} {line = line} {result = result} is some serves =
+        let more : 0 < length (last_part given) = something_kept line_room (last_part given)
+        (subst (λ (l : List ℕ). 0 < length l) served.under_way some) in
+        let all : ended_lines given ++ last_part given ∷ [] ≡ lines input =
+        ap (λ (l : List (List ℕ)). ended_lines given ++ l) (sym (last_line-some (last_part given) more))
+        ∙ sym (lines_is given) ∙ ap lines whole in
+        let last : IsLineServed (last_part given) old.progress.lake serves.effect =
+        served_same (take line_room (last_part given)) (last_part given) old.progress.lake serves.effect
+        (value_last (last_part given))
+        (subst (λ (l : List ℕ). IsLineServed l old.progress.lake serves.effect) (is ∙ served.under_way)
+        serves.served) in
+        by_test limit input before now result true within
+        (subst (λ (l : List (List ℕ)). ShowsLines before l [] now result) all
+        (line_shown before (ended_lines given) old now line (last_part given) served.ended result serves last))

@@ -41,18 +41,6 @@ front_then a b c x y wrote part = record {
 pub front_as : (a b : Option (List ℕ)) (x y : List ℕ) → x ≡ y → WroteFront a b x → WroteFront a b y
 front_as a b x y is part = record { out = part.out; front = subst (λ (l : List ℕ). IsPrefix part.out l) is part.front; wrote = part.wrote }
 
--- a front of more
-pub front_longer : (a b : Option (List ℕ)) (x more : List ℕ) → WroteFront a b x → WroteFront a b (x ++ more)
-front_longer a b x more part = record { out = part.out; front = front_more part.out x more part.front; wrote = part.wrote }
-
--- a text that is pending too
-pub shows_held : (a : Option (List ℕ)) (pending text : List ℕ) → Shows a a pending text (pending ++ text)
-shows_held a pending text = record { out = []; wrote = wrote_none a; whole = refl }
-
--- what was pending was written, and the text is pending
-pub shows_kept : (a b : Option (List ℕ)) (pending text : List ℕ) → Wrote a b pending → Shows a b pending text text
-shows_kept a b pending text wrote = record { out = pending; wrote = wrote; whole = refl }
-
 -- both were written, and nothing is pending
 pub shows_written : (a b c : Option (List ℕ)) (pending text still : List ℕ) → still ≡ [] → Wrote a b pending → Wrote b c text → Shows a c pending text still
 shows_written a b c pending text still none first second = record {

@@ -6,6 +6,7 @@ pub mod FrontLemmas
 pub mod LineBufferLemmas
 pub mod LinesLemmas
 pub mod OutcomeLemmas
+pub mod OutputLemmas
 pub mod ReadingLemmas
 pub mod RunLemmas
 pub mod ServingLemmas

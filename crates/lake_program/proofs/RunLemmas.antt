@@ -10,9 +10,9 @@ use Rattle.lake_program.specs.declared.status.ExitStatus.TheVariants as exit
 use Rattle.lake_program.specs.Words.{timing_of}
 use Rattle.lake_program.specs.Outcome.{Outcome}
 use Rattle.lake_program.specs.Status.{ShowsUsage}
-use Rattle.lake_program.specs.Streams.{Trace, Streams, trace_of}
+use Rattle.lake_program.specs.Streams.{Streams, trace_of}
 use Rattle.lake_program.specs.Lines.{batch_lines}
-use Rattle.batch_lines.specs.Batch.{fresh_lake, AreServed}
+use Rattle.batch_lines.specs.Batch.{first_lake, AreServed}
 use Rattle.lake_program.specs.Outcome.{IsWhole}
 use Rattle.lake_program.specs.Run.{IsBatchRun, IsUnbegun, Run}
 use Rattle.lake_program.proofs.ReadingLemmas.{told_then, told_all}
@@ -42,7 +42,7 @@ whole_run timing input before after status o whole =
     let all : o.extent.served ≡ batch_lines 1073741824 input = sym (append-nil o.extent.served) ∙ ap (λ (l : List (List ℕ)). o.extent.served ++ l) (sym whole.all) ∙ o.lines in
     told_then before.written (λ written. after.written ≡ Some (written ++ o.extent.out)) _ (λ written wrote. record {
       effects = o.extent.effects;
-      each = subst (λ (l : List (List ℕ)). AreServed l fresh_lake o.extent.effects) all o.each;
+      each = subst (λ (l : List (List ℕ)). AreServed l first_lake o.extent.effects) all o.each;
       took = o.took;
       text = wrote ∙ ap (λ (t : List ℕ). Some (written ++ t)) whole.text;
       tells = whole.tells;

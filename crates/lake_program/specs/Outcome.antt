@@ -4,8 +4,8 @@ use Rattle.batch_session.specs.declared.timing.Timing.{Timing}
 use Rattle.lake_program.specs.declared.status.ExitStatus.{ExitStatus}
 use Rattle.lake_program.specs.declared.status.ExitStatus.TheVariants.{Done, Refused, Usage}
 use Rattle.lake_program.specs.declared.status.ExitStatus.TheVariants.{SourceFailed, SinkFailed, OutOfMemory}
-use Rattle.batch_lines.specs.Batch.{LineEffect, fresh_lake, AreServed}
-use Rattle.lake_program.specs.Effects.{text_of, moments_of, all_done, any_starved}
+use Rattle.batch_lines.specs.Batch.{LineEffect, first_lake, AreServed, any_starved}
+use Rattle.lake_program.specs.Effects.{text_of, moments_of, all_done}
 use Rattle.lake_program.specs.Front.{IsPrefix, Wrote}
 use Rattle.lake_program.specs.Lines.{ended_lines, batch_lines, end_text}
 use Rattle.batch_session.specs.Moments.{AreMoments}
@@ -57,7 +57,7 @@ module _ (timing : Timing) (limit : ℕ) (before after : Trace) (input : List �
     -- the lines were served in their order,
     pub lines : extent.served ++ extent.unserved ≡ batch_lines limit input
     -- each from the lake that the one before left, the first from a fresh one
-    pub each : AreServed extent.served fresh_lake extent.effects
+    pub each : AreServed extent.served first_lake extent.effects
     -- they took these moments, one after the other
     pub took : AreMoments timing before.readings after.readings (moments_of extent.effects)
     -- a front of what they show was written, and nothing else

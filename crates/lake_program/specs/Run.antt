@@ -5,7 +5,7 @@ use Rattle.batch_session.specs.declared.timing.Timing.{Timing}
 use Rattle.lake_program.specs.declared.status.ExitStatus.{ExitStatus}
 use Rattle.lake_program.specs.declared.status.ExitStatus.TheVariants.{Usage, SourceFailed, SinkFailed, OutOfMemory}
 use Rattle.lake_program.specs.Words.{timing_of}
-use Rattle.batch_lines.specs.Batch.{LineEffect, fresh_lake, AreServed}
+use Rattle.batch_lines.specs.Batch.{LineEffect, first_lake, AreServed}
 use Rattle.lake_program.specs.Effects.{text_of, moments_of}
 use Rattle.lake_program.specs.Lines.{batch_lines, end_text}
 use Rattle.batch_session.specs.Moments.{AreMoments}
@@ -23,7 +23,7 @@ pub record IsBatchRun (timing : Timing) (input written : List ℕ) (before after
     (status : ExitStatus) : Type 0 where
   -- what each line came to on the one-thread lake, from the lake that the one before left, the first from a fresh one
   pub effects : List LineEffect
-  pub each : AreServed (batch_lines 1073741824 input) fresh_lake effects
+  pub each : AreServed (batch_lines 1073741824 input) first_lake effects
   -- the requests took these moments, one each, and there were no other
   pub took : AreMoments timing before.readings after.readings (moments_of effects)
   -- the sink got just what the lines show, one after the other, and where the batch is too long that it is

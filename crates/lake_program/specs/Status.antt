@@ -1,6 +1,5 @@
 -- The statuses of the program.
-use Rattle.std.specs.Prelude.{◌≡◌, ◌⊎◌, ℕ, Bool, List, Option, Result, Ok, Err, if◌then◌else◌}
-use Rattle.lake_base.specs.declared.outside.Failed.{Failed}
+use Rattle.std.specs.Prelude.{◌≡◌, ◌⊎◌, ℕ, Bool, List, Option, if◌then◌else◌}
 use Rattle.lake_program.specs.declared.status.ExitStatus.{ExitStatus}
 use Rattle.lake_program.specs.declared.status.ExitStatus.TheVariants.{Done, Refused, Usage}
 use Rattle.lake_program.specs.declared.status.ExitStatus.TheVariants.{SourceFailed, SinkFailed, OutOfMemory}
@@ -19,11 +18,6 @@ status_number OutOfMemory = 7
 -- the status of a batch that was read to its end, by whether memory ran out and whether each line was done
 abbrev pub status_of : Bool → Bool → ExitStatus
 status_of starved done = if starved then OutOfMemory else if done then Done else Refused
-
--- the same, where the last writing came out so
-abbrev pub end_status : Bool → Bool → Result (Unit {0}) Failed → ExitStatus
-end_status starved done (Ok _) = status_of starved done
-end_status starved done (Err failed) = SinkFailed
 
 -- All of the text of a usage fault was written, or a front of it where that failed.
 abbrev pub ShowsUsage : Option (List ℕ) → Option (List ℕ) → ExitStatus → Type 0

@@ -1,13 +1,12 @@
 //! Batches: the source is read piece by piece and cut into lines, each of which is served.
 ghost use Rattle.std.specs.Prelude.{◌≡◌, ◌+◌, ◌≤◌, ◌<◌, ◌^◌, ◌≢◌, ◌↔◌, ◌∷◌, []};
-ghost use Rattle.std.specs.Prelude.{ℕ, List, Option, IfOk, IfSome, OnErr, length};
-ghost use Rattle.std.specs.Str.Lines.{lines};
+ghost use Rattle.std.specs.Prelude.{ℕ, List, Option, IfOk, IfErr, IfSome, OnErr, MatchResult};
+ghost use Rattle.std.specs.Prelude.{length, min, nat_le, take};
 ghost use Rattle.lake_base.specs.Outside.{HasCause, Reads, Rose};
-ghost use Rattle.batch_lines.specs.Text.{too_long_text};
 ghost use Rattle.lake_program.specs.Streams.{Trace};
-ghost use Rattle.lake_program.specs.Lines.{ended_lines};
+ghost use Rattle.lake_program.specs.Lines.{batch_lines, end_text};
 ghost use Rattle.lake_program.specs.Progress.{start};
-ghost use Rattle.lake_program.specs.Feeding.{HasServed, Feeds, Finishes};
+ghost use Rattle.lake_program.specs.Feeding.{HasServed, Feeds, ShowsLines};
 
 use crate::line_buffer::LineBuffer;
 use crate::output::PendingOutput;
@@ -39,8 +38,8 @@ pub struct Batch {
 }
 
 impl Batch {
-    ghost use Rattle.lake_program.specs.ServerView.{progress_of};
-    ghost use Rattle.lake_program.specs.Reading.{Ends};
+    ghost use Rattle.lake_program.specs.ServerView.{progress_of, server_state};
+    ghost use Rattle.lake_program.specs.Reading.{Reaches, Ends};
     ghost use Rattle.lake_program.specs.Outcome.{Outcome};
 
     /// A batch on a fresh lake, of which nothing was read.
@@ -63,12 +62,10 @@ impl Batch {
         byte: u8,
     ) -> Result<(), Failed>
         requires { self.old.server.session.calls + 1 < 2 ^ 64 }
-        ensures feeds { (before : Trace) (given : List ℕ) → HasServed self.old.server.timing before
-            (record { readings = C.readings clock.old; written = W.written sink.old })
-            given (progress_of self.old.server) self.old.line
-            → Feeds self.old.server.timing before
-            (record { readings = C.readings clock.new; written = W.written sink.new })
-            given (byte ∷ []) (progress_of self.new.server) self.new.line result }
+        ensures feeds { (before : Trace) (given : List ℕ) → HasServed before given
+            (server_state self.old.server (C.readings clock.old) (W.written sink.old)) self.old.line
+            → Feeds before given (byte ∷ [])
+            (server_state self.new.server (C.readings clock.new) (W.written sink.new)) self.new.line result }
         ensures timing { self.new.server.timing ≡ self.old.server.timing }
         ensures calls { self.new.server.session.calls ≤ self.old.server.session.calls + 1 }
         ensures cause { HasCause (W.faults sink.old) (W.faults sink.new) result }
@@ -90,12 +87,10 @@ impl Batch {
         chunk: &[u8],
     ) -> Result<(), Failed>
         requires { self.old.server.session.calls + length chunk.now < 2 ^ 64 }
-        ensures feeds { (before : Trace) (given : List ℕ) → HasServed self.old.server.timing before
-            (record { readings = C.readings clock.old; written = W.written sink.old })
-            given (progress_of self.old.server) self.old.line
-            → Feeds self.old.server.timing before
-            (record { readings = C.readings clock.new; written = W.written sink.new })
-            given chunk.now (progress_of self.new.server) self.new.line result }
+        ensures feeds { (before : Trace) (given : List ℕ) → HasServed before given
+            (server_state self.old.server (C.readings clock.old) (W.written sink.old)) self.old.line
+            → Feeds before given chunk.now
+            (server_state self.new.server (C.readings clock.new) (W.written sink.new)) self.new.line result }
         ensures timing { self.new.server.timing ≡ self.old.server.timing }
         ensures calls { self.new.server.session.calls ≤ self.old.server.session.calls + length chunk.now }
         ensures cause { HasCause (W.faults sink.old) (W.faults sink.new) result }
@@ -107,6 +102,75 @@ impl Batch {
             }
         }
         Ok(())
+    }
+
+    // Writes what is pending, and reads the next piece: how many bytes it has, or how the reading ended.
+    fn next_piece<S: Source, W: Sink>(
+        &mut self,
+        source: &mut S,
+        sink: &mut W,
+        room: &mut [u8],
+    ) -> Result<usize, End>
+        requires { 0 < length room.old }
+        ensures reads { (before : Trace) (readings : Option (List ℕ)) (limit total : ℕ) (input : List ℕ)
+            → total ≤ limit → Reaches before input (S.left source.old) total []
+            (server_state self.old.server readings (W.written sink.old)) self.old.line
+            → let now = server_state self.new.server readings (W.written sink.new) in MatchResult result
+            (λ count. Reaches before input (S.left source.new) total (take count room.new) now self.new.line)
+            (λ end. Ends before input (S.left source.new) limit now self.new.line end) }
+        ensures some { IfOk result (λ count. (0 < count) × (count ≤ length room.old)) }
+        ensures timing { self.new.server.timing ≡ self.old.server.timing }
+        ensures calls { self.new.server.session.calls ≡ self.old.server.session.calls }
+        ensures source { (S.faults source.old ≤ S.faults source.new) × IfErr result
+            (λ end. end ≡ End.SourceFailed → Rose (S.faults source.old) (S.faults source.new)) }
+        ensures sink { (W.faults sink.old ≤ W.faults sink.new) × IfErr result
+            (λ end. end ≡ End.SinkFailed → Rose (W.faults sink.old) (W.faults sink.new)) }
+    {
+        match self.server.output.flush(sink) {
+            Ok(()) => {}
+            Err(_) => return Err(End::SinkFailed),
+        }
+        match read_piece(source, room, &self.server.output) {
+            Ok(0) => Err(End::Source),
+            Ok(count) => Ok(count),
+            Err(_) => Err(End::SourceFailed),
+        }
+    }
+
+    // Feeds a piece behind so many bytes, or what of it the limit allows: how many were fed then, or how the reading
+    // ended.
+    fn feed_piece<C: Clock, W: Sink>(
+        &mut self,
+        limit: u64,
+        total: u64,
+        clock: &mut C,
+        sink: &mut W,
+        piece: &[u8],
+    ) -> Result<u64, End>
+        requires within { (total ≤ limit) × (limit < 2 ^ 63) }
+        requires calls { self.old.server.session.calls ≤ total }
+        ensures feeds { (before : Trace) (input : List ℕ) (left : Option (List ℕ))
+            → Reaches before input left total piece.now
+            (server_state self.old.server (C.readings clock.old) (W.written sink.old)) self.old.line
+            → let now = server_state self.new.server (C.readings clock.new) (W.written sink.new) in MatchResult result
+            (λ fed. Reaches before input left fed [] now self.new.line)
+            (λ end. Ends before input left limit now self.new.line end) }
+        ensures all { IfOk result (λ fed. (fed ≡ total + length piece.now) × (fed ≤ limit)) }
+        ensures timing { self.new.server.timing ≡ self.old.server.timing }
+        ensures calls { self.new.server.session.calls ≤ min limit (total + length piece.now) }
+        ensures sink { (W.faults sink.old ≤ W.faults sink.new) × IfErr result (λ end. (end ≢ End.SourceFailed)
+            × (end ≡ End.SinkFailed → Rose (W.faults sink.old) (W.faults sink.new))) }
+    {
+        let allowed = (limit - total) as usize;
+        let (fed, _) = piece.split_at(piece.len().min(allowed));
+        match self.feed(clock, sink, fed) {
+            Ok(()) => {}
+            Err(_) => return Err(End::SinkFailed),
+        }
+        if fed.len() < piece.len() {
+            return Err(End::TooLong);
+        }
+        Ok(total + fed.len() as u64)
     }
 
     /// Reads the source to its end, and serves the lines that end in the first `limit` bytes of it. What lines
@@ -123,10 +187,9 @@ impl Batch {
         requires limit { limit < 2 ^ 63 }
         requires start { progress_of self.old.server ≡ start }
         requires line { self.old.line ≡ [] }
-        ensures ends { IfSome (S.left source.old) (λ input. Ends self.old.server.timing
-            (record { readings = C.readings clock.old; written = W.written sink.old })
-            (record { readings = C.readings clock.new; written = W.written sink.new })
-            (progress_of self.new.server) self.new.line limit input (S.left source.new) result) }
+        ensures ends { IfSome (S.left source.old) (λ input. Ends
+            (record { readings = C.readings clock.old; written = W.written sink.old }) input (S.left source.new) limit
+            (server_state self.new.server (C.readings clock.new) (W.written sink.new)) self.new.line result) }
         ensures timing { self.new.server.timing ≡ self.old.server.timing }
         ensures calls { self.new.server.session.calls ≤ limit }
         ensures source { (S.faults source.old ≤ S.faults source.new)
@@ -136,69 +199,63 @@ impl Batch {
     {
         let mut total = 0;
         'reading: loop {
-            match self.server.output.flush(sink) {
-                Ok(()) => {}
-                Err(_) => return End::SinkFailed,
-            }
-            let count = match read_piece(source, room, &self.server.output) {
+            let count = match self.next_piece(source, sink, room) {
                 Ok(count) => count,
-                Err(_) => return End::SourceFailed,
+                Err(end) => return end,
             };
-            if count == 0 {
-                return End::Source;
-            }
-            let allowed = limit - total;
-            if count as u64 > allowed {
-                let (first, _) = room.split_at(allowed as usize);
-                return match self.feed(clock, sink, first) {
-                    Ok(()) => End::TooLong,
-                    Err(_) => End::SinkFailed,
-                };
-            }
             let (piece, _) = room.split_at(count);
-            match self.feed(clock, sink, piece) {
-                Ok(()) => {}
-                Err(_) => return End::SinkFailed,
-            }
-            total += count as u64;
+            total = match self.feed_piece(limit, total, clock, sink, piece) {
+                Ok(fed) => fed,
+                Err(end) => return end,
+            };
         }
     }
 
-    // Serves the line that nothing ends, where there is one, and writes what is pending.
-    fn close<C: Clock, W: Sink>(&mut self, clock: &mut C, sink: &mut W) -> Result<(), Failed>
+    // Shows what comes last: what the line comes to that nothing ends, where there is one, or that the batch isn't
+    // within its limit.
+    fn show_last<C: Clock, W: Sink>(
+        &mut self,
+        within: bool,
+        clock: &mut C,
+        sink: &mut W,
+    ) -> Result<(), Failed>
         requires { self.old.server.session.calls + 1 < 2 ^ 64 }
-        ensures closes { (before : Trace) (input : List ℕ) → HasServed self.old.server.timing before
-            (record { readings = C.readings clock.old; written = W.written sink.old })
-            input (progress_of self.old.server) self.old.line
-            → Finishes self.old.server.timing before
-            (record { readings = C.readings clock.new; written = W.written sink.new })
-            (lines input) [] (progress_of self.new.server) result }
+        ensures shows { (before : Trace) (limit : ℕ) (input : List ℕ) → nat_le (length input) limit ≡ within
+            → HasServed before (take limit input)
+            (server_state self.old.server (C.readings clock.old) (W.written sink.old)) self.old.line
+            → ShowsLines before (batch_lines limit input) (end_text limit input [])
+            (server_state self.new.server (C.readings clock.new) (W.written sink.new)) result }
+        ensures timing { self.new.server.timing ≡ self.old.server.timing }
         ensures cause { HasCause (W.faults sink.old) (W.faults sink.new) result }
     {
+        if !within {
+            return self.server.output.show(sink, TOO_LONG);
+        }
         let line = self.line.as_slice();
         if line.is_empty() {
-            return self.server.output.flush(sink);
+            return Ok(());
         }
-        match self.server.serve(clock, sink, line) {
-            Ok(()) => self.server.output.flush(sink),
-            Err(failed) => Err(failed),
-        }
+        self.server.serve(clock, sink, line)
     }
 
-    // Shows that the batch is too long, and writes what is pending.
-    fn cut_off<W: Sink>(&mut self, sink: &mut W) -> Result<(), Failed>
-        ensures cuts { (before : Trace) (readings : Option (List ℕ)) (input : List ℕ)
-            → HasServed self.old.server.timing before
-            (record { readings = readings; written = W.written sink.old })
-            input (progress_of self.old.server) self.old.line
-            → Finishes self.old.server.timing before
-            (record { readings = readings; written = W.written sink.new })
-            (ended_lines input) too_long_text (progress_of self.new.server) result }
-        ensures cause { HasCause (W.faults sink.old) (W.faults sink.new) result }
+    // Shows what comes last, writes what is pending, and answers the status.
+    fn close<C: Clock, W: Sink>(&mut self, within: bool, clock: &mut C, sink: &mut W) -> ExitStatus
+        requires { self.old.server.session.calls + 1 < 2 ^ 64 }
+        ensures outcome { (before : Trace) (limit : ℕ) (input : List ℕ) (left : Option (List ℕ))
+            → nat_le (length input) limit ≡ within → HasServed before (take limit input)
+            (server_state self.old.server (C.readings clock.old) (W.written sink.old)) self.old.line
+            → Outcome self.old.server.timing limit before
+            (record { readings = C.readings clock.new; written = W.written sink.new }) input left result }
+        ensures sink { (W.faults sink.old ≤ W.faults sink.new)
+            × (result ≡ ExitStatus.SinkFailed → Rose (W.faults sink.old) (W.faults sink.new)) }
+        ensures statuses { (result ≢ ExitStatus.Usage) × (result ≢ ExitStatus.SourceFailed) }
     {
-        match self.server.output.show(sink, TOO_LONG) {
-            Ok(()) => self.server.output.flush(sink),
-            Err(failed) => Err(failed),
+        match self.show_last(within, clock, sink) {
+            Ok(()) => match self.server.output.flush(sink) {
+                Ok(()) => self.server.tally.status(within),
+                Err(_) => ExitStatus::SinkFailed,
+            },
+            Err(_) => ExitStatus::SinkFailed,
         }
     }
 
@@ -207,9 +264,8 @@ impl Batch {
     pub fn finish<C: Clock, W: Sink>(&mut self, end: End, clock: &mut C, sink: &mut W) -> ExitStatus
         requires { self.old.server.session.calls + 1 < 2 ^ 64 }
         ensures outcome { (before : Trace) (limit : ℕ) (input : List ℕ) (left : Option (List ℕ))
-            → Ends self.old.server.timing before
-            (record { readings = C.readings clock.old; written = W.written sink.old })
-            (progress_of self.old.server) self.old.line limit input left end
+            → Ends before input left limit
+            (server_state self.old.server (C.readings clock.old) (W.written sink.old)) self.old.line end
             → Outcome self.old.server.timing limit before
             (record { readings = C.readings clock.new; written = W.written sink.new }) input left result }
         ensures source { (result ≡ ExitStatus.SourceFailed) ↔ (end ≡ End.SourceFailed) }
@@ -218,14 +274,8 @@ impl Batch {
         ensures statuses { result ≢ ExitStatus.Usage }
     {
         match end {
-            End::Source => match self.close(clock, sink) {
-                Ok(()) => self.server.tally.status(true),
-                Err(_) => ExitStatus::SinkFailed,
-            },
-            End::TooLong => match self.cut_off(sink) {
-                Ok(()) => self.server.tally.status(false),
-                Err(_) => ExitStatus::SinkFailed,
-            },
+            End::Source => self.close(true, clock, sink),
+            End::TooLong => self.close(false, clock, sink),
             End::SourceFailed => ExitStatus::SourceFailed,
             End::SinkFailed => ExitStatus::SinkFailed,
         }

@@ -57,7 +57,7 @@ pub struct LineServer {
 }
 
 impl LineServer {
-    ghost use Rattle.lake_program.specs.ServerView.{progress_of};
+    ghost use Rattle.lake_program.specs.ServerView.{progress_of, server_state};
 
     /// A session on a fresh lake, which served no line.
     pub fn new(alloc: Global, timing: Timing) -> Result<LineServer, NoMemory>
@@ -84,10 +84,8 @@ impl LineServer {
         line: &[u8],
     ) -> Result<(), Failed>
         requires { self.old.session.calls + 1 < 2 ^ 64 }
-        ensures serves { Serves self.old.timing
-            (record { readings = C.readings clock.old; written = W.written sink.old })
-            (record { readings = C.readings clock.new; written = W.written sink.new })
-            (progress_of self.old) (progress_of self.new) line.now result }
+        ensures serves { Serves (server_state self.old (C.readings clock.old) (W.written sink.old))
+            (server_state self.new (C.readings clock.new) (W.written sink.new)) line.now result }
         ensures timing { self.new.timing ≡ self.old.timing }
         ensures calls { self.new.session.calls ≤ self.old.session.calls + 1 }
         ensures cause { HasCause (W.faults sink.old) (W.faults sink.new) result }

@@ -1,5 +1,4 @@
-use Rattle.std.proofs.Common.{◌≡◌, inl, inr, ⊎_elim, sym, ◌∙◌, arith}
-use Rattle.lake_program.specs.Streams.{Streams}
+use Rattle.std.proofs.Common.{inl, inr, ⊎_elim, sym, ◌∙◌, arith}
 use Rattle.lake_program.proofs.RunLemmas.{run_of_batch, run_of_usage}
 use Rattle.lake_program.proofs.run.run.Goals as goal
 
