@@ -1,6 +1,7 @@
 //! What each call of the lake answered, as the value of its step, or why it gave none.
 
 use crate::fault::ScriptFault;
+use crate::preparations::prepared_value;
 use crate::replies::{
     commits_value, found_value, names_value, note_value, numbers_value, page_value, point_value,
     repos_value, seen_value, told_value, versions_value,
@@ -8,6 +9,7 @@ use crate::replies::{
 use lake_base::{RefName, Sequence};
 use lake_model::{Point, RepoInfo, Seen, StepFault, Versions};
 use lake_pages::Page;
+use lake_preparing::Prepared;
 use lake_values::{CommitId, CommitRecord, Entry, Note};
 use serde_json::Value;
 use std::alloc::Global;
@@ -31,6 +33,15 @@ pub fn point_answer(alloc: Global, answer: Result<Point, StepFault>) -> Result<V
 pub fn seen_answer(alloc: Global, answer: Result<Seen, StepFault>) -> Result<Value, ScriptFault> {
     let seen = answer?;
     Ok(seen_value(alloc, &seen)?)
+}
+
+/// Of `prepare`.
+pub fn prepared_answer(
+    alloc: Global,
+    answer: Result<Prepared, StepFault>,
+) -> Result<Value, ScriptFault> {
+    let prepared = answer?;
+    Ok(prepared_value(alloc, &prepared)?)
 }
 
 /// Of `page`.

@@ -2,7 +2,7 @@
 //!
 //! - `line`: a line as a step's name and its arguments; `arguments`: the forms of arguments.
 //! - `settings`: the name of a setting, and a setting as JSON.
-//! - `replies`: what the lake tells, as JSON values; `answers`: the value of a step by its call; `refusals`: why the
+//! - `replies`: what the lake tells, as JSON values; `preparations`: what a new head is made from, as one; `answers`: the value of a step by its call; `refusals`: why the
 //!   lake refused one.
 //! - `fault`: why a line is no step, and why a step gave no value.
 //!
@@ -13,13 +13,14 @@ mod answers;
 mod arguments;
 mod fault;
 mod line;
+mod preparations;
 mod refusals;
 mod replies;
 mod settings;
 
 pub use answers::{
     commit_answer, copy_answer, log_answer, names_answer, note_answer, page_answer, place_answer,
-    point_answer, repos_answer, seen_answer, ticket_answer, versions_answer,
+    point_answer, prepared_answer, repos_answer, seen_answer, ticket_answer, versions_answer,
 };
 pub use arguments::{
     amount_of, by_of, change_of, expr_of, flag_of, number_of, optional_commit, optional_number,

@@ -4,7 +4,7 @@ use crate::arguments::str_of;
 use crate::fault::{LineFault, ScriptFault};
 use hook_rules::{write_hooks, write_protection};
 use lake_base::NoMemory;
-use lake_values::{Note, NoteName};
+use lake_values::{HookRules, Note, NoteName};
 use serde_json::Value;
 use std::alloc::Global;
 
@@ -22,9 +22,14 @@ pub fn setting_name(value: &Value) -> Result<NoteName, ScriptFault> {
 pub fn setting_value(alloc: Global, note: &Note) -> Result<Value, NoMemory> {
     match note {
         Note::Protection(protection) => read_back(alloc, write_protection(alloc, protection)?),
-        Note::Hooks(hooks) => read_back(alloc, write_hooks(alloc, hooks)?),
+        Note::Hooks(hooks) => hooks_value(alloc, hooks),
         Note::Retention(_) => Ok(Value::Null),
     }
+}
+
+/// Hooks as a value.
+pub fn hooks_value(alloc: Global, hooks: &HookRules) -> Result<Value, NoMemory> {
+    read_back(alloc, write_hooks(alloc, hooks)?)
 }
 
 // The value of a text that was written, which can be read.

@@ -2,25 +2,21 @@
 //!
 //! - `opening`: the first step, which opens the lake.
 //! - `step`: the other steps, by name.
-//! - `readings`, `listings`: the readings; `names`, `writes`, `settings`: the changes.
-//! - `calls`: the calls of the lake; `target`: what most steps are about.
-//! - `state`: the whole lake.
+//! - `readings`, `listings`, `preparing`: the readings; `names`, `writes`, `settings`: the changes.
 //! - `reply`: the reply to a step.
 //!
 //! The promise to the layer above: it is safe on every input, and no call of the lake is made whose condition doesn't
 //! hold. No clause says more.
 #![tactic(auto)]
 
-mod calls;
 mod listings;
 mod names;
 mod opening;
+mod preparing;
 mod readings;
 mod reply;
 mod settings;
-mod state;
 mod step;
-mod target;
 mod writes;
 
 pub use opening::open;

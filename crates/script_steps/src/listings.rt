@@ -1,9 +1,9 @@
 //! Readings of names: repositories, branches and tags.
 
-use crate::calls;
-use crate::target::{Named, miscounted};
 use keeper::Keeper;
 use lake_core::Lake;
+use script_calls::calls;
+use script_calls::target::{Named, miscounted};
 use script_forms::{
     ScriptFault, amount_of, commit_answer, flag_of, names_answer, repo_of, repos_answer, text_of,
 };

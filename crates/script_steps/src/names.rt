@@ -1,9 +1,9 @@
 //! Repositories, branches and tags that come and go.
 
-use crate::calls;
-use crate::target::{Named, miscounted};
 use keeper::Keeper;
 use lake_core::Lake;
+use script_calls::calls;
+use script_calls::target::{Named, miscounted};
 use script_forms::{ScriptFault, by_of, commit_answer, expr_of, number_of, place_answer};
 use serde_json::Value;
 use std::alloc::Global;

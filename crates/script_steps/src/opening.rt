@@ -1,4 +1,5 @@
 //! The first step, which opens the lake.
+ghost use Rattle.std.specs.Prelude.{◌<◌, IfOk};
 
 use keeper::Keeper;
 use lake_core::{Lake, OpenFault};
@@ -15,7 +16,9 @@ pub fn open<K: Keeper>(alloc: Global, keeper: K, line: &[u8]) -> Result<Lake<K>,
 }
 
 // The cut of a line that is `fresh`: max_bytes, and a modulus that isn't 0.
-fn cut_of(alloc: Global, line: &[u8]) -> Result<Cut, ScriptFault> {
+fn cut_of(alloc: Global, line: &[u8]) -> Result<Cut, ScriptFault>
+    ensures { IfOk result (λ cut. 0 < cut.modulus) }
+{
     let line = StepLine::read(alloc, line)?;
     match line.parts()? {
         ("fresh", [max_bytes, modulus]) => cut_by(max_bytes, modulus),
@@ -25,7 +28,9 @@ fn cut_of(alloc: Global, line: &[u8]) -> Result<Cut, ScriptFault> {
 }
 
 // The cut by two values.
-fn cut_by(max_bytes: &Value, modulus: &Value) -> Result<Cut, ScriptFault> {
+fn cut_by(max_bytes: &Value, modulus: &Value) -> Result<Cut, ScriptFault>
+    ensures { IfOk result (λ cut. 0 < cut.modulus) }
+{
     let max_bytes = number_of(max_bytes, "max_bytes")?;
     let modulus = number_of(modulus, "modulus")?;
     if modulus == 0 {
@@ -35,7 +40,9 @@ fn cut_by(max_bytes: &Value, modulus: &Value) -> Result<Cut, ScriptFault> {
 }
 
 // A fresh lake over a keeper without pairs. One that has pairs is answered as a fault of the store.
-fn fresh_lake<K: Keeper>(alloc: Global, keeper: K, cut: Cut) -> Result<Lake<K>, ScriptFault> {
+fn fresh_lake<K: Keeper>(alloc: Global, keeper: K, cut: Cut) -> Result<Lake<K>, ScriptFault>
+    requires { 0 < cut.modulus }
+{
     match Lake::opened(alloc, keeper, cut) {
         Ok(lake) => Ok(lake),
         Err((OpenFault::NoMemory, _)) => Err(ScriptFault::from(StepFault::NoMemory)),

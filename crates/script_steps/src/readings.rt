@@ -1,9 +1,9 @@
 //! Readings of what an expression leads to, and of versions and settings.
 
-use crate::calls;
-use crate::target::{Named, Target, miscounted};
 use keeper::Keeper;
 use lake_core::Lake;
+use script_calls::calls;
+use script_calls::target::{Named, Target, miscounted};
 use script_forms::{
     ScriptFault, amount_of, log_answer, note_answer, optional_commit, optional_number, page_answer,
     path_of, point_answer, query_of, repo_of, seen_answer, setting_name, versions_answer,

@@ -3,13 +3,13 @@ ghost use Rattle.std.specs.Prelude.{◌≡◌, IfOk, IfSome};
 ghost use Rattle.lake_values.specs.NoteNames.{note_name};
 ghost use Rattle.lake_puts.specs.Puts.{HasText};
 
-use crate::calls;
-use crate::target::miscounted;
 use hook_rules::{read_hooks, read_protection};
 use keeper::Keeper;
 use lake_base::NoMemory;
 use lake_core::Lake;
 use lake_values::{Note, NoteName};
+use script_calls::calls;
+use script_calls::target::miscounted;
 use script_forms::{
     LineFault, ScriptFault, by_of, optional_number, place_answer, repo_of, setting_name,
 };

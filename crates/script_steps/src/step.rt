@@ -1,10 +1,10 @@
 //! The steps, by name.
 
-use crate::state::state;
-use crate::{listings, names, readings, settings, writes};
+use crate::{listings, names, preparing, readings, settings, writes};
 use keeper::Keeper;
 use lake_core::Lake;
 use script_forms::{LineFault, ScriptFault, StepLine};
+use script_states::state;
 use serde_json::Value;
 use std::alloc::Global;
 
@@ -28,6 +28,7 @@ enum Reading {
     Find,
     Note,
     Versions,
+    Prepare,
 }
 
 // A change.
@@ -86,6 +87,7 @@ impl Reading {
             "find" => Some(Reading::Find),
             "note" => Some(Reading::Note),
             "versions" => Some(Reading::Versions),
+            "prepare" => Some(Reading::Prepare),
             _ => None,
         }
     }
@@ -108,6 +110,7 @@ impl Reading {
             Reading::Find => listings::find(alloc, lake, arguments),
             Reading::Note => readings::note(alloc, lake, arguments),
             Reading::Versions => readings::versions(alloc, lake, arguments),
+            Reading::Prepare => preparing::prepare(alloc, lake, arguments),
         }
     }
 }

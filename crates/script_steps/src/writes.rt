@@ -3,12 +3,12 @@ ghost use Rattle.std.specs.Prelude.{IfSome, IsTrue};
 ghost use Rattle.lake_model.specs.Uncommitted.{HasTicket, put_number};
 ghost use Rattle.lake_core.specs.Lakes.{state};
 
-use crate::calls;
-use crate::target::{Named, miscounted};
 use keeper::Keeper;
 use lake_core::Lake;
 use lake_model::{By, SealFor};
 use lake_values::{Change, Place};
+use script_calls::calls;
+use script_calls::target::{Named, miscounted};
 use script_forms::{
     LineFault, ScriptFault, by_of, change_of, copy_answer, expr_of, number_of, path_of,
     place_answer, reset_of, str_of, ticket_answer, versions_answer,

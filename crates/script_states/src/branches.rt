@@ -1,8 +1,6 @@
 //! The branches of a repository as values.
 
-use crate::calls;
-use crate::state::no_text;
-use crate::target::Target;
+use crate::whole::no_text;
 use branch_record::Tokens;
 use commit_graph::RefExpr;
 use keeper::Keeper;
@@ -12,6 +10,8 @@ use lake_format::entry_bytes;
 use lake_pages::{Item, PageQuery};
 use lake_state::{BranchState, RepositoryState};
 use lake_values::{CommitId, Entry};
+use script_calls::calls;
+use script_calls::target::Target;
 use script_forms::ScriptFault;
 use serde_json::{Map, Value};
 use std::alloc::Global;

@@ -1,13 +1,13 @@
 //! The repositories of a lake as values.
 
-use crate::calls;
-use crate::state::branches::branch_values;
-use crate::state::no_text;
+use crate::branches::branch_values;
+use crate::whole::no_text;
 use keeper::Keeper;
 use lake_base::{NoMemory, RepoName};
 use lake_core::Lake;
 use lake_model::RepoInfo;
 use lake_state::RepositoryState;
+use script_calls::calls;
 use script_forms::{ScriptFault, name_values, repo_members};
 use serde_json::{Map, Value};
 use std::alloc::Global;

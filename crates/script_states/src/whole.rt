@@ -1,18 +1,13 @@
 //! The whole lake as a value. What readings tell comes from readings, the rest from the lake in memory and its history.
 
-mod branches;
-mod kinds;
-mod numbers;
-mod repositories;
-
-use crate::state::kinds::kinds_value;
-use crate::state::numbers::put_numbers;
-use crate::state::repositories::repository_values;
-use crate::target::miscounted;
+use crate::kinds::kinds_value;
+use crate::numbers::put_numbers;
+use crate::repositories::repository_values;
 use keeper::Keeper;
 use lake_base::{NoMemory, Text};
 use lake_core::Lake;
 use lake_model::HistoryEntry;
+use script_calls::target::miscounted;
 use script_forms::ScriptFault;
 use serde_json::{Map, Value};
 use std::alloc::Global;
@@ -46,7 +41,7 @@ fn put_counts(
     Ok(())
 }
 
-// The empty text. It takes no memory.
-fn no_text(alloc: Global) -> Text {
+/// The empty text. It takes no memory.
+pub fn no_text(alloc: Global) -> Text {
     Text::of(String::new(alloc))
 }

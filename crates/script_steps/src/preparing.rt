@@ -1,0 +1,73 @@
+//! What a new head of a branch is made from.
+ghost use Rattle.std.specs.Prelude.{IfOk, IfSome};
+ghost use Rattle.lake_preparing.specs.Preparations.{HasSides};
+ghost use Rattle.lake_core.specs.Lakes.{state};
+
+use keeper::Keeper;
+use lake_base::RepoName;
+use lake_core::Lake;
+use lake_model::Sides;
+use lake_values::CommitId;
+use script_calls::calls;
+use script_calls::target::{Named, Target, miscounted};
+use script_forms::{LineFault, ScriptFault, prepared_answer};
+use serde_json::Value;
+use std::alloc::Global;
+use vector_forms::{list_of, member_of};
+
+/// `prepare`: repository, branch, the sides of a merge or a pick.
+pub fn prepare<K: Keeper>(
+    alloc: Global,
+    lake: &Lake<K>,
+    arguments: &[Value],
+) -> Result<Value, ScriptFault> {
+    let [repo, branch, sides] = arguments else {
+        return Err(miscounted());
+    };
+    let branch = Named::of(alloc, repo, branch)?;
+    let sides = tested_sides(alloc, lake, &branch.repo, sides)?;
+    prepared_answer(alloc, calls::prepare(lake, &branch, sides.as_ref()))
+}
+
+// The sides of a merge or a pick, which are commits of the repository; none where the value is null.
+fn tested_sides<K: Keeper>(
+    alloc: Global,
+    lake: &Lake<K>,
+    repo: &RepoName,
+    value: &Value,
+) -> Result<Option<Sides>, ScriptFault>
+    ensures { IfOk result (λ sides. IfSome sides (HasSides (state lake.now) repo.now)) }
+{
+    if value.is_null() {
+        return Ok(None);
+    }
+    let sides = sides_of(alloc, lake, value)?;
+    if calls::are_commits(lake, repo, &sides) {
+        return Ok(Some(sides));
+    }
+    Err(ScriptFault::Condition)
+}
+
+// `{"merge":ID_OF}` or `{"pick":[ID_OF,ID_OF]}`.
+fn sides_of<K: Keeper>(alloc: Global, lake: &Lake<K>, value: &Value) -> Result<Sides, ScriptFault> {
+    if let Ok(source) = member_of(value, "merge") {
+        let source = id_of(alloc, lake, source)?;
+        return Ok(Sides::Merge { source });
+    }
+    let [base, source] = list_of(value, "pick")? else {
+        return Err(ScriptFault::from(LineFault::Malformed("sides")));
+    };
+    let base = id_of(alloc, lake, base)?;
+    let source = id_of(alloc, lake, source)?;
+    Ok(Sides::Pick { base, source })
+}
+
+// `{"id_of":[REPO,EXPR]}`: the commit that an expression leads to.
+fn id_of<K: Keeper>(alloc: Global, lake: &Lake<K>, value: &Value) -> Result<CommitId, ScriptFault> {
+    let [repo, e] = list_of(value, "id_of")? else {
+        return Err(ScriptFault::from(LineFault::Malformed("id_of")));
+    };
+    let target = Target::of(alloc, repo, e)?;
+    let point = calls::resolve(lake, &target)?;
+    Ok(point.commit)
+}
