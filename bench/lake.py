@@ -448,7 +448,7 @@ def told(program, *counts):
 def main():
     folder = sys.argv[1] if len(sys.argv) > 1 else tempfile.mkdtemp(prefix='lake-')
     program = scratch.built(folder, 'lake_cost', PROGRAM, CRATES, {'words': WORDS, 'steps': STEPS, 'keys': KEYS})
-    small, _ = told(program, 10000, 100, 10)
+    small, _ = told(program, 1000, 100, 10)
     large, most = told(program, 1000000, 100000, 1000)
     for what in small:
         calls = 20 if what.startswith('page') else 100000
