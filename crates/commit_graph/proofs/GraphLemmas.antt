@@ -64,6 +64,18 @@ insert_from es fs id c h =
     ∙ ap (cond (eq_by_cmp byte_order q id.0) (Some c)) (sym (commit_from es (id_of q)))
     ∙ sym (tree.get-insert nat_list_cmp_total (graph_of es) id.0 c q))
 
+-- and one that has nothing at one id is its graph without that commit
+pub remove_from : (es fs : Commits) (id : Digest)
+    → ((q : Digest) → lookup (eq_by_cmp by_id q) fs ≡ cond (eq_by_cmp by_id id q) None (lookup (eq_by_cmp by_id q) es))
+    → graph_of fs ≡ tree.remove (graph_of es) id.0
+remove_from es fs id h =
+    tree.same_map nat_list_cmp_total (slice_cmp-IsAntisymmetric nat_cmp-IsAntisymmetric) _ _
+    (λ q. commit_from fs (id_of q)
+    ∙ h (id_of q)
+    ∙ ap (λ b. cond b None (lookup (eq_by_cmp by_id (id_of q)) es)) ((eq_by_cmp_equiv nat_list_cmp_total).symm id.0 q)
+    ∙ ap (cond (eq_by_cmp byte_order q id.0) None) (sym (commit_from es (id_of q)))
+    ∙ sym (tree.get-remove nat_list_cmp_total (graph_of es) id.0 q))
+
 put_below : (e : Digest × CommitRecordValue) (es : Commits) → IsStrictlySortedBy by_id (list_map (λ e. e.0) (e ∷ es)) → tree.put byte_order e.0.0 e.1 (keyed es) ≡ keyed (e ∷ es)
 put_below e [] h = refl
 put_below e (f ∷ fs) h =

@@ -3,7 +3,7 @@
 //! As an example, a first commit R; X and Y with the parent R; and M with the parents X and Y. Their generations
 //! are 1, 2, 2 and 3. From M, `~` and `^` lead to X, `^2` to Y, and `~2` and `^2~` to R; `~3` leads nowhere.
 ghost use Rattle.std.specs.Prelude.{◌≡◌, ◌≤◌, ◌<◌, ◌^◌, is_none, is_some, length, find, slice_get, IfOk, OnErr, IsSome, Some, MatchOption, option_copied, option_map};
-ghost use Rattle.std.specs.FinMap.{len, empty, entries, insert};
+ghost use Rattle.std.specs.FinMap.{len, empty, entries, insert, remove};
 ghost use Rattle.std.specs.Option.{option_and_then};
 ghost use Rattle.lake_base.specs.Digest.{sha256};
 ghost use Rattle.lake_format.specs.Spelling.{commit_spelling, commit_id};
@@ -127,6 +127,29 @@ impl Graph {
         Ok(id)
     }
 
+    /// Takes a commit out, where it is there. It takes no memory.
+    ///
+    /// No commit may stay whose parent it is: what is left is a graph.
+    pub fn remove(&mut self, id: &CommitId)
+        requires { IsSound (remove self.old id.now.0) }
+        ensures { self.new ≡ remove self.old id.now.0 }
+    {
+        let _commit = self.commits.remove(id);
+    }
+
+    /// The generation due after these parents: one more than the greatest of theirs, and 1 after none. None exactly where
+    /// 64 bits don't hold it. It takes no memory.
+    pub fn due_after(&self, parents: &[CommitId]) -> Option<u64>
+        ensures { MatchOption result (2 ^ 64 ≤ due_generation self.now parents.now)
+            (λ due. due ≡ due_generation self.now parents.now) }
+    {
+        let mut due = 1u64;
+        for parent in parents {
+            due = due.max(self.generation(parent).checked_add(1)?);
+        }
+        Some(due)
+    }
+
     /// Where moves lead from a commit. The error is the number of the first move, counted from 0, that finds no such
     /// parent. It takes no memory.
     pub fn resolve(&self, from: &CommitId, moves: &[Move]) -> Result<CommitId, u32>
@@ -219,18 +242,6 @@ impl Graph {
                 due: u64::MAX,
             }),
         }
-    }
-
-    // The generation due after these parents; none where a 64-bit number doesn't hold it.
-    fn due_after(&self, parents: &[CommitId]) -> Option<u64>
-        ensures { MatchOption result (2 ^ 64 ≤ due_generation self.now parents.now)
-            (λ due. due ≡ due_generation self.now parents.now) }
-    {
-        let mut due = 1u64;
-        for parent in parents {
-            due = due.max(self.generation(parent).checked_add(1)?);
-        }
-        Some(due)
     }
 }
 
