@@ -7,3 +7,4 @@ pub mod FirstLemmas
 pub mod BuildLemmas
 pub mod NamesLemmas
 pub mod TrioLemmas
+pub mod FileLemmas

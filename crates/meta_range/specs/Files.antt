@@ -1,12 +1,17 @@
 -- Files by their names, and the maps that trees can hold.
-use Rattle.std.specs.Prelude.{◌≡◌, ◌≢◌, ◌<◌, ◌^◌, ℕ, List, Option, option_map, find}
+use Rattle.std.specs.Prelude.{◌≡◌, ◌≢◌, ◌<◌, ◌^◌, ℕ, List, [], Option, option_map, find, slice_get}
 use Rattle.std.specs.List.{AllByRecursion, Contains}
 use Rattle.std.specs.FinMap.{entries, len}
+use Rattle.std.specs.Option.{unwrap_or}
 use Rattle.std.specs.Str.{bytes_eq}
 use Rattle.lake_base.specs.declared.digest.Digest.{Digest}
 use Rattle.lake_values.specs.KeyMap.{KeyMapValue}
 use Rattle.lake_format.specs.Spelling.{file_name, IsRow}
 use Rattle.meta_range.specs.declared.file.File.{File}
+
+-- the file at a place; past the last one, no bytes
+abbrev pub file_at : List (List ℕ) → ℕ → List ℕ
+file_at files place = unwrap_or (slice_get files place) []
 
 -- the file of some bytes: it is known by their SHA-256
 abbrev pub file_of : List ℕ → File

@@ -1,7 +1,7 @@
 //! Trees: a key map cut into ranges, each a file that is known by its SHA-256, so that two trees share every range
 //! that is the same in both.
 //!
-//! - `tree`, `shared_range`, `limits`: the tree of a map, what stands in it, and its files.
+//! - `tree`, `tree_files`, `shared_range`, `limits`: the tree of a map, what stands in it, and its files.
 //! - `trio`, `named_ranges`, `places`: three trees of a merge, and their ranges by name.
 //! - `cursor`: its rows, one after the other.
 //! - `metarange`: the file that says of a tree's ranges which they are, written and read.
@@ -25,13 +25,14 @@ mod shared_range;
 mod tests;
 mod threads;
 mod tree;
+mod tree_files;
 mod trio;
 
 pub use cursor::Cursor;
 pub use fault::{MetaFault, TreeFault};
 pub use file::File;
 pub use lake_values::cursor::EntryCursor;
-pub use limits::law_of_limits;
+pub use limits::{law_of_files, law_of_limits};
 pub use metarange::{laws_of_metaranges, read_metarange};
 pub use threads::trees_cross;
 pub use tree::{Tree, law_of_names};

@@ -63,6 +63,23 @@ fn trees_are_cut(rt: HostRuntime) -> Result<(), Fail> {
     Ok(())
 }
 
+// Each file alone is the one of the list, and no other file of the tree is it.
+#[test]
+fn trees_give_one_file(rt: HostRuntime) -> Result<(), Fail> {
+    let alloc = rt.alloc();
+    let tree = tree_of(alloc, b"abz", 68)?;
+    let files = tree.files(alloc)?;
+    assert_eq!(rt; tree.range_count() + 1, files.len());
+    for (place, file) in files.iter().enumerate() {
+        assert!(rt; tree.file_name(place) == file.name);
+        assert!(rt; tree.file(alloc, place)?.bytes.as_slice() == file.bytes.as_slice());
+        for at in 0..files.len() {
+            assert_eq!(rt; tree.has_file_of(alloc, place, &tree, at)?, place == at);
+        }
+    }
+    Ok(())
+}
+
 #[test]
 fn the_empty_map_has_a_metarange_of_five_bytes(rt: HostRuntime) -> Result<(), Fail> {
     let tree = tree_of(rt.alloc(), b"", 68)?;
