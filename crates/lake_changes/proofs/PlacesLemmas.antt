@@ -1,5 +1,5 @@
 -- Maps in which a key may be room for a value, after one place was made or changed.
-use Rattle.std.proofs.Common.{◌≡◌, ℕ, Bool, true, false, cond, List, refl, sym, ap, subst, ◌∙◌}
+use Rattle.std.proofs.Common.{◌≡◌, ℕ, Bool, true, false, cond, ◌||◌, List, refl, sym, ap, subst, ◌∙◌}
 use Rattle.std.specs.Prelude.{Option, Some, None, option_map, IfSome}
 use Rattle.std.specs.Option.{option_and_then, option_map_or, is_some}
 use Rattle.std.specs.Ordering.{is_eq}
@@ -10,7 +10,7 @@ use Rattle.std.specs.FinMap.{contains_key, get, insert}
 use Rattle.std.proofs.lemmas.Cmp.{nat_list_cmp_total}
 use Rattle.lake_base.specs.Maps.{ByteMap}
 use Rattle.byte_map.specs.Values.{map_values, some_values}
-use Rattle.byte_map.proofs.ByteMapLemmas.{same_maps, get_insert, insert_same}
+use Rattle.byte_map.proofs.ByteMapLemmas.{same_maps, contains_insert, get_insert, insert_same}
 use Rattle.byte_map.proofs.ValuesLemmas.{get_some_values, get_map_values, some_values_insert}
 use Rattle.lake_model.specs.Parts.{changed_at}
 
@@ -24,6 +24,14 @@ module _ {V : Type 0} (m : ByteMap V) (k : List ℕ) where
 
   pub contains_put : (v : V) → contains_key (insert m k v) k ≡ true
   contains_put v = ap is_some (get_put v)
+
+  or_there : (b : Bool) → (b || true) ≡ true
+  or_there true = refl
+  or_there false = refl
+
+  -- each key that was there stays
+  pub kept_put : (v : V) (q : List ℕ) → contains_key m q ≡ true → contains_key (insert m k v) q ≡ true
+  kept_put v q there = contains_insert m k v q ∙ ap (λ b. bytes_eq q k || b) there ∙ or_there (bytes_eq q k)
 
 module _ {X : Type 0} (m : ByteMap (Option X)) (k : List ℕ) where
   absent : (o : Option (Option X)) → is_some o ≡ false → o ≡ None

@@ -6,8 +6,9 @@ use Rattle.branch_record.specs.Record.{is_among}
 use Rattle.branch_record.specs.Tokens.{with_change, with_each}
 use Rattle.lake_state.specs.declared.branch.BranchState.{BranchState}
 use Rattle.lake_state.specs.Branches.{BranchStateValue, tokens_of, with_fresh}
+use Rattle.lake_state.specs.NewHeads.{with_new_head}
 use Rattle.lake_changes.specs.declared.branch.BranchChange.{BranchChange}
-use Rattle.lake_changes.specs.declared.branch.BranchChange.TheVariants.{Stage, Reset, Seal}
+use Rattle.lake_changes.specs.declared.branch.BranchChange.TheVariants.{Stage, Reset, Seal, Head}
 
 -- a branch after a change of it
 abbrev pub branch_after : BranchChange → BranchStateValue → BranchStateValue
@@ -15,6 +16,7 @@ branch_after (Stage path change) b = record b { tokens = with_change b.tokens b.
 branch_after (Reset what version) b =
     record b { version = version; tokens = with_each (tokens_of b) (changes_after_reset what) b.tokens }
 branch_after (Seal fresh version) b = record (with_fresh fresh b) { version = version }
+branch_after (Head commit version) b = with_new_head version commit b
 
 -- a token that a branch doesn't name, and under which nothing stands
 pub record IsUnused (b : BranchStateValue) (token : ℕ) : Type 0 where
@@ -26,8 +28,14 @@ abbrev pub FitsBranch : BranchChange → BranchStateValue → Type 0
 FitsBranch (Stage path change) b = Unit {0}
 FitsBranch (Reset what version) b = Unit {0}
 FitsBranch (Seal fresh version) b = IsUnused b fresh
+FitsBranch (Head commit version) b = Unit {0}
 
 -- it has room for a staged change, and for a sealed token
 pub record HasRoom (b : BranchState) : Type 0 where
   pub sealed : 1 ≤ b.record.spare
   pub staged : 1 ≤ b.tokens.spare
+
+-- the room that a change needs: a new head needs none
+abbrev pub HasRoomTo : BranchChange → BranchState → Type 0
+HasRoomTo (Head commit version) b = Unit {0}
+HasRoomTo change b = HasRoom b

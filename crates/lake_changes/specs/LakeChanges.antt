@@ -15,6 +15,7 @@ use Rattle.lake_model.specs.Uncommitted.{put_number}
 use Rattle.lake_changes.specs.declared.branch.BranchChange.TheVariants as branch
 use Rattle.lake_state.specs.Branches.{BranchStateValue, new_branch}
 use Rattle.lake_state.specs.Founding.{founded_names, founded_repository}
+use Rattle.lake_state.specs.NewHeads.{NewCommit, with_names, with_new_commit}
 use Rattle.lake_state.specs.Repositories.{RepositoryStateValue}
 use Rattle.lake_state.specs.Lakes.{LakeStateValue}
 use Rattle.lake_changes.specs.BranchChanges.{branch_after}
@@ -82,6 +83,16 @@ after_reset repo name what l =
 abbrev pub after_seal : List ℕ → List ℕ → LakeStateValue → LakeStateValue
 after_seal repo name l =
     with_entry (with_token (with_version (in_branch repo name (branch_after (branch.Seal l.next_token l.next_version)) l)))
+
+-- a branch has a new head
+abbrev pub after_head : List ℕ → List ℕ → Digest → LakeStateValue → LakeStateValue
+after_head repo name commit l = with_entry (with_references (with_version
+    (in_branch repo name (branch_after (branch.Head commit l.next_version)) l)))
+
+-- a new commit becomes the head of a branch
+abbrev pub after_new_head : List ℕ → List ℕ → NewCommit → LakeStateValue → LakeStateValue
+after_new_head repo branch new l = with_entry (with_references (with_version
+    (record (in_repository repo (with_new_commit l.next_version branch new) l) { names = with_names repo new l.names })))
 
 -- a branch is made
 abbrev pub after_branch_create : List ℕ → List ℕ → Digest → LakeStateValue → LakeStateValue

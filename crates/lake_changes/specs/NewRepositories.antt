@@ -15,4 +15,4 @@ pub record IsNew (repo branch : List ℕ) (date : ℕ) (l : LakeStateValue) (new
   pub commit : new.commit ≡ first_id l.cut date
   pub home : new.home ≡ repo
   pub file : new.file ≡ tree_id l.cut empty
-  pub place : new.place ≡ first_file (files l.cut empty)
+  pub place : new.place.bytes ≡ first_file (files l.cut empty)

@@ -11,7 +11,7 @@ use Rattle.lake_changes.specs.declared.repository.RepositoryChange.{RepositoryCh
 use Rattle.lake_changes.specs.declared.repository.RepositoryChange.TheVariants.{PutBranch, DropBranch, PutTag, DropTag, SetNote, InBranch}
 use Rattle.lake_changes.specs.declared.repository.Room.{Room}
 use Rattle.lake_changes.specs.declared.repository.Room.TheVariants as room
-use Rattle.lake_changes.specs.BranchChanges.{HasRoom, FitsBranch, branch_after}
+use Rattle.lake_changes.specs.BranchChanges.{HasRoom, HasRoomTo, FitsBranch, branch_after}
 
 -- a repository after a change of it
 abbrev pub repository_after : RepositoryChange → RepositoryStateValue → RepositoryStateValue
@@ -41,5 +41,5 @@ HasRoomIn room.Nothing r = Unit {0}
 abbrev pub HasRoomFor : RepositoryChange → RepositoryState → Type 0
 HasRoomFor (PutBranch name branch) r = contains_key r.branches name.now ≡ true
 HasRoomFor (PutTag name commit) r = contains_key r.tags name.now ≡ true
-HasRoomFor (InBranch name change) r = (b : BranchState) → get r.branches name.now ≡ Some (Some b) → HasRoom b
+HasRoomFor (InBranch name change) r = (b : BranchState) → get r.branches name.now ≡ Some (Some b) → HasRoomTo change b
 HasRoomFor _ r = Unit {0}

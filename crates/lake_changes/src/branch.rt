@@ -1,7 +1,7 @@
 //! What is done to a branch that stays, and the room that is made for it.
 ghost use Rattle.std.specs.Prelude.{◌≡◌, OnOk};
 ghost use Rattle.lake_state.specs.Branches.{branch_value, new_branch};
-ghost use Rattle.lake_changes.specs.BranchChanges.{HasRoom, FitsBranch, branch_after};
+ghost use Rattle.lake_changes.specs.BranchChanges.{HasRoom, HasRoomTo, FitsBranch, branch_after};
 
 use branch_record::{BranchRecord, Tokens};
 use lake_base::{NoMemory, Path};
@@ -18,6 +18,8 @@ pub enum BranchChange {
     Reset { what: ResetWhat, version: u64 },
     /// The staged changes are sealed, with this fresh token in their place, and the branch has this version.
     Seal { fresh: u64, version: u64 },
+    /// The branch has a new head and this version: nothing is sealed, and the staged changes stay.
+    Head { commit: CommitId, version: u64 },
 }
 
 /// A branch without changes. It takes no memory.
@@ -38,9 +40,10 @@ pub fn make_room(branch: &mut BranchState) -> Result<(), NoMemory>
     branch.record.ready(&mut branch.tokens)
 }
 
-/// Makes a change of a branch, for which there is room. It needs no memory, and can't be refused.
+/// Makes a change of a branch, for which there is room; a new head needs none. It needs no memory, and can't be
+/// refused.
 pub fn change_branch(branch: &mut BranchState, change: BranchChange)
-    requires room { HasRoom branch.old }
+    requires room { HasRoomTo change branch.old }
     requires possible { FitsBranch change (branch_value branch.old) }
     ensures { branch_value branch.new ≡ branch_after change (branch_value branch.old) }
 {
@@ -54,6 +57,11 @@ pub fn change_branch(branch: &mut BranchState, change: BranchChange)
         }
         BranchChange::Seal { fresh, version } => {
             let _ = branch.record.seal(&branch.tokens, fresh);
+            branch.record.set_version(version);
+        }
+        BranchChange::Head { commit, version } => {
+            branch.record.drop_sealed(&mut branch.tokens);
+            branch.record.set_head(commit);
             branch.record.set_version(version);
         }
     }

@@ -14,7 +14,7 @@ ghost use Rattle.lake_state.specs.Lakes.{lake_value, tickets_of};
 ghost use Rattle.lake_changes.specs.RepositoryChanges.{HasRoomFor, HasRoomIn, FitsRepository, repository_after};
 ghost use Rattle.lake_changes.specs.FreshTokens.{AreTokensBelow};
 ghost use Rattle.lake_changes.specs.LakeRoom.{HasRoomAt, HasTicketRoom};
-ghost use Rattle.lake_changes.specs.LakeChanges.{after_branch_create, after_branch_delete, after_copy, after_fault, after_note_set, after_reset, after_seal, after_stage, after_tag_create, after_tag_delete, after_ticket_drop, after_ticket_take};
+ghost use Rattle.lake_changes.specs.LakeChanges.{after_branch_create, after_branch_delete, after_copy, after_fault, after_head, after_note_set, after_reset, after_seal, after_stage, after_tag_create, after_tag_delete, after_ticket_drop, after_ticket_take};
 
 use crate::branch::{BranchChange, branch_at};
 use crate::repository::{RepositoryChange, Room, change_repository, make_room_in};
@@ -213,6 +213,29 @@ pub fn seal(lake: &mut LakeState, repo: &RepoName, branch: &RefName)
     );
     lake.next_version += 1;
     lake.next_token += 1;
+    lake.entries += 1;
+}
+
+/// A branch has a new head: nothing is sealed, and the staged changes stay. It takes no memory.
+#[tactic(auto, unfolding(lake_state::specs::Lakes::lake_value))]
+pub fn set_head(lake: &mut LakeState, repo: &RepoName, branch: &RefName, commit: CommitId)
+    requires { AreFew (lake_value lake.old) }
+    ensures { lake_value lake.new ≡ after_head repo.now branch.now commit (lake_value lake.old) }
+{
+    let change = BranchChange::Head {
+        commit,
+        version: lake.next_version,
+    };
+    change_at(
+        &mut lake.repositories,
+        repo,
+        RepositoryChange::InBranch {
+            name: branch,
+            change,
+        },
+    );
+    lake.next_version += 1;
+    lake.references += 1;
     lake.entries += 1;
 }
 

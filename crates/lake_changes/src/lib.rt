@@ -13,7 +13,7 @@ pub mod branch;
 pub mod founding;
 pub mod lake;
 mod laws;
-mod places;
+pub mod places;
 pub mod repository;
 #[cfg(test)]
 mod tests;

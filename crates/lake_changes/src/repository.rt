@@ -7,7 +7,7 @@ ghost use Rattle.lake_model.specs.Parts.{changed_at};
 ghost use Rattle.lake_state.specs.declared.branch.BranchState.{BranchState as AnyBranch};
 ghost use Rattle.lake_state.specs.Branches.{BranchStateValue, branch_value};
 ghost use Rattle.lake_state.specs.Repositories.{repository_value};
-ghost use Rattle.lake_changes.specs.BranchChanges.{HasRoom, FitsBranch, branch_after};
+ghost use Rattle.lake_changes.specs.BranchChanges.{HasRoom, HasRoomTo, FitsBranch, branch_after};
 ghost use Rattle.lake_changes.specs.RepositoryChanges.{HasRoomFor, HasRoomIn, FitsRepository, repository_after};
 
 use crate::branch::{BranchChange, change_branch, make_room};
@@ -163,7 +163,7 @@ fn change_branch_at(
     name: &RefName,
     change: BranchChange,
 )
-    requires room { (b : AnyBranch) → get branches.old name.now ≡ Some (Some b) → HasRoom b }
+    requires room { (b : AnyBranch) → get branches.old name.now ≡ Some (Some b) → HasRoomTo change b }
     requires possible { (b : BranchStateValue)
         → get (some_values (option_map branch_value) branches.old) name.now ≡ Some b → FitsBranch change b }
     ensures { some_values (option_map branch_value) branches.new
@@ -176,7 +176,7 @@ fn change_branch_at(
 
 // Changes the branch in a place, where one is there.
 fn change_branch_here(place: &mut Option<BranchState>, change: BranchChange)
-    requires room { IfSome place.old HasRoom }
+    requires room { IfSome place.old (HasRoomTo change) }
     requires possible { IfSome place.old (λ b. FitsBranch change (branch_value b)) }
     ensures { option_map branch_value place.new
         ≡ option_map (branch_after change) (option_map branch_value place.old) }

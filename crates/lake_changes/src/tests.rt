@@ -41,6 +41,7 @@ enum Step {
     CreateTag,
     DeleteTag,
     DeleteNote,
+    SetHead,
     Stop,
 }
 
@@ -204,6 +205,7 @@ fn change(alloc: Global, lake: &mut LakeState, names: &Names, step: Step) -> Res
         Step::DeleteBranch => lake::delete_branch(lake, &names.repo, &names.other),
         Step::DeleteTag => lake::delete_tag(lake, &names.repo, &names.other),
         Step::DeleteNote => lake::set_note(lake, &names.repo, NoteName::Hooks, None),
+        Step::SetHead => lake::set_head(lake, &names.repo, &names.branch, FILE),
         Step::Stop => lake::stop(lake),
     }
     Ok(())
@@ -237,7 +239,7 @@ fn read(lake: &LakeState, names: &Names) -> Option<[u64; 5]> {
 }
 
 // Each step, with the counts and with what is read after it. Before the first an entry was staged and sealed.
-const STEPS: [(Step, [u64; 6], [u64; 5]); 12] = [
+const STEPS: [(Step, [u64; 6], [u64; 5]); 13] = [
     (Step::Reset, [3, 0, 1, 4, 12, 0], [3, 1, 0, 0, 0]),
     (Step::TakeTicket, [4, 0, 2, 4, 12, 1], [3, 1, 0, 0, 0]),
     (Step::Stage, [5, 0, 2, 4, 12, 0], [3, 1, 1, 0, 0]),
@@ -249,7 +251,8 @@ const STEPS: [(Step, [u64; 6], [u64; 5]); 12] = [
     (Step::DeleteBranch, [11, 3, 3, 5, 13, 0], [3, 1, 1, 0, 1]),
     (Step::DeleteTag, [12, 4, 3, 5, 13, 0], [3, 1, 1, 0, 0]),
     (Step::DeleteNote, [13, 5, 3, 6, 13, 0], [3, 1, 1, 0, 0]),
-    (Step::Stop, [14, 5, 3, 6, 13, 0], [3, 1, 1, 0, 0]),
+    (Step::SetHead, [14, 6, 3, 7, 13, 0], [6, 0, 1, 0, 0]),
+    (Step::Stop, [15, 6, 3, 7, 13, 0], [6, 0, 1, 0, 0]),
 ];
 
 #[test]

@@ -16,7 +16,8 @@ use Rattle.lake_state.specs.Lakes.{LakeStateValue}
 use Rattle.lake_changes.specs.FreshTokens.{AreTokensBelow, HasTokensBelow}
 use Rattle.lake_changes.proofs.ChangedLemmas.{all_inserted, none_inserted, same_there}
 use Rattle.lake_changes.proofs.CountLemmas.{AreVersionsOf, HasVersionsIn, branch_begins, lake_versions, version_elsewhere}
-use Rattle.lake_heads.specs.NewHeads.{NewCommit, after_new_head, with_new_head}
+use Rattle.lake_state.specs.NewHeads.{NewCommit, with_new_head}
+use Rattle.lake_changes.specs.LakeChanges.{after_new_head}
 use Rattle.lake_heads.proofs.KindLemmas.{with_head_version}
 use Rattle.lake_heads.proofs.PlaceLemmas.{Place, lake_now, repository_now}
 

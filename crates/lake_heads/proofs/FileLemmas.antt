@@ -12,7 +12,7 @@ use Rattle.lake_format.specs.Spelling.{file_name}
 use Rattle.byte_map.proofs.ByteMapLemmas.{get_insert}
 use Rattle.lake_model.specs.Commits.{StandsBefore}
 use Rattle.lake_changes.proofs.ChangedLemmas.{all_inserted}
-use Rattle.lake_heads.specs.NewHeads.{with_files}
+use Rattle.lake_state.specs.NewHeads.{with_files}
 
 -- ---- files of one name in a list
 

@@ -20,7 +20,7 @@ use Rattle.lake_state.specs.Repositories.{RepositoryStateValue, repository_of}
 use Rattle.lake_state.specs.Lakes.{LakeStateValue, state_of}
 use Rattle.lake_changes.proofs.ChangedLemmas.{all_inserted, same_there}
 use Rattle.lake_changes.proofs.IndexLemmas.{AreKeptIn, in_state, made_of, of_state}
-use Rattle.lake_heads.specs.NewHeads.{NewCommit}
+use Rattle.lake_state.specs.NewHeads.{NewCommit}
 use Rattle.lake_heads.proofs.FileLemmas.{each_found, new_found, old_found, same_file}
 use Rattle.lake_heads.proofs.KeptLemmas.{commit_now, commit_stays, file_kept, map_now, same_id, still_kept}
 use Rattle.lake_heads.proofs.PlaceLemmas.{IsNewIn, Place, lake_now, repository_now}

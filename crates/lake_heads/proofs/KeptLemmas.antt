@@ -19,7 +19,7 @@ use Rattle.lake_state.specs.Repositories.{RepositoryStateValue, repository_of}
 use Rattle.lake_state.specs.Lakes.{LakeStateValue}
 use Rattle.lake_changes.proofs.ChangedLemmas.{same_there}
 use Rattle.lake_changes.proofs.IndexLemmas.{AreKeptIn}
-use Rattle.lake_heads.specs.NewHeads.{NewCommit}
+use Rattle.lake_state.specs.NewHeads.{NewCommit}
 use Rattle.lake_heads.proofs.PlaceLemmas.{IsNewIn, Place, lake_now, repository_now}
 
 -- ids of the same bytes are the same

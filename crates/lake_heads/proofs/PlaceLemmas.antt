@@ -5,20 +5,22 @@ use Rattle.std.specs.Option.{option_map_or}
 use Rattle.std.specs.FinMap.{get, insert}
 use Rattle.std.specs.List.{Contains}
 use Rattle.lake_base.specs.Maps.{ByteMap}
-use Rattle.lake_values.specs.Ancestry.{commit_of}
+use Rattle.lake_values.specs.Ancestry.{Graph, commit_of}
 use Rattle.lake_values.specs.Commit.{CommitRecordValue}
 use Rattle.lake_format.specs.Cutting.{files}
 use Rattle.lake_format.specs.Spelling.{commit_id, commit_spelling, file_name}
+use Rattle.lake_format.specs.declared.cut.Cut.{Cut}
 use Rattle.byte_map.proofs.ValuesLemmas.{get_map_values}
 use Rattle.lake_model.specs.State.{Branch, Repository, HasBranch, map_of}
-use Rattle.lake_model.specs.Commits.{AreKept, Draft, IsAdmissible, StandsBefore}
+use Rattle.lake_model.specs.Commits.{AreKept, Draft, IsAdmissible, StandsBefore, record_of}
 use Rattle.lake_model.specs.Parts.{changed_at}
 use Rattle.lake_state.specs.Branches.{BranchStateValue, branch_of}
 use Rattle.lake_state.specs.Repositories.{RepositoryStateValue, repository_of}
 use Rattle.lake_state.specs.Lakes.{LakeStateValue, state_of}
 use Rattle.lake_changes.specs.LakeChanges.{with_entry, with_references, with_version}
 use Rattle.lake_changes.proofs.IndexLemmas.{made_of}
-use Rattle.lake_heads.specs.NewHeads.{IsCommitOf, NewCommit, after_new_head, with_names, with_new_commit, with_new_head}
+use Rattle.lake_state.specs.NewHeads.{NewCommit, drafted, with_names, with_new_commit, with_new_head}
+use Rattle.lake_changes.specs.LakeChanges.{after_new_head}
 
 -- ---- the branch
 
@@ -60,6 +62,21 @@ pub record IsNewIn (l : LakeStateValue) (r : RepositoryStateValue) (new : NewCom
   pub apart : (one kept : List ℕ) → Contains (commit_spelling new.content ∷ new.tree.files) one → AreKept (state_of l) kept
       → file_name one ≡ file_name kept → one ≡ kept
   pub files_apart : (one kept : List ℕ) → StandsBefore new.tree.files kept one → file_name one ≡ file_name kept → one ≡ kept
+
+-- a commit is that of a draft, part by part
+pub record IsCommitOf (cut : Cut) (graph : Graph) (draft : Draft) (new : NewCommit) : Type 0 where
+  pub content : new.content ≡ record_of cut graph draft
+  pub id : new.id ≡ commit_id (record_of cut graph draft)
+  pub map : new.tree.map ≡ draft.objects
+  pub files : new.tree.files ≡ files cut draft.objects
+
+pub by_parts : (cut : Cut) (graph : Graph) (draft : Draft) (new : NewCommit) → new ≡ drafted cut graph draft → IsCommitOf cut graph draft new
+by_parts cut graph draft new is = record {
+  content = ap (λ (n : NewCommit). n.content) is;
+  id = ap (λ (n : NewCommit). n.id) is;
+  map = ap (λ (n : NewCommit). n.tree.map) is;
+  files = ap (λ (n : NewCommit). n.tree.files) is;
+}
 
 -- the commit of an admissible draft is one
 pub new_in : (l : LakeStateValue) (r : RepositoryStateValue) (draft : Draft) (new : NewCommit) → IsCommitOf l.cut r.commits draft new

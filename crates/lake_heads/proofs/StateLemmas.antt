@@ -17,8 +17,9 @@ use Rattle.lake_state.specs.Branches.{BranchStateValue, branch_of, tokens_of}
 use Rattle.lake_state.specs.Repositories.{repository_of}
 use Rattle.lake_state.specs.Lakes.{LakeStateValue, state_of}
 use Rattle.lake_changes.proofs.StateLemmas.{with_one_more}
-use Rattle.lake_heads.specs.NewHeads.{IsCommitOf, NewCommit, after_new_head, with_new_head}
-use Rattle.lake_heads.proofs.PlaceLemmas.{Place, branch_there, changed_there, repositories_are, repository_now, repository_there}
+use Rattle.lake_state.specs.NewHeads.{NewCommit, with_new_head}
+use Rattle.lake_changes.specs.LakeChanges.{after_new_head}
+use Rattle.lake_heads.proofs.PlaceLemmas.{IsCommitOf, Place, branch_there, changed_there, repositories_are, repository_now, repository_there}
 
 -- The branch has the head, and nothing is sealed. What is staged stays, since its token is none of the sealed ones.
 head_seen : (version : ℕ) (id : Digest) (b : BranchStateValue) → AreDistinct (tokens_of b)

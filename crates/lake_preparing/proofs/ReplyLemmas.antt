@@ -42,10 +42,6 @@ module _ {X : Type 0} where
   gives_same (Err NoMemory) reply is = tt
   gives_same answer reply is = is
 
-  -- out of memory
-  pub gives_no_memory : (fault : StepFault) (reply : Result X StepFault) → fault ≡ NoMemory → Gives (Err fault) reply
-  gives_no_memory fault reply is = subst (λ f. Gives (Err f) reply) (sym is) tt
-
   -- what isn't refused is answered, and what is refused is refused with the same fault
   pub accepted : (refusal : Option StepFault) (answer : X) → Ok tt ≡ unless_refused refusal (tt {0}) → Ok answer ≡ unless_refused refusal answer
   accepted None answer is = refl

@@ -34,7 +34,7 @@ use Rattle.lake_model.specs.Soundness.{IsSound, IsSoundRepository}
 use Rattle.lake_model.specs.State.{Branch, Repository, HasLiveCommit, map_of}
 use Rattle.lake_model.specs.Uncommitted.{put_number}
 use Rattle.lake_state.specs.Branches.{BranchStateValue, branch_of}
-use Rattle.lake_state.specs.FilePlaces.{file_at}
+use Rattle.meta_range.specs.Files.{file_at}
 use Rattle.lake_state.specs.Founding.{first_tree}
 use Rattle.lake_state.specs.Index.{HasIndex, indexed_commit}
 use Rattle.lake_state.specs.Lakes.{LakeStateValue, state_of}
@@ -73,14 +73,6 @@ module _ {X : Type 0} where
       → (q : List ℕ) (y : X) → get m q ≡ Some y → P q y
   each_of_two P m k p x z both one other q y is =
       each_put P (insert empty k x) p z other q y (each_of_one P (insert empty k x) k x refl one q y) (ap (λ n. get n q) (sym both) ∙ is)
-
-  some_put : (o : Option X) (x : X) (b : Bool) → IsSome o → IsSome (cond b (Some x) o)
-  some_put o x true there = refl
-  some_put o x false there = there
-
-  -- what stood under a key is there
-  still_there : (m : ByteMap X) (k q : List ℕ) (x : X) → IsSome (get m q) → IsSome (get (insert m k x) q)
-  still_there m k q x there = ap is_some (get_insert m k x q) ∙ some_put (get m q) x (bytes_eq q k) there
 
 -- one value under two keys, of which the other map has others under them
 module _ {X Y : Type 0} (y : Y) where

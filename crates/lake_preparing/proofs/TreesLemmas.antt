@@ -87,13 +87,6 @@ module _ (r : RepositoryStateValue) where
     ranges = λ file has. record { id = id; tree = tree; there = there; within = behind tree.files file has };
   }
 
-  -- a tree without ranges is one of its map
-  pub tree_of_none : (tree : TreeValue) (objects : KeyMapValue) → tree.map ≡ objects → drop 1 tree.files ≡ [] → IsTreeOf r objects tree
-  tree_of_none tree objects map none = record {
-    map = map;
-    ranges = λ file has. absurd (let within = subst (λ all. Contains all file) none has in omega (arith, within.1));
-  }
-
   -- three trees with such range files agree
   pub agree : HasTrees r → (base source dest : TreeValue) → HasRanges r base → HasRanges r source → HasRanges r dest
       → Agree (record { base = base; source = source; dest = dest })

@@ -1,7 +1,14 @@
--- Files by their places.
-use Rattle.std.specs.Prelude.{ℕ, List, [], slice_get}
-use Rattle.std.specs.Option.{unwrap_or}
+-- Files that are kept in trees.
+use Rattle.std.specs.Prelude.{ℕ, Bool, List, refl}
+use Rattle.std.specs.Coded.{Coded, code_by, coded×, coded_bool, coded_list, coded_ℕ}
 
--- the file at a place; past the last one, no bytes
-abbrev pub file_at : List (List ℕ) → ℕ → List ℕ
-file_at files place = unwrap_or (slice_get files place) []
+-- a file that is kept: its bytes, and whether it is kept as a metarange, and not as a range
+pub record FilePlaceValue : Type 0 where
+  pub bytes : List ℕ
+  pub is_metarange : Bool
+
+-- it is stored as its fields
+abbrev pub file_place_code : Coded FilePlaceValue
+file_place_code =
+    code_by (List ℕ × Bool) (coded× (coded_list coded_ℕ) coded_bool) (λ p. (p.bytes, p.is_metarange))
+    (λ p. record { bytes = p.0; is_metarange = p.1 }) (λ _. refl)

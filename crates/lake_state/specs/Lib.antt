@@ -5,4 +5,5 @@ pub mod Founding
 pub mod Index
 pub mod Lakes
 pub mod Names
+pub mod NewHeads
 pub mod Repositories

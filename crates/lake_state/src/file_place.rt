@@ -1,6 +1,7 @@
 //! Where a file is kept.
-ghost use Rattle.std.specs.Prelude.{◌≡◌, ◌<◌, length, IfOk};
-ghost use Rattle.lake_state.specs.FilePlaces.{file_at};
+ghost use Rattle.std.specs.Prelude.{◌≡◌, ◌<◌, ◌==◌, length, IfOk};
+ghost use Rattle.std.specs.Str.{bytes_eq};
+ghost use Rattle.meta_range.specs.Files.{file_at};
 
 use lake_base::{NoMemory, Sequence};
 use meta_range::Tree;
@@ -9,7 +10,7 @@ use std::marker::Model;
 use std::sync::Arc;
 
 /// Where a file is kept: in a tree, at a place of its files, of which the metarange is the one at 0 and the ranges come
-/// then, in order. Contracts see the bytes of the file.
+/// then, in order. Contracts see the bytes of the file, and whether it is kept as a metarange or as a range.
 #[derive(Debug, Drop)]
 pub struct FilePlace {
     tree: Arc<Tree, Global>,
@@ -17,15 +18,15 @@ pub struct FilePlace {
 }
 
 impl Model for FilePlace {
-    ghost use Rattle.std.specs.Prelude.{ℕ, List, ◌<◌, length};
-    ghost use Rattle.std.specs.Coded.{coded_list, coded_ℕ};
-    ghost use Rattle.lake_state.specs.FilePlaces.{file_at};
+    ghost use Rattle.std.specs.Prelude.{◌<◌, ◌==◌, length};
+    ghost use Rattle.meta_range.specs.Files.{file_at};
+    ghost use Rattle.lake_state.specs.FilePlaces.{FilePlaceValue, file_place_code};
 
-    ghost Value = { List ℕ };
+    ghost Value = { FilePlaceValue };
 
-    ghost coded = { coded_list coded_ℕ };
+    ghost coded = { file_place_code };
 
-    ghost view = { λ p. file_at p.tree.value.files p.place };
+    ghost view = { λ p. record { bytes = file_at p.tree.value.files p.place; is_metarange = p.place == 0 } };
 
     ghost invariant = { λ p. p.place < length p.tree.value.files };
 }
@@ -34,17 +35,32 @@ impl FilePlace {
     /// The file at a place of a tree that has so many. It takes no memory.
     pub fn of(tree: Arc<Tree, Global>, place: usize) -> FilePlace
         requires { place < length tree.value.files }
-        ensures { result ≡ file_at tree.value.files place }
+        ensures { result ≡ record { bytes = file_at tree.value.files place; is_metarange = place == 0 } }
     {
         FilePlace { tree, place }
     }
 
-    /// The bytes of the file. It writes all files of the tree, of which it is one.
-    pub fn bytes(&self, alloc: Global) -> Result<Sequence<u8>, NoMemory>
-        ensures { IfOk result (λ bytes. bytes ≡ self.now) }
+    /// Whether it is kept as a metarange, and not as a range. It takes no memory.
+    pub fn is_metarange(&self) -> bool
+        ensures { result ≡ self.now.is_metarange }
     {
-        let mut files = self.tree.files(alloc)?;
-        let file = files.swap_remove(self.place);
+        self.place == 0
+    }
+
+    /// The bytes of the file. No other file of the tree is written.
+    pub fn bytes(&self, alloc: Global) -> Result<Sequence<u8>, NoMemory>
+        ensures { IfOk result (λ bytes. bytes ≡ self.now.bytes) }
+    {
+        let file = self.tree.file(alloc, self.place)?;
         Ok(file.bytes)
+    }
+
+    /// Whether it has the bytes of the file at a place of a tree. Of two ranges the rows are compared, and nothing is
+    /// written.
+    pub fn has_file_of(&self, alloc: Global, tree: &Tree, place: usize) -> Result<bool, NoMemory>
+        requires { place < length tree.now.files }
+        ensures { IfOk result (λ same. same ≡ bytes_eq self.now.bytes (file_at tree.now.files place)) }
+    {
+        self.tree.has_file_of(alloc, self.place, tree, place)
     }
 }

@@ -75,7 +75,8 @@ impl LakeState {
 
     /// Where the file of a name is kept, by a search. It takes no memory.
     pub fn file(&self, name: &Digest) -> Option<&FilePlace>
-        ensures { option_copied result ≡ get (lake_value self.now).names.files name.now.0 }
+        ensures { option_map (λ place. place.bytes) (option_copied result)
+            ≡ get (lake_value self.now).names.files name.now.0 }
     {
         match self.names.files.get(name) {
             Some(place) => place.as_ref(),

@@ -1,8 +1,8 @@
-use Rattle.std.proofs.Common.{◌∙◌, ap, sym}
+use Rattle.std.proofs.Common.{◌∙◌, ap, sym, subst}
 use Rattle.branch_record.specs.Record.{BranchRecordValue}
 use Rattle.lake_state.specs.Branches.{branch_value}
 use Rattle.lake_changes.specs.declared.branch.BranchChange.{BranchChange}
-use Rattle.lake_changes.specs.BranchChanges.{branch_after}
+use Rattle.lake_changes.specs.BranchChanges.{HasRoomTo, branch_after}
 use Rattle.lake_changes.proofs.SealLemmas.{sealed_branch, where_ok}
 use Rattle.lake_changes.proofs.branch.change_branch.Goals as goal
 
@@ -10,7 +10,8 @@ pub returns-in-Seal : goal.returns-in-Seal
 returns-in-Seal c =
     let b = c.args.branch.now in
     let version = c.in-Seal.version in
-    let sealed = where_ok c.seal.result (c.seal.ensures.room c.requires.room.sealed) c.seal.ensures.branch in
+    let room = subst (λ change. HasRoomTo change b) c.in-Seal.is c.requires.room in
+    let sealed = where_ok c.seal.result (c.seal.ensures.room room.sealed) c.seal.ensures.branch in
     ap (λ (r : BranchRecordValue). branch_value (record { «record» = r; tokens = b.tokens }))
     (c.set_version-in-Seal.ensures ∙ ap (λ (r : BranchRecordValue). record r { version = version }) sealed)
     ∙ sealed_branch b c.in-Seal.fresh version c.seal.new.self.spare

@@ -6,6 +6,7 @@ use Rattle.lake_format.specs.Cutting.{files}
 use Rattle.meta_range.specs.Ranges.{first_file}
 use Rattle.byte_map.specs.Values.{some_values}
 use Rattle.byte_map.proofs.ValuesLemmas.{some_values_insert}
+use Rattle.lake_state.specs.Names.{bytes_in}
 use Rattle.lake_state.specs.Repositories.{repository_value}
 use Rattle.lake_state.specs.Lakes.{lake_value}
 use Rattle.lake_changes.specs.LakeChanges.{after_repository_create}
@@ -28,7 +29,7 @@ returns c branch date is =
     ∙ ap (λ (id : Digest). insert (lake_value l).names.homes id.0 repo) is.commit in
     let first = first_file (files l.cut empty) in
     let places =
-    ap (some_values (λ place. place)) c.put_in_place-3.ensures
-    ∙ some_values_insert (λ place. place) l.names.files new.file.0 (Some new.place) first (ap Some is.place)
+    ap (some_values bytes_in) c.put_in_place-3.ensures
+    ∙ some_values_insert bytes_in l.names.files new.file.0 (Some new.place) first (ap Some is.place)
     ∙ ap (λ (name : Digest). insert (lake_value l).names.files name.0 first) is.file in
     λ i. record after { repositories = repositories i; names = record { homes = homes i; files = places i } }

@@ -1,3 +1,4 @@
+use Rattle.lake_state.specs.FilePlaces.{FilePlaceValue}
 use Rattle.lake_state.specs.Repositories.{repository_value}
 use Rattle.lake_state.specs.Lakes.{lake_value}
 use Rattle.lake_changes.proofs.PlacesLemmas.{same_values}
@@ -22,7 +23,8 @@ unfolding lake_value
 returns-clause-same c =
     let l = lake_value c.args.lake.now in
     let repositories = same_values repository_value c.args.lake.now.repositories c.make_place.new.places c.make_place.ensures.same in
+    let places = same_values {X = FilePlaceValue} (λ p. p.bytes) c.args.lake.now.names.files c.make_place-3.new.places c.make_place-3.ensures.same in
     λ i. record l {
       repositories = repositories i;
-      names = record { homes = c.make_place-2.ensures.same i; files = c.make_place-3.ensures.same i };
+      names = record { homes = c.make_place-2.ensures.same i; files = places i };
     }

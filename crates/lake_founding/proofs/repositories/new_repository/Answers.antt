@@ -1,8 +1,9 @@
 use Rattle.std.proofs.Common.{◌<◌, length, ap, sym, subst, ◌∙◌}
 use Rattle.lake_format.specs.Cutting.{files}
+use Rattle.meta_range.specs.Files.{file_at}
 use Rattle.meta_range.specs.Ranges.{TreeValue}
 use Rattle.lake_changes.proofs.FoundingLemmas.{file_named, one_file}
-use Rattle.lake_state.specs.FilePlaces.{file_at}
+use Rattle.lake_state.specs.FilePlaces.{FilePlaceValue}
 use Rattle.lake_state.specs.Lakes.{lake_value}
 use Rattle.lake_founding.proofs.FoundingLemmas.{has_file, is_first_commit}
 use Rattle.lake_founding.proofs.repositories.new_repository.Goals as goal
@@ -21,6 +22,6 @@ returns c =
       commit = is.name;
       home = c.in_ok-home.ensures.equal;
       file = ap (λ file. file.name) c.requires.metarange ∙ file_named cut;
-      place = c.of-place.ensures ∙ ap (λ (t : TreeValue). file_at t.files 0) (c.in_ok-clone.ensures.cases ∙ c.requires.tree)
+      place = ap (λ (p : FilePlaceValue). p.bytes) c.of-place.ensures ∙ ap (λ (t : TreeValue). file_at t.files 0) (c.in_ok-clone.ensures.cases ∙ c.requires.tree)
           ∙ ap (λ all. file_at all 0) (one_file cut);
     }

@@ -10,11 +10,11 @@ use Rattle.lake_changes.specs.FreshTokens.{AreTokensBelow}
 use Rattle.lake_standing.specs.Standing.{versions_since}
 use Rattle.lake_standing.proofs.MakingLemmas.{may_make}
 use Rattle.lake_standing.proofs.PresentLemmas.{present_sound}
-use Rattle.lake_heads.specs.NewHeads.{after_new_head}
+use Rattle.lake_changes.specs.LakeChanges.{after_new_head}
 use Rattle.lake_heads.proofs.CountLemmas.{counts_stay, tokens_stay, versions_rise}
 use Rattle.lake_heads.proofs.IndexLemmas.{index_has}
 use Rattle.lake_heads.proofs.KindLemmas.{kind_asks, kind_changes, kind_counts}
-use Rattle.lake_heads.proofs.PlaceLemmas.{branch_there, lake_is, new_in, place_of, repository_there}
+use Rattle.lake_heads.proofs.PlaceLemmas.{branch_there, by_parts, lake_is, new_in, place_of, repository_there}
 use Rattle.lake_heads.proofs.StateLemmas.{new_head_seen}
 use Rattle.lake_heads.proofs.heads.law_of_new_heads.Goals as goal
 
@@ -26,8 +26,8 @@ returns c opened history l by repo branch version settings swap about new stands
     let at = place_of l repo branch (λ r b. MayBecomeHead (state_of l) branch r b (draft r b))
     (kind_asks by repo branch about (state_of l) swap allowed) in
     let place = at.0 in
-    let of = commit (repository_of place.r) (branch_of place.b)
-    (repository_there l repo branch place) (branch_there l repo branch place) in
+    let of = by_parts l.cut place.r.commits (draft (repository_of place.r) (branch_of place.b)) new
+    (commit (repository_of place.r) (branch_of place.b) (repository_there l repo branch place) (branch_there l repo branch place)) in
     let fresh = new_in l place.r (draft (repository_of place.r) (branch_of place.b)) new of at.1.admissible in
     let sound = present_sound c.law_of_soundness.ensures.replay opened history l stands in
     let is = sym (lake_is l repo branch place new) in

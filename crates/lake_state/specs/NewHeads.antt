@@ -1,4 +1,4 @@
--- What a new head of a branch makes of a lake in memory.
+-- A new commit in memory, which becomes the head of a branch, with its names.
 use Rattle.std.specs.Prelude.{◌≡◌, ℕ, List, [], ◌∷◌}
 use Rattle.std.specs.FinMap.{empty, insert}
 use Rattle.lake_base.specs.Maps.{ByteMap}
@@ -15,8 +15,6 @@ use Rattle.lake_model.specs.Parts.{changed_at}
 use Rattle.lake_state.specs.Branches.{BranchStateValue}
 use Rattle.lake_state.specs.Names.{NameIndexValue}
 use Rattle.lake_state.specs.Repositories.{RepositoryStateValue}
-use Rattle.lake_state.specs.Lakes.{LakeStateValue}
-use Rattle.lake_changes.specs.LakeChanges.{in_repository, with_entry, with_references, with_version}
 
 -- a new commit: its id, what it says, and its tree
 pub record NewCommit : Type 0 where
@@ -24,12 +22,20 @@ pub record NewCommit : Type 0 where
   pub content : CommitRecordValue
   pub tree : TreeValue
 
--- it is the commit of a draft: its tree is that of the draft's map, with the files that the cut gives
-pub record IsCommitOf (cut : Cut) (graph : Graph) (draft : Draft) (new : NewCommit) : Type 0 where
-  pub content : new.content ≡ record_of cut graph draft
-  pub id : new.id ≡ commit_id (record_of cut graph draft)
-  pub map : new.tree.map ≡ draft.objects
-  pub files : new.tree.files ≡ files cut draft.objects
+-- the commit of a draft: its tree is that of the draft's map, with the files that the cut gives
+abbrev pub drafted : Cut → Graph → Draft → NewCommit
+drafted cut graph draft = record {
+  id = commit_id (record_of cut graph draft);
+  content = record_of cut graph draft;
+  tree = record { map = draft.objects; files = files cut draft.objects };
+}
+
+-- a repository with a new commit
+abbrev pub with_commit : NewCommit → RepositoryStateValue → RepositoryStateValue
+with_commit new r = record r {
+  commits = insert r.commits new.id.0 new.content;
+  trees = insert r.trees new.id.0 new.tree;
+}
 
 -- a branch with a new head: it has a new version, nothing is sealed, and what stood under its sealed tokens is gone
 abbrev pub with_new_head : ℕ → Digest → BranchStateValue → BranchStateValue
@@ -38,11 +44,8 @@ with_new_head version id b =
 
 -- a repository with a new commit, which is the head of a branch
 abbrev pub with_new_commit : ℕ → List ℕ → NewCommit → RepositoryStateValue → RepositoryStateValue
-with_new_commit version branch new r = record r {
-  commits = insert r.commits new.id.0 new.content;
-  trees = insert r.trees new.id.0 new.tree;
-  branches = changed_at branch (with_new_head version new.id) r.branches;
-}
+with_new_commit version branch new r =
+    record (with_commit new r) { branches = changed_at branch (with_new_head version new.id) r.branches }
 
 -- files under their names
 abbrev pub with_files : List (List ℕ) → ByteMap (List ℕ) → ByteMap (List ℕ)
@@ -52,8 +55,3 @@ with_files (file ∷ files) kept = insert (with_files files kept) (file_name fil
 -- an index with the names of a new commit and of the files of its tree
 abbrev pub with_names : List ℕ → NewCommit → NameIndexValue → NameIndexValue
 with_names repo new i = record { homes = insert i.homes new.id.0 repo; files = with_files new.tree.files i.files }
-
--- a new commit becomes the head of a branch
-abbrev pub after_new_head : List ℕ → List ℕ → NewCommit → LakeStateValue → LakeStateValue
-after_new_head repo branch new l = with_entry (with_references (with_version
-    (record (in_repository repo (with_new_commit l.next_version branch new) l) { names = with_names repo new l.names })))
