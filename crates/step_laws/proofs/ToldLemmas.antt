@@ -8,6 +8,7 @@ use Rattle.std.specs.Str.{bytes_eq}
 use Rattle.lake_base.specs.declared.digest.Digest.{Digest}
 use Rattle.lake_values.specs.declared.settings.Note.{Note}
 use Rattle.lake_values.specs.declared.settings.NoteName.{NoteName}
+use Rattle.lake_format.specs.Spelling.{commit_id}
 use Rattle.commit_graph.specs.Expressions.{RefExprValue}
 use Rattle.lake_model.specs.declared.fault.StepFault.{StepFault}
 use Rattle.lake_model.specs.declared.fault.StepFault.TheVariants.{Stopped, HistoryFull, NoRepo, NoRef, NoParent, NoNote, Exists, DefaultBranch, Protected, Changed, NoPath, Expired, NameClash, StoreFault, NoMemory}
@@ -17,8 +18,8 @@ use Rattle.lake_model.specs.State.{Repository, State, branch_of, is_expired}
 use Rattle.lake_model.specs.Branches.{protected_by}
 use Rattle.lake_model.specs.NoteChanges.{note_at}
 use Rattle.lake_model.specs.Resolving.{expression_target, is_plain_branch, name_target}
-use Rattle.lake_model.specs.Refusals.{Causes, Clash, IsRefusal, first_of, first_cause, cause_if, causes_of_change, clash_fault, protection_of}
-use Rattle.lake_model.specs.Steps.{copied_entry, copy_causes, create_branch_causes, create_repository_causes, create_tag_causes, delete_branch_causes, delete_tag_causes, expired_fault, holds_in, in_it, is_expected, move_fault, seal_causes, set_note_causes, source_fault, stage_causes, target_in, write_causes}
+use Rattle.lake_model.specs.Refusals.{Causes, Clash, IsRefusal, first_of, first_cause, cause_if, causes_of_change, clash_fault, protection_of, with_branch, with_current_version}
+use Rattle.lake_model.specs.Steps.{SwapRule, copied_entry, copy_causes, create_branch_causes, create_repository_causes, create_tag_causes, delete_branch_causes, delete_tag_causes, expire_causes, expired_fault, holds_in, in_it, is_current, is_expected, move_fault, new_commit, seal_causes, set_note_causes, source_fault, stage_causes, swap_causes, swap_expired, target_in, write_causes}
 use Rattle.lake_model.specs.Versions.{VersionsGiven, branch_version, settings_version}
 
 -- a cause, where it holds, is a refusal
@@ -105,6 +106,13 @@ module _ (state : State) where
   pub change_refused : (fault : StepFault) → first_cause (causes_of_change state) ≡ Some fault → IsRefusal fault
   change_refused = refusal (causes_of_change state)
       (stopped, (full, (tt, (tt, (tt, (tt, (tt, (tt, (tt, (tt, (tt, (tt, (tt, tt)))))))))))))
+
+  pub expire_refused : (given : VersionsGiven) (version : ℕ) (fault : StepFault)
+      → first_cause (expire_causes state given version) ≡ Some fault → IsRefusal fault
+  expire_refused given version =
+      let old = if_told (not (version == given.references)) (Changed given.references 0) tt in
+      refusal (expire_causes state given version)
+      (stopped, (full, (tt, (tt, (tt, (tt, (tt, (tt, (tt, (old, (tt, (tt, (tt, tt)))))))))))))
 
   module _ (repo : List ℕ) where
     there : IsTold (cause_if (not (contains_key state.repositories repo)) NoRepo)
@@ -193,6 +201,42 @@ module _ (state : State) where
           ),
         ),
       )
+
+    -- a new head that is guarded by versions, where protection counts or not
+    module _ (given : VersionsGiven) (branch : List ℕ) (version settings : ℕ) where
+      old : IsTold (cause_if (not (is_current given repo branch version settings)) (Changed (branch_version given repo branch) (settings_version given repo)))
+      old =
+          if_told (not (is_current given repo branch version settings))
+          (Changed (branch_version given repo branch) (settings_version given repo)) tt
+
+      abbrev guard : Bool → Option StepFault → Option StepFault → Causes
+      guard protects expired clash = record
+          (with_current_version (is_current given repo branch version settings) (branch_version given repo branch) (settings_version given repo)
+          (if protects then write_causes state repo branch else with_branch state repo branch (causes_of_change state))) {
+            expired = expired;
+            clash = clash;
+          }
+
+      guard_told : (protects : Bool) (expired clash : Option StepFault) → IsTold expired → IsTold clash → AreTold (list_of (guard protects expired clash))
+      guard_told true expired clash is other =
+          (stopped, (full, (there, (found branch, (tt, (tt, (tt, (tt, (guarded branch, (old, (tt, (is, (other, tt)))))))))))))
+      guard_told false expired clash is other =
+          (stopped, (full, (there, (found branch, (tt, (tt, (tt, (tt, (tt, (old, (tt, (is, (other, tt)))))))))))))
+
+      head_told : (rule : SwapRule) → IsTold (swap_expired state repo branch rule)
+      head_told rule = in_there
+          (λ r. option_or (option_and_then (expired_fault r) rule.source)
+          (option_and_then (λ commit. expired_fault r (commit_id commit)) (new_commit state repo branch rule)))
+          (λ r. or_told (option_and_then (expired_fault r) rule.source)
+          (option_and_then (λ commit. expired_fault r (commit_id commit)) (new_commit state repo branch rule))
+          (then_told (expired_fault r) rule.source (expired_told r))
+          (then_told (λ commit. expired_fault r (commit_id commit)) (new_commit state repo branch rule) (λ commit. expired_told r (commit_id commit))))
+
+      pub swap_refused : (rule : SwapRule) (clash : Option Clash) (fault : StepFault)
+          → first_cause (swap_causes state given repo branch version settings rule clash) ≡ Some fault → IsRefusal fault
+      swap_refused rule clash =
+          refusal (guard rule.protects (swap_expired state repo branch rule) (clash_fault clash))
+          (guard_told rule.protects (swap_expired state repo branch rule) (clash_fault clash) (head_told rule) (clash_told clash))
 
     pub create_branch_refused : (name : List ℕ) (e : RefExprValue) (fault : StepFault)
         → first_cause (create_branch_causes state repo name e) ≡ Some fault → IsRefusal fault

@@ -7,7 +7,7 @@ ghost use Rattle.lake_model.specs.declared.fault.StepFault.{StepFault};
 ghost use Rattle.lake_model.specs.declared.history.SealFor.{SealFor};
 ghost use Rattle.lake_model.specs.State.{State};
 ghost use Rattle.lake_model.specs.Refusals.{Clash, IsRefusal, causes_of_change, first_cause};
-ghost use Rattle.lake_model.specs.Steps.{copy_causes, create_branch_causes, create_repository_causes, create_tag_causes, delete_branch_causes, delete_tag_causes, seal_causes, set_note_causes, stage_causes, write_causes};
+ghost use Rattle.lake_model.specs.Steps.{SwapRule, copy_causes, create_branch_causes, create_repository_causes, create_tag_causes, delete_branch_causes, delete_tag_causes, expire_causes, seal_causes, set_note_causes, stage_causes, swap_causes, write_causes};
 ghost use Rattle.lake_model.specs.Versions.{VersionsGiven};
 
 /// The first cause of a step is a refusal.
@@ -36,4 +36,9 @@ pub fn laws_of_causes()
         → first_cause (set_note_causes state given repo expected name note) ≡ Some fault → IsRefusal fault }
     ensures create_repository { (state : State) (repo : List ℕ) (clash : Option Clash) (fault : StepFault)
         → first_cause (create_repository_causes state repo clash) ≡ Some fault → IsRefusal fault }
+    ensures swap { (state : State) (given : VersionsGiven) (repo branch : List ℕ) (version settings : ℕ)
+        (rule : SwapRule) (clash : Option Clash) (fault : StepFault)
+        → first_cause (swap_causes state given repo branch version settings rule clash) ≡ Some fault → IsRefusal fault }
+    ensures expire { (state : State) (given : VersionsGiven) (version : ℕ) (fault : StepFault)
+        → first_cause (expire_causes state given version) ≡ Some fault → IsRefusal fault }
 {}

@@ -1,4 +1,4 @@
-use Rattle.step_laws.proofs.ToldLemmas.{change_refused, write_refused, stage_refused, copy_refused, seal_refused, create_branch_refused, delete_branch_refused, create_tag_refused, delete_tag_refused, set_note_refused, create_repository_refused}
+use Rattle.step_laws.proofs.ToldLemmas.{change_refused, write_refused, stage_refused, copy_refused, seal_refused, create_branch_refused, delete_branch_refused, create_tag_refused, delete_tag_refused, set_note_refused, create_repository_refused, expire_refused, swap_refused}
 use Rattle.step_laws.proofs.causes.laws_of_causes.Goals as goal
 
 pub returns : goal.returns
@@ -14,4 +14,6 @@ returns c = record {
   delete_tag = delete_tag_refused;
   set_note = λ state given repo. set_note_refused state repo given;
   create_repository = create_repository_refused;
+  swap = λ state given repo branch version settings. swap_refused state repo given branch version settings;
+  expire = expire_refused;
 }
