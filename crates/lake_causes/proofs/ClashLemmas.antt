@@ -1,11 +1,9 @@
 -- The clashes of new bytes with those that a lake in memory keeps are those that its index finds.
-use Rattle.std.proofs.Common.{◌≡◌, ℕ, Bool, true, false, cond, List, [], ◌∷◌, ◌⊎◌, inl, inr, refl, sym, ap, subst, ◌∙◌}
-use Rattle.std.proofs.lemmas.Slice.Eq.{bytes_eq-Decides}
-use Rattle.std.specs.Prelude.{Option, Some, None, is_some, option_and_then, option_map}
+use Rattle.std.proofs.Common.{◌≡◌, ℕ, List, [], ◌∷◌, ◌⊎◌, inl, inr, refl, sym, ap, subst, ◌∙◌}
+use Rattle.std.specs.Prelude.{Option, Some, None, is_some, option_and_then, option_map, Result}
 use Rattle.std.specs.FinMap.{get}
 use Rattle.std.specs.List.{Contains}
 use Rattle.std.specs.Option.{option_or}
-use Rattle.std.specs.Str.{bytes_eq}
 use Rattle.byte_map.proofs.ValuesLemmas.{get_map_values}
 use Rattle.lake_base.specs.declared.digest.Digest.{Digest}
 use Rattle.lake_values.specs.Ancestry.{commit_of}
@@ -13,54 +11,18 @@ use Rattle.lake_values.specs.Commit.{CommitRecordValue}
 use Rattle.lake_values.proofs.OrderLemmas.{Contains-first, Contains-later, Contains-nothing, first_or_later}
 use Rattle.lake_format.specs.Cutting.{files}
 use Rattle.lake_format.specs.Spelling.{commit_spelling, file_name}
+use Rattle.lake_model.specs.declared.fault.StepFault.{StepFault}
+use Rattle.lake_model.specs.declared.fault.StepFault.TheVariants.{NoMemory}
 use Rattle.lake_model.specs.State.{Repository, map_of}
-use Rattle.lake_model.specs.Commits.{AreKept, Draft, StandsBefore, bytes_of}
-use Rattle.lake_model.specs.Refusals.{Clash, IsClashOrNone}
+use Rattle.lake_model.specs.Commits.{AreKept, Draft, StandsBefore, bytes_of, record_of}
+use Rattle.lake_model.specs.Refusals.{Clash, IsClash, IsClashOrNone, clash_fault}
 use Rattle.lake_model.specs.Soundness.{IsSound}
 use Rattle.lake_state.specs.Index.{HasIndex, indexed_commit}
 use Rattle.lake_state.specs.Repositories.{RepositoryStateValue, repository_of}
 use Rattle.lake_state.specs.Lakes.{LakeStateValue, state_of}
-use Rattle.lake_causes.specs.Clashing.{indexed_clash, indexed_content, first_clash, other_content, other_than}
-
--- ---- what isn't these bytes
-
-module _ (new kept : List ℕ) where
-  either_other : (test : Bool) → bytes_eq kept new ≡ test → (got : List ℕ) → cond test None (Some kept) ≡ Some got
-      → (kept ≡ got) × (new ≡ got → ⊥)
-  either_other true is got found = absurd cc
-  either_other false is got found =
-      let same : kept ≡ got = cc in
-      (same, λ new_is. absurd (let equal : bytes_eq kept new ≡ true = (bytes_eq-Decides kept new).1 (same ∙ sym new_is) in cc))
-
-  either_same : (test : Bool) → bytes_eq kept new ≡ test → cond test None (Some kept) ≡ None → new ≡ kept
-  either_same true is none = sym ((bytes_eq-Decides kept new).0 is)
-  either_same false is none = absurd cc
-
--- other bytes were found
-other_some : (new : List ℕ) (o : Option (List ℕ)) (kept : List ℕ) → other_than new o ≡ Some kept
-    → (o ≡ Some kept) × (new ≡ kept → ⊥)
-other_some new None kept is = absurd cc
-other_some new (Some found) kept is =
-    let both = either_other new found (bytes_eq found new) refl kept is in (ap Some both.0, both.1)
-
--- no others were found than these
-other_none : (new : List ℕ) (o : Option (List ℕ)) (kept : List ℕ) → other_than new o ≡ None → o ≡ Some kept → new ≡ kept
-other_none new None kept none is = absurd cc
-other_none new (Some found) kept none is =
-    let same : found ≡ kept = cc in either_same new found (bytes_eq found new) refl none ∙ same
-
--- one of two, or neither
-or_some : {X : Type 0} (o p : Option X) (x : X) → option_or o p ≡ Some x → (o ≡ Some x) ⊎ (p ≡ Some x)
-or_some None p x is = inr is
-or_some (Some y) p x is = inl is
-
-or_none : {X : Type 0} (o p : Option X) → option_or o p ≡ None → (o ≡ None) × (p ≡ None)
-or_none None p is = (refl, is)
-or_none (Some y) p is = absurd cc
-
-mapped_none : {X Y : Type 0} (f : X → Y) (o : Option X) → option_map f o ≡ None → o ≡ None
-mapped_none f None is = refl
-mapped_none f (Some x) is = absurd cc
+use Rattle.lake_causes.specs.Clashing.{AsksForBytes, TellsOrFails, first_clash, first_twins, indexed_clash, indexed_content, other_content, other_than}
+use Rattle.lake_causes.proofs.FaultLemmas.{fault_none, fault_or, mapped_none, or_none, or_nothing, or_some, other_none, other_some}
+use Rattle.lake_causes.proofs.TwinLemmas.{AreTwinsOrNone, stands_within, twins_answer}
 
 -- ---- what is kept is found
 
@@ -180,24 +142,83 @@ module _ (l : LakeStateValue) (sound : IsSound (state_of l)) (index : HasIndex l
         | inr there ↦ first_none later both.1 new kept there are name
       ]
 
-  -- the first clash of a new commit whose map has no two files is one, or there is none
-  module _ (r : Repository) (draft : Draft) (news : List (List ℕ)) (bytes : bytes_of l.cut r.commits draft ≡ news)
-      (apart : (one other : List ℕ) → StandsBefore (files l.cut draft.objects) one other → ⊥) where
-    told : (o : Option Clash) → first_clash l news ≡ o → IsClashOrNone (state_of l) r draft o
-    told None none = λ clash bad. bad.apart (elim bad.is_kept [
+  -- the first clash of a new commit, or else the first of its map's own files, is one, or there is none
+  module _ (r : Repository) (draft : Draft) (news : List (List ℕ)) (bytes : bytes_of l.cut r.commits draft ≡ news) where
+    kept_clash : (clash : Clash) → IsClashOf l news clash → IsClash (state_of l) r draft clash
+    kept_clash clash k = record {
+      is_new = subst (λ b. Contains b clash.new) (sym bytes) k.is_new;
+      is_kept = inl k.kept.are;
+      name_of_new = k.name_of_new;
+      name_of_kept = k.kept.named;
+      apart = k.apart;
+    }
+
+    told : (o : Option Clash) → first_clash l news ≡ o → (p : Option Clash) → AreTwinsOrNone (files l.cut draft.objects) p
+        → IsClashOrNone (state_of l) r draft (option_or o p)
+    told (Some clash) is p twins = kept_clash clash (first_some news clash is)
+    told None none (Some clash) twins = record {
+      is_new = Contains-later (commit_spelling (record_of l.cut r.commits draft)) clash.new (files l.cut draft.objects)
+          (stands_within (files l.cut draft.objects) clash.kept clash.new twins.stands).1;
+      is_kept = inr twins.stands;
+      name_of_new = twins.name_of_new;
+      name_of_kept = twins.name_of_kept;
+      apart = twins.apart;
+    }
+    told None none None apart = λ clash bad. bad.apart (elim bad.is_kept [
       | inl kept ↦ first_none news none clash.new clash.kept (subst (λ b. Contains b clash.new) bytes bad.is_new) kept
           (sym bad.name_of_new ∙ bad.name_of_kept)
-      | inr stands ↦ absurd (apart clash.kept clash.new stands)
+      | inr stands ↦ apart clash.new clash.kept stands (sym bad.name_of_new ∙ bad.name_of_kept)
     ])
-    told (Some clash) is =
-        let k = first_some news clash is in
-        record {
-          is_new = subst (λ b. Contains b clash.new) (sym bytes) k.is_new;
-          is_kept = inl k.kept.are;
-          name_of_new = k.name_of_new;
-          name_of_kept = k.kept.named;
-          apart = k.apart;
-        }
 
-    pub first_answer : IsClashOrNone (state_of l) r draft (first_clash l news)
-    first_answer = told (first_clash l news) refl
+    pub any_answer : (twins : Option Clash) → AreTwinsOrNone (files l.cut draft.objects) twins
+        → IsClashOrNone (state_of l) r draft (option_or (first_clash l news) twins)
+    any_answer twins are = told (first_clash l news) refl twins are
+
+    -- its map has no two files
+    pub first_answer : ((one other : List ℕ) → StandsBefore (files l.cut draft.objects) one other → ⊥)
+        → IsClashOrNone (state_of l) r draft (first_clash l news)
+    first_answer apart =
+        subst (λ o. IsClashOrNone (state_of l) r draft o) (or_nothing (first_clash l news))
+        (any_answer None (λ new kept stands. absurd (apart kept new stands)))
+
+-- ---- what the test of a new commit answers
+
+module _ (l : LakeStateValue) (sound : IsSound (state_of l)) (index : HasIndex l) (content : List ℕ) (tree : List (List ℕ)) where
+  abbrev pub new_clash : Option Clash
+  new_clash = option_or (first_clash l (content ∷ tree)) (first_twins [] tree)
+
+  pub new_answer : {X : Type 0} (r : Repository) (draft : Draft) → bytes_of l.cut r.commits draft ≡ content ∷ tree
+      → (answer : Result X StepFault) → TellsOrFails (clash_fault new_clash) answer → AsksForBytes (state_of l) r draft answer
+  new_answer r draft are answer tells =
+      let own : tree ≡ files l.cut draft.objects = cc in
+      record {
+        clash = new_clash;
+        there = any_answer l sound index r draft (content ∷ tree) are (first_twins [] tree) (subst (λ all. AreTwinsOrNone all (first_twins [] tree)) own (twins_answer tree));
+        tells = tells;
+      }
+
+  -- the content clashes
+  pub content_told : (fault : StepFault) → (fault ≡ NoMemory) ⊎ (clash_fault (indexed_clash l content) ≡ Some fault)
+      → (fault ≡ NoMemory) ⊎ (clash_fault new_clash ≡ Some fault)
+  content_told fault (inl memory) = inl memory
+  content_told fault (inr is) =
+      inr (fault_or (first_clash l (content ∷ tree)) (first_twins [] tree) fault (fault_or (indexed_clash l content) (first_clash l tree) fault is))
+
+  module _ (free : clash_fault (indexed_clash l content) ≡ None) where
+    after_content : first_clash l (content ∷ tree) ≡ first_clash l tree
+    after_content = fault_none (indexed_clash l content) (first_clash l tree) free
+
+    -- it doesn't, and a file of the tree does
+    pub files_told : (fault : StepFault) → (fault ≡ NoMemory) ⊎ (clash_fault (first_clash l tree) ≡ Some fault)
+        → (fault ≡ NoMemory) ⊎ (clash_fault new_clash ≡ Some fault)
+    files_told fault (inl memory) = inl memory
+    files_told fault (inr is) =
+        inr (fault_or (first_clash l (content ∷ tree)) (first_twins [] tree) fault (ap clash_fault after_content ∙ is))
+
+    -- neither does, and the tree's own files are told of
+    pub twins_told : {X : Type 0} (answer : Result X StepFault) → clash_fault (first_clash l tree) ≡ None
+        → TellsOrFails (clash_fault (first_twins [] tree)) answer → TellsOrFails (clash_fault new_clash) answer
+    twins_told answer none tells =
+        let same : new_clash ≡ first_twins [] tree =
+        fault_none (first_clash l (content ∷ tree)) (first_twins [] tree) (ap clash_fault after_content ∙ none) in
+        subst (λ clash. TellsOrFails (clash_fault clash) answer) (sym same) tells

@@ -3,8 +3,12 @@ pub mod CommonLemmas
 pub mod CopyingLemmas
 pub mod CreatingLemmas
 pub mod ExpressionLemmas
+pub mod FaultLemmas
 pub mod FirstCauseLemmas
+pub mod GuardingLemmas
 pub mod NamingLemmas
+pub mod PlaceLemmas
 pub mod RepositoriesLemmas
 pub mod SmallLakeLemmas
+pub mod TwinLemmas
 pub mod WritingLemmas

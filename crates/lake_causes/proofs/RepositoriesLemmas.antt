@@ -2,7 +2,6 @@
 use Rattle.std.proofs.Common.{◌≡◌, ℕ, Bool, true, false, List, [], ◌∷◌, map, ◌⊎◌, inl, inr, refl, sym, ap, subst, ◌∙◌}
 use Rattle.std.specs.Prelude.{Option, Some, None, is_some, Result, Ok, Err, IsErrAnd}
 use Rattle.std.specs.FinMap.{contains_key, empty, get}
-use Rattle.std.specs.Option.{option_or}
 use Rattle.byte_map.proofs.ValuesLemmas.{contains_map_values}
 use Rattle.lake_format.specs.Cutting.{files}
 use Rattle.lake_format.specs.Spelling.{file_name}
@@ -20,6 +19,7 @@ use Rattle.lake_state.specs.Repositories.{repository_of}
 use Rattle.lake_state.specs.Lakes.{LakeStateValue, state_of}
 use Rattle.lake_causes.specs.Clashing.{AsksToCreate, TellsOrFails, indexed_clash, first_clash}
 use Rattle.lake_causes.proofs.ClashLemmas.{first_answer}
+use Rattle.lake_causes.proofs.FaultLemmas.{fault_none, fault_or, or_nothing}
 use Rattle.lake_causes.proofs.FirstCauseLemmas.{change_passes, change_refuses, clash_tells, exists_refuses}
 
 -- the bytes of files that are known by their names
@@ -35,19 +35,6 @@ first_named (content ∷ contents) first later are =
     let one : file_of content ≡ first = cc in
     let others : map file_of contents ≡ later = cc in
     (subst (λ (file : File). file.name ≡ file_name file.bytes) one refl, (contents, others))
-
--- the fault of a clash, or else of another
-fault_or : (one other : Option Clash) (fault : StepFault) → clash_fault one ≡ Some fault → clash_fault (option_or one other) ≡ Some fault
-fault_or None other fault is = absurd cc
-fault_or (Some clash) other fault is = is
-
-fault_none : (one other : Option Clash) → clash_fault one ≡ None → option_or one other ≡ other
-fault_none None other is = refl
-fault_none (Some clash) other is = absurd cc
-
-or_nothing : {X : Type 0} (o : Option X) → option_or o None ≡ o
-or_nothing None = refl
-or_nothing (Some x) = refl
 
 -- the first commit clashes, or it doesn't
 pub some_clash : (l : LakeStateValue) → IsSound (state_of l) → HasIndex l → (branch : List ℕ) (date : ℕ) (file : List ℕ) → files l.cut empty ≡ file ∷ []

@@ -1,3 +1,4 @@
 pub mod Asking
 pub mod Clashing
 pub mod Finding
+pub mod Guarding

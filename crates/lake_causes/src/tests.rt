@@ -1,5 +1,6 @@
 //! Each refusal once, and where two causes hold, the one that is answered.
 mod clashes;
+mod guarding;
 mod small_lake;
 
 ghost use Rattle.lake_model.specs.Soundness.{IsSound};

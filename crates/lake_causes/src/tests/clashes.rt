@@ -1,17 +1,21 @@
 //! New bytes under names under which bytes are kept.
 use super::small_lake::{Like, small_lake};
-use crate::repositories::test_clash;
+use crate::clashes::{test_clash, test_files, test_twins};
 use commit_graph::commit_bytes;
 use lake_base::{Digest, RefName, RepoName, Sequence};
 use lake_model::StepFault;
 use lake_state::{FilePlace, LakeState, RepositoryState};
 use lake_values::CommitId;
-use meta_range::File;
+use meta_range::{File, Tree};
 use std::alloc::Global;
+use std::sync::Arc;
 use std::test::Fail;
 
 // The repository of the lake, and the head of its branch.
-fn repository_of(alloc: Global, lake: &LakeState) -> Result<(&RepositoryState, CommitId), Fail> {
+pub(super) fn repository_of(
+    alloc: Global,
+    lake: &LakeState,
+) -> Result<(&RepositoryState, CommitId), Fail> {
     let repo = RepoName::read(alloc, b"repo")?;
     let Some(repository) = lake.repository(&repo) else {
         return Err("the repository isn't there")?;
@@ -83,5 +87,33 @@ fn other_bytes_of_a_kept_name_clash(rt: HostRuntime) -> Result<(), Fail> {
         assert!(rt; clashes(alloc, &lake, kept.name, b"other")?);
     }
     assert!(rt; !clashes(alloc, &lake, Digest::of(b"other"), b"other")?);
+    Ok(())
+}
+
+// The small lake, whose index tells of the file at a place of a tree under the name of its metarange; and the tree.
+fn misnamed_lake(alloc: Global, place: usize) -> Result<(LakeState, Arc<Tree, Global>), Fail> {
+    let mut lake = small_lake(alloc, Like::Open)?;
+    let (repository, id) = repository_of(alloc, &lake)?;
+    let Some(tree) = repository.trees.get(&id) else {
+        return Err("the tree isn't there")?;
+    };
+    let tree = tree.clone()?;
+    if place > tree.range_count() {
+        return Err("the tree has no such file")?;
+    }
+    let name = tree.file_name(0);
+    let kept = FilePlace::of(tree.clone()?, place);
+    lake.names.files.insert(name, Some(kept))?;
+    Ok((lake, tree))
+}
+
+#[test]
+fn another_file_of_a_kept_name_clashes(rt: HostRuntime) -> Result<(), Fail> {
+    let alloc = rt.alloc();
+    for (place, clash) in [(0, false), (1, true)] {
+        let (lake, tree) = misnamed_lake(alloc, place)?;
+        assert_eq!(rt; test_files(alloc, &lake, &tree).is_err(), clash);
+        assert!(rt; test_twins(alloc, &tree).is_ok());
+    }
     Ok(())
 }
