@@ -1,3 +1,4 @@
 pub mod FirstCommits
+pub mod NewFiles
 pub mod Parts
 pub mod Puts

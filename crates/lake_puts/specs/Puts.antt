@@ -1,9 +1,10 @@
 -- The puts by which each change of a lake is kept, made of what the lake is before it. Where a branch or a repository
 -- isn't there, there are none.
-use Rattle.std.specs.Prelude.{◌+◌, ℕ, false, List, [], ◌∷◌, ◌++◌, map, filter, Option, Some, None, option_and_then}
+use Rattle.std.specs.Prelude.{◌+◌, ℕ, Bool, false, not, List, [], ◌∷◌, ◌++◌, map, filter, Option, Some, None, option_and_then, if◌then◌else◌}
 use Rattle.std.specs.Option.{option_map_or}
 use Rattle.std.specs.List.{flat_map}
 use Rattle.std.specs.FinMap.{empty, get, keys}
+use Rattle.lake_base.specs.Maps.{ByteMap}
 use Rattle.lake_base.specs.declared.digest.Digest.{Digest}
 use Rattle.lake_values.specs.Commit.{CommitRecordValue}
 use Rattle.lake_values.specs.Reset.{drops_path}
@@ -24,7 +25,9 @@ use Rattle.pair_format.specs.declared.stored.Stored.TheVariants as stored
 use Rattle.pair_format.specs.Spelling.{key_of, key_spelling, value_spelling}
 use Rattle.keeper.specs.declared.put.Put.{Put}
 use Rattle.lake_state.specs.Branches.{BranchStateValue, new_branch, tokens_of, with_fresh}
+use Rattle.lake_state.specs.NewHeads.{NewCommit, with_new_head}
 use Rattle.lake_state.specs.Repositories.{RepositoryStateValue}
+use Rattle.lake_state.specs.declared.file_place.FilePlace.{FilePlace}
 use Rattle.lake_state.specs.Lakes.{LakeStateValue}
 use Rattle.lake_state.specs.Founding.{first_id, first_record, founded_repository}
 
@@ -129,6 +132,37 @@ create_branch_puts repo name commit l =
 abbrev pub delete_branch_puts : List ℕ → List ℕ → LakeStateValue → List Put
 delete_branch_puts repo name l =
     option_map_or (λ b. removed_put (key.Branch repo name) ∷ removals_of All b) (branch_at repo name l) []
+
+-- where a file is kept
+abbrev pub kept_place : ByteMap (Option FilePlace) → List ℕ → Option FilePlace
+kept_place kept file = option_and_then (λ place. place) (get kept (file_name file).0)
+
+-- whether it is kept as a metarange, and whether as a range
+abbrev pub is_kept_metarange : ByteMap (Option FilePlace) → List ℕ → Bool
+is_kept_metarange kept file = option_map_or (λ place. place.is_metarange) (kept_place kept file) false
+
+abbrev pub is_kept_range : ByteMap (Option FilePlace) → List ℕ → Bool
+is_kept_range kept file = option_map_or (λ place. not place.is_metarange) (kept_place kept file) false
+
+-- of the files of a tree that aren't kept as such yet: the metarange, and then the ranges in order
+abbrev pub new_file_puts : ByteMap (Option FilePlace) → List (List ℕ) → List Put
+new_file_puts kept [] = []
+new_file_puts kept (metarange ∷ ranges) =
+    (if is_kept_metarange kept metarange then [] else metarange_put metarange ∷ [])
+    ++ map range_put (filter (λ range. not (is_kept_range kept range)) ranges)
+
+-- the removals of each change under a sealed token of a branch, newest token first
+abbrev pub sealed_removals : BranchStateValue → List Put
+sealed_removals b = flat_map (removals_under All b.tokens) b.sealed
+
+-- A new commit becomes the head of a branch: it, the files of its tree that aren't kept yet, what was sealed goes, the
+-- branch, and the counts.
+abbrev pub new_head_puts : List ℕ → List ℕ → NewCommit → ByteMap (Option FilePlace) → LakeStateValue → List Put
+new_head_puts repo name new kept l =
+    option_map_or (λ b. commit_put repo new.id new.content
+    ∷ (new_file_puts kept new.tree.files ++ (sealed_removals b
+    ++ branch_put repo name (with_new_head l.next_version new.id b)
+    ∷ counts_put (record l { next_version = l.next_version + 1 }) ∷ []))) (branch_at repo name l) []
 
 -- a tag names a commit
 abbrev pub create_tag_puts : List ℕ → List ℕ → Digest → List Put

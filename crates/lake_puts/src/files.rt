@@ -57,7 +57,11 @@ pub(crate) fn push_files(alloc: Global, puts: &mut Vec<Put>, tree: &Tree) -> Res
 }
 
 // Appends the put of a metarange.
-fn push_metarange(alloc: Global, puts: &mut Vec<Put>, file: &File) -> Result<(), NoMemory>
+pub(crate) fn push_metarange(
+    alloc: Global,
+    puts: &mut Vec<Put>,
+    file: &File,
+) -> Result<(), NoMemory>
     ensures { OnOk result (puts.new.items ≡ puts.old.items
         ++ spelled_put (stored.MetaRange file.now.name file.now.bytes) ∷ []) }
 {
@@ -81,7 +85,7 @@ fn push_ranges(alloc: Global, puts: &mut Vec<Put>, ranges: &[File]) -> Result<()
 }
 
 // Appends the put of a range.
-fn push_range(alloc: Global, puts: &mut Vec<Put>, file: &File) -> Result<(), NoMemory>
+pub(crate) fn push_range(alloc: Global, puts: &mut Vec<Put>, file: &File) -> Result<(), NoMemory>
     ensures { OnOk result (puts.new.items ≡ puts.old.items
         ++ spelled_put (stored.Range file.now.name file.now.bytes) ∷ []) }
 {

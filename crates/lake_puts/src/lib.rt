@@ -4,6 +4,7 @@
 //! - `repositories`: repositories that are made.
 //! - `paths`: numbers of uploads, and changes that are staged.
 //! - `branches`: branches that are reset, sealed, made and deleted.
+//! - `heads`: commits that become the head of a branch.
 //! - `tags`: tags that are made and deleted.
 //! - `notes`: settings.
 //! - `pushing`: puts that are appended to others; `parts`: what is put of a branch; `files`: commits, and the files of
@@ -14,6 +15,7 @@
 
 pub mod branches;
 mod files;
+pub mod heads;
 pub mod notes;
 mod parts;
 pub mod paths;
@@ -25,6 +27,7 @@ pub mod tags;
 mod tests;
 
 pub use branches::{create_branch_puts, delete_branch_puts, reset_puts, seal_puts};
+pub use heads::new_head_puts;
 pub use notes::set_note_puts;
 pub use paths::{copy_puts, stage_puts, ticket_puts};
 pub use repositories::create_repository_puts;

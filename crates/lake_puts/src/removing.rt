@@ -26,7 +26,7 @@ pub(crate) fn push_removals(
 }
 
 // Appends the removal of each change under these tokens that a reset drops.
-fn push_removals_of(
+pub(crate) fn push_removals_of(
     alloc: Global,
     puts: &mut Vec<Put>,
     tokens: &Tokens,
