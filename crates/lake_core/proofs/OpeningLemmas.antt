@@ -76,7 +76,7 @@ module _ {K : Type 0} (view : KeeperView K) (cut : Cut) (old mid new : K) (made 
   landed None had may = tt
   landed (Some b) had may = which b had (view.kept new) may
 
-  -- it was called once, and the count of its faults didn't fall
+  -- it was called once
   put_called : view.calls new ≡ option_map next_count (view.calls mid) → IsCalledOnce view old new
   put_called once = once ∙ ap (option_map next_count) called
 

@@ -4,3 +4,4 @@ pub mod Makings
 pub mod Ready
 pub mod Opening
 pub mod OpenFaults
+pub mod Heads

@@ -2,7 +2,7 @@
 //!
 //! - `lake`: the lake, and its keeper; `opening`: a lake that is opened, by `filling` a keeper without pairs.
 //! - `ready`: what a change has ready before it is kept.
-//! - `repositories`, `tickets`, `paths`, `branches`, `tags`, `notes`: the changes.
+//! - `repositories`, `tickets`, `paths`, `branches`, `heads`, `tags`, `notes`: the changes.
 //! - `readings`: the readings; `preparing`: what a new head of a branch is made from.
 //!
 //! Each change has four blocks: it tests what may refuse it, in the one order; takes its memory; keeps its puts and its
@@ -15,6 +15,7 @@
 
 pub mod branches;
 mod filling;
+pub mod heads;
 pub mod lake;
 pub mod notes;
 mod open_fault;

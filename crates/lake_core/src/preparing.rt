@@ -17,7 +17,7 @@ impl<K: Keeper> Lake<K> {
     /// What a commit, a merge or a pick on a branch is made from: the versions by which it is guarded, the head with its
     /// tree, the sealed changes, the hooks, for a merge or a pick its three trees, and the cut. Trees are shared. The
     /// base of a merge is the merge base of the head and the source. NoRepo; NoRef; Expired exactly where the source is
-    /// expired.
+    /// expired. The sides are commits of the repository, as `are_commits` tells.
     pub fn prepare(
         &self,
         repo: &RepoName,

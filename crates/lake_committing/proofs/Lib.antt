@@ -1,0 +1,10 @@
+pub mod ChangedLemmas
+pub mod CommitLemmas
+pub mod KeepingLemmas
+pub mod StandingLemmas
+pub mod CauseLemmas
+pub mod HeadingLemmas
+pub mod NamingLemmas
+pub mod PlaceLemmas
+pub mod TestingLemmas
+pub mod SwappingLemmas

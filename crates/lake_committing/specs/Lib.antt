@@ -1,0 +1,6 @@
+pub mod NewHeads
+pub mod Keeping
+pub mod Naming
+pub mod Testing
+pub mod Ready
+pub mod Making

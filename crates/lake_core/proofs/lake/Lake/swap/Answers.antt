@@ -1,0 +1,32 @@
+use Rattle.lake_model.specs.Steps.{IsSwapReply, swap_rule}
+use Rattle.lake_state.specs.Lakes.{lake_value}
+use Rattle.lake_standing.specs.Standing.{versions_since}
+use Rattle.lake_committing.specs.Making.{head_answer}
+use Rattle.lake_core.specs.Heads.{IsReadyFor}
+use Rattle.lake_core.proofs.HeadLemmas.{stands_after, tree_for}
+use Rattle.lake_core.proofs.StepLemmas.{held_then, holds_now}
+use Rattle.lake_core.proofs.lake.Lake.swap.Goals as goal
+
+pub swap-requires-clause-tree : goal.swap-requires-clause-tree
+swap-requires-clause-tree g c =
+    let ready =
+    held_then (λ s given. IsReadyFor s given c.args.repo.now c.args.branch.now c.args.version c.args.settings c.args.kind c.args.about c.args.tree)
+    c.self.view_is c.self.invariant.replayed c.requires in
+    tree_for (lake_value c.self.inside.present) (versions_since (lake_value c.self.inside.opened.value) c.self.inside.history.items)
+    c.self.invariant.versions c.args.repo.now c.args.branch.now c.args.version c.args.settings c.args.kind c.args.about c.args.tree ready
+
+pub invariant_of-self : goal.invariant_of-self
+invariant_of-self g c =
+    let ready =
+    held_then (λ s given. IsReadyFor s given c.args.repo.now c.args.branch.now c.args.version c.args.settings c.args.kind c.args.about c.args.tree)
+    c.self.view_is c.self.invariant.replayed c.requires in
+    stands_after (record { kept = g.K.Keeper.kept; faults = g.K.Keeper.faults; calls = g.K.Keeper.calls }) c.law_of_new_heads.ensures
+    (lake_value c.self.inside.opened.value) c.args.by c.args.repo.now c.args.branch.now c.args.version c.args.settings c.args.kind c.args.about c.args.tree
+    (record { keeper = c.self.inside.keeper; history = c.self.inside.history.items; present = c.self.inside.present })
+    c.self.invariant ready c.swap.result (c.swap.ensures.reply _ c.self.invariant.versions)
+    (record { keeper = c.swap.new.keeper; history = c.swap.new.history.items; present = c.swap.new.present }) c.swap.ensures.leaves
+
+pub returns-clause-reply : goal.returns-clause-reply
+returns-clause-reply g c =
+    holds_now (λ s given. IsSwapReply s given c.args.repo.now c.args.branch.now c.args.version c.args.settings (swap_rule c.args.kind c.args.about)
+    (head_answer c.swap.result)) c.self.view_is c.self.invariant.replayed (c.swap.ensures.reply _ c.self.invariant.versions)
