@@ -4,25 +4,27 @@ use Rattle.std.proofs.lemmas.Bool.{cases_Bool, ltb-false}
 use Rattle.std.specs.Prelude.{Option, Some, None, position}
 use Rattle.std.specs.FinMap.{get, empty_of_len, get-empty, len}
 use Rattle.lake_base.specs.Maps.{byte_order}
+use Rattle.lake_base.specs.declared.digest.Digest.{Digest}
 use Rattle.lake_values.specs.Commit.{AboutValue}
 use Rattle.lake_values.specs.Entry.{EntryValue}
 use Rattle.lake_values.specs.HookDecisions.{matches}
 use Rattle.lake_values.specs.KeyMap.{ChangesValue, change_between, differences}
+use Rattle.lake_values.specs.declared.commit.Strategy.{Strategy}
 use Rattle.lake_values.specs.declared.entry.Change.{Change}
 use Rattle.lake_values.specs.declared.entry.Change.TheVariants.{Put}
 use Rattle.lake_values.specs.declared.settings.NoteName.TheVariants as name
 use Rattle.lake_values.proofs.KeyMapLemmas.{get_differences}
 use Rattle.lake_format.specs.declared.cut.Cut.{Cut}
-use Rattle.lake_model.specs.declared.history.Operation.TheVariants.{NoteSet}
+use Rattle.lake_model.specs.declared.history.Operation.TheVariants.{NoteSet, RepoCreate}
 use Rattle.lake_model.specs.State.{HasBranch, Repository, State, head_map, sealed_map}
 use Rattle.lake_model.specs.Branches.{IsUnprotected}
-use Rattle.lake_model.specs.Commits.{IsAdmissible, IsCommittable, MayBecomeHead, commit_draft}
+use Rattle.lake_model.specs.Commits.{IsAdmissible, IsCommittable, MayBecomeHead, bare_repository, commit_draft, first_draft}
 use Rattle.lake_model.specs.History.{Allows, after}
 use Rattle.lake_model.specs.Soundness.{fresh}
 use Rattle.lake_histories.specs.Words.{quickstart, main, outside, entry_of, commit_entry, IsCommitAdmissible}
 use Rattle.lake_histories.specs.Nothing as nothing
 use Rattle.lake_refusals.specs.Lakes.{a}
-use Rattle.lake_commit_refusals.specs.Picks.{hooked_lake, no_changes}
+use Rattle.lake_commit_refusals.specs.Picks.{IsPickAdmissible, hooked_lake, no_changes, pick_entry}
 use Rattle.lake_histories.proofs.SceneLemmas.{scene, counted, in_quickstart, on_main, the_main}
 use Rattle.lake_histories.proofs.EntriesLemmas.{first_branch, first_repository}
 use Rattle.lake_histories.proofs.NothingLemmas as nothing_lemmas
@@ -81,3 +83,13 @@ module _ (cut : Cut) where
       let denied : place (matches main main && ltb 0 (len changed)) ≡ Some 0 = ap (λ (t : Bool). place (t && ltb 0 (len changed))) main_itself ∙ ap place (some_len changed a (Put outside) a_changed) in
       let none : place (matches main main && ltb 0 (len changed)) ≡ None = free in
       absurd (cc (sym denied ∙ none)))
+
+-- entries whose new commit isn't admissible
+pub repository_refused : (state : State) (repo branch : List ℕ) (date : ℕ) → (IsAdmissible state (bare_repository date branch) (first_draft date) → ⊥) → Allows state (entry_of (RepoCreate repo branch date)) → ⊥
+repository_refused state repo branch date none allowed = none allowed.possible.admissible
+
+pub commit_refused : (state : State) (about : AboutValue) → (IsCommitAdmissible state about → ⊥) → Allows state (commit_entry about) → ⊥
+commit_refused state about none allowed = let may = allowed.possible in none (may.0, may.1, (may.2.0, may.2.1, may.2.2.head.admissible))
+
+pub pick_refused : (state : State) (base source : Digest) (strategy : Strategy) (about : AboutValue) → (IsPickAdmissible state base source strategy about → ⊥) → Allows state (pick_entry base source strategy about) → ⊥
+pick_refused state base source strategy about none allowed = let may = allowed.possible in none (may.0, may.1, (may.2.0, may.2.1, may.2.2.head.admissible))

@@ -1,11 +1,12 @@
 -- Why picks are allowed and refused.
-use Rattle.std.proofs.Common.{◌≡◌, ◌∷◌, [], Bool, true, false, cond, refl, sym, ap, subst, ◌∙◌, arith, inl, inr}
+use Rattle.std.proofs.Common.{◌≡◌, ◌<◌, ◌∷◌, [], ℕ, List, Bool, true, false, cond, refl, sym, ap, subst, ◌∙◌, arith, inl, inr}
 use Rattle.std.proofs.lemmas.Bool.{cases_Bool}
-use Rattle.std.specs.Prelude.{Option, Some, None, is_some, option_and_then, not, ◌&&◌, if◌then◌else◌}
+use Rattle.std.specs.Prelude.{Option, Some, None, is_some, is_none, position, option_and_then, not, ◌&&◌, if◌then◌else◌}
 use Rattle.std.specs.Option.{unwrap_or}
-use Rattle.std.specs.FinMap.{get, insert, empty, get-empty}
+use Rattle.std.specs.FinMap.{find, get, insert, empty, get-empty}
 use Rattle.lake_base.specs.Maps.{byte_order}
 use Rattle.lake_base.specs.declared.digest.Digest.{Digest}
+use Rattle.lake_values.specs.Ancestry.{commit_of}
 use Rattle.lake_values.specs.Commit.{AboutValue, CommitRecordValue}
 use Rattle.lake_values.specs.Entry.{EntryValue}
 use Rattle.lake_values.specs.KeyMap.{KeyMapValue}
@@ -14,29 +15,33 @@ use Rattle.lake_values.specs.Sameness.{same_value}
 use Rattle.lake_values.specs.declared.commit.Strategy.TheVariants.{Refuse}
 use Rattle.lake_values.specs.declared.entry.Change.TheVariants.{Put}
 use Rattle.lake_values.specs.declared.merge.Side.TheVariants.{Source, Destination, Neither}
+use Rattle.lake_values.specs.declared.settings.NoteName.TheVariants as name
 use Rattle.lake_values.proofs.KeyMapLemmas.{get_apply, same_as_itself}
 use Rattle.lake_values.proofs.MergingLemmas.{refused_from}
+use Rattle.lake_format.specs.Spelling.{commit_id}
 use Rattle.lake_format.specs.declared.cut.Cut.{Cut}
-use Rattle.lake_model.specs.declared.history.Operation.TheVariants.{Copy, Pick}
+use Rattle.lake_model.specs.declared.history.Operation.TheVariants.{Copy, NoteSet, Pick}
 use Rattle.lake_model.specs.declared.history.CopySource.TheVariants as source
 use Rattle.lake_model.specs.Branches.{IsUnprotected}
 use Rattle.lake_model.specs.declared.history.SealFor.TheVariants as seal
-use Rattle.lake_model.specs.State.{Branch, HasCommit, HasLiveCommit, Repository, State, head_map, is_expired, map_of, sealed_map}
-use Rattle.lake_model.specs.Commits.{IsAdmissible, IsPick, first_draft, pick_draft, record_of}
+use Rattle.lake_model.specs.State.{Branch, HasCommit, HasLiveCommit, Notes, Repository, State, head_map, is_expired, map_of, sealed_map}
+use Rattle.lake_model.specs.Commits.{Draft, IsAdmissible, IsCommittable, IsPick, denied_by, first_draft, pick_draft, record_of, with_head}
 use Rattle.lake_model.specs.Removal.{with_expired}
 use Rattle.lake_model.specs.Parts.{in_repository}
 use Rattle.lake_model.specs.Uncommitted.{copied_map, with_staged}
 use Rattle.lake_model.specs.History.{Allows, after, replay}
-use Rattle.lake_histories.specs.Words.{quickstart, main, first, outside, head_of, put_entry, seal_entry, commit_entry}
-use Rattle.lake_refusals.specs.Lakes.{a, b}
-use Rattle.lake_commit_refusals.specs.Picks.{IsPickAdmissible, committed_lake, copy_entry, expired_head_lake, half_expired_lake, new_commit, pick_entry, sealed_lake}
-use Rattle.lake_histories.proofs.SceneLemmas.{scene, counted, get_one, in_quickstart, on_main, the_main}
+use Rattle.lake_histories.specs.Words.{quickstart, main, first, outside, head_of, entry_of, put_entry, seal_entry, commit_entry}
+use Rattle.lake_refusals.specs.Lakes.{a, b, ready_lake}
+use Rattle.lake_commit_refusals.specs.Picks.{IsPickAdmissible, asking_lake, barred_lake, barred_pick_lake, committed_lake, copy_entry, expired_head_lake, new_commit, new_pick, pick_entry, reason, reason_wanted, sealed_lake, with_reason, without_metadata}
+use Rattle.lake_histories.proofs.SceneLemmas.{scene, counted, get_one, in_quickstart, main_there, on_main, the_main}
+use Rattle.lake_histories.proofs.BranchesLemmas.{head_in, in_draft, with_drafted}
 use Rattle.lake_histories.proofs.EntriesLemmas.{after_put_outside, after_seal_of_one, apply_nothing, first_repository, may}
 use Rattle.lake_histories.proofs.CommitsLemmas.{after_committing, apart_at, at_new, new_id, new_map, new_record, with_new}
 use Rattle.lake_histories.proofs.InsertsLemmas.{get_other, same_digest, stands, stood}
 use Rattle.lake_histories.proofs.MapsLemmas.{first_map, get_put, head_scene, no_entry}
 use Rattle.lake_histories.proofs.StaysStagedLemmas.{a_sealed, has_a, second_state}
-use Rattle.lake_refusals.proofs.LakesLemmas.{allows_by, ready_scene, refuses_by}
+use Rattle.lake_refusals.proofs.LakesLemmas.{ready_scene, refuses_by, with_notes}
+use Rattle.lake_commit_refusals.proofs.CommittingLemmas.{main_itself}
 
 -- where source and destination are the same nothing conflicts
 same_side : (is other : Bool) → other ≡ true → cond is Destination (cond is Source (cond other Source Neither)) ≡ Neither → ⊥
@@ -100,47 +105,66 @@ module _ (cut : Cut) (about : AboutValue) where
       ap (λ (o : Option KeyMapValue). get (unwrap_or o empty) a) (get_other r0.maps k.0 (sealed_map r0 (a_sealed cut)) (first cut).0 (λ is. apart (same_digest (first cut) k is)))
       ∙ ap (λ (m : KeyMapValue). get m a) (first_map cut (first cut)) ∙ no_entry a
 
-  pub pick_allowed : (other : AboutValue) → (first cut ≡ new_commit cut about → ⊥) → IsPickAdmissible (committed_lake cut about) (first cut) (new_commit cut about) Refuse other
-      → Allows (committed_lake cut about) (pick_entry (first cut) (new_commit cut about) Refuse other)
-  pick_allowed other apart admissible =
-      let apart_k : first cut ≡ k → ⊥ = λ is. apart (is ∙ sym new_is) in
-      let of_k : IsPickAdmissible (scene s r1 b1) (first cut) k Refuse other =
-      subst (λ (id : Digest). IsPickAdmissible (scene s r1 b1) (first cut) id Refuse other) new_is
-      (subst (λ (l : State). IsPickAdmissible l (first cut) (new_commit cut about) Refuse other) committed_scene admissible) in
-      allows_by (pick_entry (first cut) (new_commit cut about) Refuse other) committed_scene
-      (subst (λ (id : Digest). Allows (scene s r1 b1) (pick_entry (first cut) id Refuse other)) (sym new_is)
-      (may s r1 b1 1 (Pick quickstart main (first cut) k Refuse other) refl (omega arith)
-      (on_main (IsPick (scene s r1 b1) main (first cut) k Refuse other) s r1 b1 (record {
+  -- the repository with other settings
+  abbrev pub noted : Notes → Repository
+  noted notes = record r1 { notes = notes }
+
+  pub pick_where : (t : State) (notes : Notes) (other : AboutValue) → t.stopped ≡ false → t.entries < 4194304 → (first cut ≡ k → ⊥)
+      → denied_by notes.hooks main (head_map r1 b1) (pick_draft (first cut) k Refuse other r1 b1) ≡ None
+      → IsPickAdmissible (scene t (noted notes) b1) (first cut) k Refuse other → Allows (scene t (noted notes) b1) (pick_entry (first cut) k Refuse other)
+  pick_where t notes other running room apart free admissible = may t (noted notes) b1 1 (Pick quickstart main (first cut) k Refuse other) running room
+      (on_main (IsPick (scene t (noted notes) b1) main (first cut) k Refuse other) t (noted notes) b1 (record {
         there = first_there;
         live = new_live;
         sides = record {
           clean = apply_nothing (map_of r1 k);
-          changed = apart_at (map_of r1 k) (map_of r1 (first cut)) a outside new_has (first_lacks apart_k);
+          changed = apart_at (map_of r1 k) (map_of r1 (first cut)) a outside new_has (first_lacks apart);
           settled = same_settled (map_of r1 (first cut)) (map_of r1 k);
         };
-        head = record { allowed = refl; admissible = the_main (λ r x. IsAdmissible (scene s r1 b1) r (pick_draft (first cut) k Refuse other r x)) s r1 b1 of_k };
-      }))))
+        head = record { allowed = free; admissible = the_main (λ r x. IsAdmissible (scene t (noted notes) b1) r (pick_draft (first cut) k Refuse other r x)) t (noted notes) b1 admissible };
+      }))
+
+  -- a lake that is a scene, and the new commit by its id
+  pub to_scene : (P : State → Digest → Type 0) {lake : State} {t : State} → lake ≡ t → P lake (new_commit cut about) → P t k
+  to_scene P {lake = lake} {t = t} is p = subst (P t) new_is (subst (λ (l : State). P l (new_commit cut about)) is p)
+
+  pub of_scene : (P : State → Digest → Type 0) {lake : State} {t : State} → lake ≡ t → P t k → P lake (new_commit cut about)
+  of_scene P {lake = lake} {t = t} is p = subst (λ (l : State). P l (new_commit cut about)) (sym is) (subst (P t) (sym new_is) p)
+
+  pub apart_k : (first cut ≡ new_commit cut about → ⊥) → first cut ≡ k → ⊥
+  apart_k apart is = apart (is ∙ sym new_is)
+
+  pub pick_allowed : (other : AboutValue) → (first cut ≡ new_commit cut about → ⊥) → IsPickAdmissible (committed_lake cut about) (first cut) (new_commit cut about) Refuse other
+      → Allows (committed_lake cut about) (pick_entry (first cut) (new_commit cut about) Refuse other)
+  pick_allowed other apart admissible = of_scene (λ (l : State) (id : Digest). Allows l (pick_entry (first cut) id Refuse other)) committed_scene
+      (pick_where s r1.notes other refl (omega arith) (apart_k apart) refl (to_scene (λ (l : State) (id : Digest). IsPickAdmissible l (first cut) id Refuse other) committed_scene admissible))
 
   pub without_base : (other : AboutValue) (id : Digest) → (first cut ≡ id → ⊥) → (new_commit cut about ≡ id → ⊥) → Allows (committed_lake cut about) (pick_entry id (new_commit cut about) Refuse other) → ⊥
   without_base other id not_first not_new = refuses_by (pick_entry id (new_commit cut about) Refuse other) committed_scene (λ allowed.
       one_of_two id (the_main (IsPick (scene s r1 b1) main id (new_commit cut about) Refuse other) s r1 b1 allowed.possible).there not_first not_new)
 
-  pub without_source : (other : AboutValue) (id : Digest) → (first cut ≡ id → ⊥) → (new_commit cut about ≡ id → ⊥) → Allows (committed_lake cut about) (pick_entry (new_commit cut about) id Refuse other) → ⊥
-  without_source other id not_first not_new = refuses_by (pick_entry (new_commit cut about) id Refuse other) committed_scene (λ allowed.
-      one_of_two id (the_main (IsPick (scene s r1 b1) main (new_commit cut about) id Refuse other) s r1 b1 allowed.possible).live.0 not_first not_new)
+  pub without_source : (other : AboutValue) (id : Digest) → (first cut ≡ id → ⊥) → (new_commit cut about ≡ id → ⊥) → Allows (committed_lake cut about) (pick_entry (first cut) id Refuse other) → ⊥
+  without_source other id not_first not_new = refuses_by (pick_entry (first cut) id Refuse other) committed_scene (λ allowed.
+      one_of_two id (the_main (IsPick (scene s r1 b1) main (first cut) id Refuse other) s r1 b1 allowed.possible).live.0 not_first not_new)
 
-  half_expired_scene : half_expired_lake cut about ≡ scene s (with_expired (first cut) r1) b1
-  half_expired_scene = ap (in_repository quickstart (with_expired (first cut))) committed_scene ∙ in_quickstart (with_expired (first cut)) s r1 b1
+  expired_head_scene : expired_head_lake cut about ≡ scene s (with_expired k r1) b1
+  expired_head_scene =
+      ap (λ (id : Digest). in_repository quickstart (with_expired id) (committed_lake cut about)) new_is
+      ∙ ap (in_repository quickstart (with_expired k)) committed_scene
+      ∙ in_quickstart (with_expired k) s r1 b1
 
-  pub expired_source : (other : AboutValue) → Allows (half_expired_lake cut about) (pick_entry (new_commit cut about) (first cut) Refuse other) → ⊥
-  expired_source other = refuses_by (pick_entry (new_commit cut about) (first cut) Refuse other) half_expired_scene (λ allowed.
-      let kept = (the_main (IsPick (scene s (with_expired (first cut) r1) b1) main (new_commit cut about) (first cut) Refuse other) s (with_expired (first cut) r1) b1 allowed.possible).live.1 in
-      let lost = ap is_some (get_put {X = Unit {0}} empty (first cut).0 tt) in
-      absurd (cc (sym kept ∙ lost)))
+  new_lost : is_expired (with_expired k r1) k ≡ true
+  new_lost = ap is_some (get_put {X = Unit {0}} empty k.0 tt)
 
-  pub same_map : (other : AboutValue) → Allows (committed_lake cut about) (pick_entry (new_commit cut about) (new_commit cut about) Refuse other) → ⊥
-  same_map other = refuses_by (pick_entry (new_commit cut about) (new_commit cut about) Refuse other) committed_scene (λ allowed.
-      (the_main (IsPick (scene s r1 b1) main (new_commit cut about) (new_commit cut about) Refuse other) s r1 b1 allowed.possible).sides.changed refl)
+  pub expired_source : (other : AboutValue) → Allows (expired_head_lake cut about) (pick_entry (first cut) (new_commit cut about) Refuse other) → ⊥
+  expired_source other allowed =
+      let moved = to_scene (λ (l : State) (id : Digest). Allows l (pick_entry (first cut) id Refuse other)) expired_head_scene allowed in
+      let kept = (the_main (IsPick (scene s (with_expired k r1) b1) main (first cut) k Refuse other) s (with_expired k r1) b1 moved.possible).live.1 in
+      absurd (cc (sym kept ∙ new_lost))
+
+  pub same_map : (other : AboutValue) → Allows (committed_lake cut about) (pick_entry (first cut) (first cut) Refuse other) → ⊥
+  same_map other = refuses_by (pick_entry (first cut) (first cut) Refuse other) committed_scene (λ allowed.
+      (the_main (IsPick (scene s r1 b1) main (first cut) (first cut) Refuse other) s r1 b1 allowed.possible).sides.changed refl)
 
   -- the branch with the object at `b` sealed
   abbrev resealed : Branch
@@ -165,29 +189,110 @@ module _ (cut : Cut) (about : AboutValue) where
       let clean = (the_main (IsPick (scene (counted (counted s)) r1 resealed) main (first cut) (new_commit cut about) Refuse other) (counted (counted s)) r1 resealed allowed.possible).sides.clean in
       apart_at (sealed_map r1 resealed) (head_map r1 resealed) b outside sealed_has head_lacks clean)
 
-  -- what a copy from the commit finds, by whether it is there and whether it is expired
-  abbrev found : Bool → Bool → Option EntryValue
-  found there lost = option_and_then (λ (m : KeyMapValue). get m a) (if there && not lost then Some (map_of r1 k) else None)
+  -- what a copy from a commit finds, by whether it is there and whether it is expired
+  abbrev found : Digest → List ℕ → Bool → Bool → Option EntryValue
+  found id path there lost = option_and_then (λ (m : KeyMapValue). get m path) (if there && not lost then Some (map_of r1 id) else None)
 
-  abbrev IsCopy : Repository → Branch → Type 0
-  IsCopy r x = IsUnprotected r main × (option_and_then (λ (m : KeyMapValue). get m a) (copied_map r (source.Commit k)) ≡ Some outside)
+  abbrev IsCopy : Digest → List ℕ → Repository → Branch → Type 0
+  IsCopy id path r x = IsUnprotected r main × (option_and_then (λ (m : KeyMapValue). get m path) (copied_map r (source.Commit id)) ≡ Some outside)
 
-  pub copy_allowed : Allows (committed_lake cut about) (copy_entry (new_commit cut about))
-  copy_allowed = allows_by (copy_entry (new_commit cut about)) committed_scene
-      (subst (λ (id : Digest). Allows (scene s r1 b1) (copy_entry id)) (sym new_is)
+  found_new : (path : List ℕ) → found k path (is_some (commit_of r1.commits k)) (is_expired r1 k) ≡ get (map_of r1 k) path
+  found_new path = ap (λ (t : Bool). found k path t (is_expired r1 k)) new_live.0 ∙ ap (found k path true) new_live.1
+
+  pub copy_allowed : Allows (committed_lake cut about) (copy_entry (new_commit cut about) a)
+  copy_allowed = of_scene (λ (l : State) (id : Digest). Allows l (copy_entry id a)) committed_scene
       (may s r1 b1 1 (Copy quickstart main b (source.Commit k) a outside) refl (omega arith)
-      (on_main IsCopy s r1 b1 (refl, ap (λ (t : Bool). found t (is_expired r1 k)) new_live.0 ∙ (ap (found true) new_live.1 ∙ new_has)))))
+      (on_main (IsCopy k a) s r1 b1 (refl, found_new a ∙ new_has)))
 
-  expired_head_scene : expired_head_lake cut about ≡ scene s (with_expired k r1) b1
-  expired_head_scene =
-      ap (λ (id : Digest). in_repository quickstart (with_expired id) (committed_lake cut about)) new_is
-      ∙ ap (in_repository quickstart (with_expired k)) committed_scene
-      ∙ in_quickstart (with_expired k) s r1 b1
+  pub copy_refused : Allows (expired_head_lake cut about) (copy_entry (new_commit cut about) a) → ⊥
+  copy_refused allowed =
+      let moved = to_scene (λ (l : State) (id : Digest). Allows l (copy_entry id a)) expired_head_scene allowed in
+      let has = (the_main (IsCopy k a) s (with_expired k r1) b1 moved.possible).1 in
+      let none : found k a true true ≡ Some outside = sym (ap (λ (t : Bool). found k a t (is_expired (with_expired k r1) k)) new_live.0 ∙ ap (found k a true) new_lost) ∙ has in
+      absurd cc
 
-  pub copy_refused : Allows (expired_head_lake cut about) (copy_entry (new_commit cut about)) → ⊥
-  copy_refused = refuses_by (copy_entry (new_commit cut about)) expired_head_scene (λ allowed.
-      let moved : Allows (scene s (with_expired k r1) b1) (copy_entry k) = subst (λ (id : Digest). Allows (scene s (with_expired k r1) b1) (copy_entry id)) new_is allowed in
-      let has = (the_main IsCopy s (with_expired k r1) b1 moved.possible).1 in
+  pub copy_of_nothing : Allows (committed_lake cut about) (copy_entry (new_commit cut about) b) → ⊥
+  copy_of_nothing allowed =
+      let moved = to_scene (λ (l : State) (id : Digest). Allows l (copy_entry id b)) committed_scene allowed in
+      let has = (the_main (IsCopy k b) s r1 b1 moved.possible).1 in
+      absurd (cc (sym head_lacks ∙ (sym (found_new b) ∙ has)))
+
+  pub copy_of_none : (id : Digest) → (first cut ≡ id → ⊥) → (new_commit cut about ≡ id → ⊥) → Allows (committed_lake cut about) (copy_entry id a) → ⊥
+  copy_of_none id not_first not_new = refuses_by (copy_entry id a) committed_scene (λ allowed.
+      let has = (the_main (IsCopy id a) s r1 b1 allowed.possible).1 in
+      elim (cases_Bool (is_some (commit_of r1.commits id))) [
+        | inl there ↦ one_of_two id there not_first not_new
+        | inr lacking ↦
+            let none : found id a false (is_expired r1 id) ≡ Some outside = sym (ap (λ (t : Bool). found id a t (is_expired r1 id)) lacking) ∙ has in
+            absurd cc
+      ])
+
+  -- where a hook wants a reason
+  abbrev asked : Repository
+  asked = with_notes reason_wanted name.Hooks r1
+
+  asking_scene : asking_lake cut about ≡ scene (counted s) asked b1
+  asking_scene =
+      ap (λ (l : State). after l (entry_of (NoteSet quickstart name.Hooks (Some reason_wanted)))) committed_scene
+      ∙ ap counted (in_quickstart (with_notes reason_wanted name.Hooks) s r1 b1)
+
+  -- what the hook says of a pick
+  told : (other : AboutValue) → denied_by asked.notes.hooks main (head_map r1 b1) (pick_draft (first cut) k Refuse other r1 b1) ≡ position (λ (x : ℕ). is_none (find byte_order reason other.metadata)) (0 ∷ [])
+  told other = ap (λ (t : Bool). position (λ (x : ℕ). t && is_none (find byte_order reason other.metadata)) (0 ∷ [])) main_itself
+
+  pub reasoned : (other : AboutValue) → (first cut ≡ new_commit cut about → ⊥) → IsPickAdmissible (asking_lake cut about) (first cut) (new_commit cut about) Refuse (with_reason other)
+      → Allows (asking_lake cut about) (pick_entry (first cut) (new_commit cut about) Refuse (with_reason other))
+  reasoned other apart admissible = of_scene (λ (l : State) (id : Digest). Allows l (pick_entry (first cut) id Refuse (with_reason other))) asking_scene
+      (pick_where (counted s) asked.notes (with_reason other) refl (omega arith) (apart_k apart) (told (with_reason other))
+      (to_scene (λ (l : State) (id : Digest). IsPickAdmissible l (first cut) id Refuse (with_reason other)) asking_scene admissible))
+
+  pub unreasoned : (other : AboutValue) → Allows (asking_lake cut about) (pick_entry (first cut) (new_commit cut about) Refuse (without_metadata other)) → ⊥
+  unreasoned other allowed =
+      let moved = to_scene (λ (l : State) (id : Digest). Allows l (pick_entry (first cut) id Refuse (without_metadata other))) asking_scene allowed in
+      let free = (the_main (IsPick (scene (counted s) asked b1) main (first cut) k Refuse (without_metadata other)) (counted s) asked b1 moved.possible).head.allowed in
+      absurd (cc (sym (told (without_metadata other)) ∙ free))
+
+  -- the lake before the commit, whose id is expired
+  abbrev barred : Repository
+  barred = with_expired k r0
+
+  barred_scene : barred_lake cut about ≡ scene (second_state cut) barred (a_sealed cut)
+  barred_scene =
+      ap (λ (id : Digest). in_repository quickstart (with_expired id) (ready_lake cut)) new_is
+      ∙ ap (in_repository quickstart (with_expired k)) (ready_scene cut)
+      ∙ in_quickstart (with_expired k) (second_state cut) r0 (a_sealed cut)
+
+  pub expired_commit : Allows (barred_lake cut about) (commit_entry about) → ⊥
+  expired_commit = refuses_by (commit_entry about) barred_scene (λ allowed.
+      let kept = (the_main (IsCommittable (scene (second_state cut) barred (a_sealed cut)) main about) (second_state cut) barred (a_sealed cut) allowed.possible).head.admissible.live in
       let lost = ap is_some (get_put {X = Unit {0}} empty k.0 tt) in
-      let none : found true true ≡ Some outside = sym (ap (λ (t : Bool). found t (is_expired (with_expired k r1) k)) new_live.0 ∙ ap (found true) lost) ∙ has in
-      absurd cc)
+      absurd (cc (sym kept ∙ lost)))
+
+  -- the commit of the pick
+  module _ (other : AboutValue) where
+    abbrev picking : Repository → Branch → Draft
+    picking = pick_draft (first cut) k Refuse other
+
+    abbrev picked : Digest
+    picked = commit_id (record_of s.cut r1.commits (picking r1 b1))
+
+    picked_is : head_of (after (committed_lake cut about) (new_pick cut about other)) ≡ picked
+    picked_is = of_scene (λ (l : State) (id : Digest). head_of (after l (pick_entry (first cut) id Refuse other)) ≡ picked) committed_scene
+        (ap (λ (l : State). head_of (counted l)) (in_draft s r1 (insert empty main b1) main b1 (main_there b1) picking)
+        ∙ head_in (counted s) (with_drafted s r1 (picking r1 b1)) (insert (insert empty main b1) main (with_head picked b1)) main (with_head picked b1) (get_put (insert empty main b1) main (with_head picked b1)))
+
+    abbrev lost_pick : Repository
+    lost_pick = with_expired picked r1
+
+    lost_pick_scene : barred_pick_lake cut about other ≡ scene s lost_pick b1
+    lost_pick_scene =
+        ap (λ (id : Digest). in_repository quickstart (with_expired id) (committed_lake cut about)) picked_is
+        ∙ ap (in_repository quickstart (with_expired picked)) committed_scene
+        ∙ in_quickstart (with_expired picked) s r1 b1
+
+    pub expired_pick : Allows (barred_pick_lake cut about other) (new_pick cut about other) → ⊥
+    expired_pick allowed =
+        let moved = to_scene (λ (l : State) (id : Digest). Allows l (pick_entry (first cut) id Refuse other)) lost_pick_scene allowed in
+        let kept = (the_main (IsPick (scene s lost_pick b1) main (first cut) k Refuse other) s lost_pick b1 moved.possible).head.admissible.live in
+        let lost = ap is_some (get_put {X = Unit {0}} empty picked.0 tt) in
+        absurd (cc (sym kept ∙ lost))

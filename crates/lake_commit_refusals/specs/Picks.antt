@@ -1,10 +1,11 @@
 -- Commits that are made, hooks that deny them, and commits that are picked.
-use Rattle.std.specs.Prelude.{◌≡◌, [], ◌∷◌, Some}
+use Rattle.std.specs.Prelude.{◌≡◌, List, [], ◌∷◌, ℕ, Some, codes}
 use Rattle.lake_base.specs.declared.digest.Digest.{Digest}
 use Rattle.lake_values.specs.Commit.{AboutValue}
 use Rattle.lake_values.specs.Entry.{EntryValue}
 use Rattle.lake_values.specs.declared.commit.Strategy.{Strategy}
-use Rattle.lake_values.specs.declared.settings.Deny.TheVariants.{MaxChanges}
+use Rattle.lake_values.specs.declared.commit.Strategy.TheVariants.{Refuse}
+use Rattle.lake_values.specs.declared.settings.Deny.TheVariants.{MaxChanges, RequireMeta}
 use Rattle.lake_values.specs.declared.settings.Note.{Note}
 use Rattle.lake_values.specs.declared.settings.Note.TheVariants.{Hooks}
 use Rattle.lake_values.specs.declared.settings.NoteName.TheVariants as name
@@ -28,6 +29,20 @@ no_changes = Hooks (record { branch = main; deny = MaxChanges 0 } ∷ [])
 abbrev pub hooked_lake : Cut → State
 hooked_lake cut = after (ready_lake cut) (entry_of (NoteSet quickstart name.Hooks (Some no_changes)))
 
+-- a commit of `main` must have the key `reason`
+abbrev pub reason : List ℕ
+reason = codes "reason"
+
+abbrev pub reason_wanted : Note
+reason_wanted = Hooks (record { branch = main; deny = RequireMeta reason } ∷ [])
+
+-- what is said of a commit, with a reason and without metadata
+abbrev pub with_reason : AboutValue → AboutValue
+with_reason about = record about { metadata = (reason, []) ∷ [] }
+
+abbrev pub without_metadata : AboutValue → AboutValue
+without_metadata about = record about { metadata = [] }
+
 -- the outside object is committed at `a`
 unfoldable pub committed_lake : Cut → AboutValue → State
 committed_lake cut about = after (ready_lake cut) (commit_entry about)
@@ -40,17 +55,21 @@ new_commit cut about = head_of (committed_lake cut about)
 abbrev pub sealed_lake : Cut → AboutValue → State
 sealed_lake cut about = replay (committed_lake cut about) (put_entry b outside ∷ seal_entry ∷ [])
 
--- the lake of the commit, but for its first commit, which is expired: no legal history gives it
-abbrev pub half_expired_lake : Cut → AboutValue → State
-half_expired_lake cut about = in_repository quickstart (with_expired (first cut)) (committed_lake cut about)
+-- the lake of the commit, after which the hook is set that wants a reason
+abbrev pub asking_lake : Cut → AboutValue → State
+asking_lake cut about = after (committed_lake cut about) (entry_of (NoteSet quickstart name.Hooks (Some reason_wanted)))
+
+-- the lake before the commit, but that the id of it is expired: no legal history gives it
+abbrev pub barred_lake : Cut → AboutValue → State
+barred_lake cut about = in_repository quickstart (with_expired (new_commit cut about)) (ready_lake cut)
 
 -- the lake of the commit, but that this one is expired: no legal history gives it
 abbrev pub expired_head_lake : Cut → AboutValue → State
 expired_head_lake cut about = in_repository quickstart (with_expired (new_commit cut about)) (committed_lake cut about)
 
--- the object at `a` of a commit is copied to `b` of `main`
-abbrev pub copy_entry : Digest → HistoryEntry
-copy_entry id = entry_of (Copy quickstart main b (source.Commit id) a outside)
+-- the outside object is copied from a path of a commit to `b` of `main`
+abbrev pub copy_entry : Digest → List ℕ → HistoryEntry
+copy_entry id path = entry_of (Copy quickstart main b (source.Commit id) path outside)
 
 -- another outside object, of 6 bytes
 abbrev pub larger_object : EntryValue
@@ -73,6 +92,16 @@ pub record AreThree (cut : Cut) (about other : AboutValue) : Type 0 where
 -- what a commit has over a base is taken into `main`
 abbrev pub pick_entry : Digest → Digest → Strategy → AboutValue → HistoryEntry
 pick_entry base source strategy about = entry_of (Pick quickstart main base source strategy about)
+
+-- what the second commit has over the first is taken into `main`
+abbrev pub new_pick : Cut → AboutValue → AboutValue → HistoryEntry
+new_pick cut about other = pick_entry (first cut) (new_commit cut about) Refuse other
+
+-- the lake of the commit, but that the id which this pick would give is expired: no legal history gives it
+abbrev pub barred_pick_lake : Cut → AboutValue → AboutValue → State
+barred_pick_lake cut about other =
+    let picked = head_of (after (committed_lake cut about) (new_pick cut about other)) in
+    in_repository quickstart (with_expired picked) (committed_lake cut about)
 
 -- the commit of such a pick would be admissible
 abbrev pub IsPickAdmissible : State → Digest → Digest → Strategy → AboutValue → Type 0

@@ -4,18 +4,20 @@ ghost use Rattle.std.specs.List.{Contains};
 ghost use Rattle.lake_base.specs.declared.digest.Digest.{Digest};
 ghost use Rattle.lake_values.specs.Ancestry.{commit_of};
 ghost use Rattle.lake_values.specs.Commit.{AboutValue, CommitRecordValue};
+ghost use Rattle.lake_values.specs.declared.commit.Strategy.{Strategy};
 ghost use Rattle.lake_values.specs.declared.commit.Strategy.TheVariants as strategy;
 ghost use Rattle.lake_format.specs.Cutting.{files};
 ghost use Rattle.lake_format.specs.Spelling.{commit_id, file_name};
 ghost use Rattle.lake_format.specs.declared.cut.Cut.{Cut};
+ghost use Rattle.lake_model.specs.declared.history.Operation.TheVariants.{RepoCreate};
 ghost use Rattle.lake_model.specs.State.{HasBranch, Repository, State, is_expired, map_of};
 ghost use Rattle.lake_model.specs.Branches.{IsUnprotected};
-ghost use Rattle.lake_model.specs.Commits.{AreKept, Draft, IsAdmissible, MayBecomeHead, StandsBefore, bytes_of, commit_draft, record_of};
+ghost use Rattle.lake_model.specs.Commits.{AreKept, Draft, IsAdmissible, MayBecomeHead, StandsBefore, bare_repository, bytes_of, commit_draft, first_draft, record_of};
 ghost use Rattle.lake_model.specs.History.{Allows};
-ghost use Rattle.lake_histories.specs.Words.{quickstart, main, first, commit_entry, IsCommitAdmissible};
+ghost use Rattle.lake_histories.specs.Words.{quickstart, main, first, commit_entry, entry_of, IsCommitAdmissible};
 ghost use Rattle.lake_histories.specs.Nothing as nothing;
-ghost use Rattle.lake_refusals.specs.Lakes.{ready_lake};
-ghost use Rattle.lake_commit_refusals.specs.Picks.{AreThree, IsPickAdmissible, committed_lake, copy_entry, expired_head_lake, half_expired_lake, hooked_lake, new_commit, pick_entry, sealed_lake, twice_committed_lake};
+ghost use Rattle.lake_refusals.specs.Lakes.{a, b, ready_lake};
+ghost use Rattle.lake_commit_refusals.specs.Picks.{AreThree, IsPickAdmissible, asking_lake, barred_lake, barred_pick_lake, committed_lake, copy_entry, expired_head_lake, hooked_lake, new_commit, new_pick, pick_entry, sealed_lake, twice_committed_lake, with_reason, without_metadata};
 
 /// Nothing is sealed that changes the head's map, though all else that a commit asks holds. The premise is that no file
 /// of it shares its name with other bytes.
@@ -53,11 +55,34 @@ pub fn inadmissible_commit()
         → (new ≡ kept → ⊥) → IsAdmissible state r draft → ⊥ }
 {}
 
-/// A copy from a commit that is expired.
-pub fn copy_of_expired()
-    ensures allowed { (cut : Cut) (about : AboutValue) → Allows (committed_lake cut about) (copy_entry (new_commit cut about)) }
-    ensures refused { (cut : Cut) (about : AboutValue)
-        → Allows (expired_head_lake cut about) (copy_entry (new_commit cut about)) → ⊥ }
+/// An entry whose new commit isn't admissible, in any state: a new repository, a commit and a pick; and a commit and a
+/// pick whose ids are expired. (Where they are admissible the same entries are allowed: `name_that_stands` of
+/// lake_refusals, `hook_that_denies` and `pick_of_commit`.)
+pub fn inadmissible_entry()
+    ensures repository { (state : State) (repo branch : List ℕ) (date : ℕ)
+        → (IsAdmissible state (bare_repository date branch) (first_draft date) → ⊥)
+        → Allows state (entry_of (RepoCreate repo branch date)) → ⊥ }
+    ensures commit { (state : State) (about : AboutValue) → (IsCommitAdmissible state about → ⊥)
+        → Allows state (commit_entry about) → ⊥ }
+    ensures expired_commit { (cut : Cut) (about : AboutValue) → Allows (barred_lake cut about) (commit_entry about) → ⊥ }
+    ensures pick { (state : State) (base source : Digest) (strategy : Strategy) (about : AboutValue)
+        → (IsPickAdmissible state base source strategy about → ⊥)
+        → Allows state (pick_entry base source strategy about) → ⊥ }
+    ensures expired_pick { (cut : Cut) (about other : AboutValue)
+        → Allows (barred_pick_lake cut about other) (new_pick cut about other) → ⊥ }
+{}
+
+/// A copy from a commit that is expired, from what is no commit, and from a path at which the commit has nothing.
+pub fn copy_of_commit()
+    ensures allowed { (cut : Cut) (about : AboutValue)
+        → Allows (committed_lake cut about) (copy_entry (new_commit cut about) a) }
+    ensures expired { (cut : Cut) (about : AboutValue)
+        → Allows (expired_head_lake cut about) (copy_entry (new_commit cut about) a) → ⊥ }
+    ensures no_commit { (cut : Cut) (about : AboutValue) (id : Digest)
+        → (first cut ≡ id → ⊥) → (new_commit cut about ≡ id → ⊥)
+        → Allows (committed_lake cut about) (copy_entry id a) → ⊥ }
+    ensures nothing_there { (cut : Cut) (about : AboutValue)
+        → Allows (committed_lake cut about) (copy_entry (new_commit cut about) b) → ⊥ }
 {}
 
 /// A pick of what a commit has over the first one. It is allowed, and isn't with a base or a source that is no commit,
@@ -72,14 +97,26 @@ pub fn pick_of_commit()
         → Allows (committed_lake cut about) (pick_entry id (new_commit cut about) strategy.Refuse other) → ⊥ }
     ensures no_source { (cut : Cut) (about other : AboutValue) (id : Digest)
         → (first cut ≡ id → ⊥) → (new_commit cut about ≡ id → ⊥)
-        → Allows (committed_lake cut about) (pick_entry (new_commit cut about) id strategy.Refuse other) → ⊥ }
+        → Allows (committed_lake cut about) (pick_entry (first cut) id strategy.Refuse other) → ⊥ }
     ensures expired_source { (cut : Cut) (about other : AboutValue)
-        → Allows (half_expired_lake cut about) (pick_entry (new_commit cut about) (first cut) strategy.Refuse other) → ⊥ }
+        → Allows (expired_head_lake cut about) (pick_entry (first cut) (new_commit cut about) strategy.Refuse other) → ⊥ }
     ensures same_map { (cut : Cut) (about other : AboutValue)
-        → Allows (committed_lake cut about)
-        (pick_entry (new_commit cut about) (new_commit cut about) strategy.Refuse other) → ⊥ }
+        → Allows (committed_lake cut about) (pick_entry (first cut) (first cut) strategy.Refuse other) → ⊥ }
     ensures over_sealed { (cut : Cut) (about other : AboutValue)
         → Allows (sealed_lake cut about) (pick_entry (first cut) (new_commit cut about) strategy.Refuse other) → ⊥ }
+{}
+
+/// A hook wants a reason of each commit: a pick is allowed with one, and denied without. The premises are those of
+/// `pick_of_commit`.
+pub fn hook_that_denies_pick()
+    ensures allowed { (cut : Cut) (about other : AboutValue) → (first cut ≡ new_commit cut about → ⊥)
+        → IsPickAdmissible (asking_lake cut about)
+        (first cut) (new_commit cut about) strategy.Refuse (with_reason other)
+        → Allows (asking_lake cut about)
+        (pick_entry (first cut) (new_commit cut about) strategy.Refuse (with_reason other)) }
+    ensures refused { (cut : Cut) (about other : AboutValue)
+        → Allows (asking_lake cut about)
+        (pick_entry (first cut) (new_commit cut about) strategy.Refuse (without_metadata other)) → ⊥ }
 {}
 
 /// Where a path conflicts, a pick wants a strategy: what went between the second commit and the first is picked into

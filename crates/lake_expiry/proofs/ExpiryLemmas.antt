@@ -1,22 +1,25 @@
 -- The whole history, and other lists of commits that are to expire.
-use Rattle.std.proofs.Common.{◌≡◌, ◌∷◌, [], List, refl, sym, ap, subst, ◌∙◌, arith}
+use Rattle.std.proofs.Common.{◌≡◌, ◌∷◌, [], true, false, List, refl, sym, ap, subst, ◌∙◌, arith, inl, inr}
+use Rattle.std.specs.Prelude.{is_some}
 use Rattle.std.specs.List.{Contains}
 use Rattle.lake_base.specs.declared.digest.Digest.{Digest}
 use Rattle.lake_format.specs.declared.cut.Cut.{Cut}
 use Rattle.lake_model.specs.declared.history.Operation.TheVariants.{Condemn, Expire}
 use Rattle.lake_model.specs.declared.history.RepositoryCommit.{RepositoryCommit}
-use Rattle.lake_model.specs.State.{State}
+use Rattle.lake_model.specs.State.{HasLiveCommit, Repository, State, is_expired}
 use Rattle.lake_model.specs.History.{Allows, IsLegal, after}
 use Rattle.lake_model.specs.Naming.{IsGarbage, IsNamed}
-use Rattle.lake_model.specs.Removal.{IsExpirable, MayExpire}
+use Rattle.lake_model.specs.Removal.{IsExpirable, IsKeptIn, MayExpire}
 use Rattle.lake_model.specs.Soundness.{fresh}
-use Rattle.lake_histories.specs.Words.{first, IsCommitAdmissible}
+use Rattle.lake_histories.specs.Words.{quickstart, first, IsCommitAdmissible}
 use Rattle.lake_expiry.specs.Days.{AreApart, commit, condemn_entry, entries, expire_entry, first_commit, lake, lake_after, lake_before_first, lake_before_second, older_commits, said_at, second_commit}
-use Rattle.lake_histories.proofs.SceneLemmas.{scene, counted, Leads, leads_one, leads_on}
+use Rattle.lake_histories.proofs.SceneLemmas.{scene, of_main, counted, Leads, leads_one, leads_on}
 use Rattle.lake_histories.proofs.EntriesLemmas.{may}
-use Rattle.lake_expiry.proofs.KeepingLemmas.{after_expiring, expirable_listed, head_stays, keeping, listed_expirable, only_element}
+use Rattle.lake_histories.proofs.MapsLemmas.{get_put}
+use Rattle.lake_histories.proofs.NamingLemmas.{only_one}
+use Rattle.lake_expiry.proofs.KeepingLemmas.{after_expiring, expirable_listed, head_kept, head_stays, keeping, listed_expirable, only_element}
 use Rattle.lake_expiry.proofs.DaysLemmas.{end, first_is, first_legal, lake_end, last, later_course, one, r2, second_is, second_legal, two}
-use Rattle.lake_expiry.proofs.EndLemmas.{dated, left, live_first, live_one, one_named, only, three_named, two_named, zero_garbage, zero_named}
+use Rattle.lake_expiry.proofs.EndLemmas.{dated, left, live_first, live_one, one_named, only, only_two, three_named, two_named, zero_garbage, zero_named}
 
 module _ (cut : Cut) (digest : Digest) where
   abbrev at_end : State
@@ -54,6 +57,45 @@ module _ (cut : Cut) (digest : Digest) where
       let can : IsExpirable (lake cut digest) 1300000 (commit (second_commit cut digest)) = (allowed.possible.all (commit (second_commit cut digest))).0 (2, omega arith, refl) in
       head_stays (end cut digest) (r2 cut digest) (last cut digest) refl
       (subst (λ (id : Digest). IsExpirable at_end 1300000 (commit id)) (second_is cut digest) (subst (λ (l : State). IsExpirable l 1300000 (commit (second_commit cut digest))) (lake_end cut digest) can))
+
+  -- what is no commit can't expire
+  pub not_other : (id : Digest) → (first cut ≡ id → ⊥) → (first_commit cut digest ≡ id → ⊥) → (second_commit cut digest ≡ id → ⊥)
+      → Allows (lake cut digest) (expire_entry (commit (first_commit cut digest) ∷ commit (first cut) ∷ commit id ∷ [])) → ⊥
+  not_other id not_first not_one not_two allowed =
+      let can : IsExpirable at_end 1300000 (commit id) = subst (λ (l : State). IsExpirable l 1300000 (commit id)) (lake_end cut digest) ((allowed.possible.all (commit id)).0 (2, omega arith, refl)) in
+      let same : can.repository ≡ of_main (keeping (r2 cut digest)) (last cut digest) = only_one quickstart (of_main (keeping (r2 cut digest)) (last cut digest)) quickstart can.repository can.stands in
+      let live : HasLiveCommit (keeping (r2 cut digest)) id = subst (λ (r : Repository). HasLiveCommit r id) same can.live in
+      elim (only cut digest id live) [
+        | inl is ↦ not_first (sym is)
+        | inr others ↦ elim others [
+          | inl is ↦ not_one (first_is cut digest ∙ sym is)
+          | inr is ↦ not_two (second_is cut digest ∙ sym is)
+        ]
+      ]
+
+  -- what is expired can't expire again
+  pub not_again : Allows (lake_after cut digest) (expire_entry (commit (first cut) ∷ [])) → ⊥
+  not_again allowed =
+      let can : IsExpirable expired_end 1300000 (commit (first cut)) = subst (λ (l : State). IsExpirable l 1300000 (commit (first cut))) after_is ((allowed.possible.all (commit (first cut))).0 (0, omega arith, refl)) in
+      let same : can.repository ≡ of_main (left cut digest) (last cut digest) = only_one quickstart (of_main (left cut digest) (last cut digest)) quickstart can.repository can.stands in
+      let kept : is_expired (left cut digest) (first cut) ≡ false = subst (λ (r : Repository). is_expired r (first cut) ≡ false) same can.live.1 in
+      let lost : is_expired (left cut digest) (first cut) ≡ true = ap is_some (get_put _ (first cut).0 tt) in
+      absurd (cc (sym kept ∙ lost))
+
+  -- and the head is kept
+  head_left : (one_of : RepositoryCommit) → IsExpirable expired_end 1300000 one_of → ⊥
+  head_left one_of can =
+      let same : can.repository ≡ of_main (left cut digest) (last cut digest) = only_one quickstart (of_main (left cut digest) (last cut digest)) one_of.repo can.repository can.stands in
+      let live : HasLiveCommit (left cut digest) one_of.commit = subst (λ (r : Repository). HasLiveCommit r one_of.commit) same can.live in
+      let unkept : IsKeptIn (of_main (left cut digest) (last cut digest)) 1300000 one_of.commit → ⊥ = subst (λ (r : Repository). IsKeptIn r 1300000 one_of.commit → ⊥) same can.unkept in
+      unkept (subst (IsKeptIn (of_main (left cut digest) (last cut digest)) 1300000) (sym (only_two cut digest one_of.commit live)) (head_kept (r2 cut digest) (last cut digest) refl))
+
+  pub none_left : Allows (lake_after cut digest) (expire_entry [])
+  none_left = subst (λ (l : State). Allows l (expire_entry [])) (sym after_is)
+      (may (counted (end cut digest)) (left cut digest) (last cut digest) 1 (Expire 1300000 []) refl (omega arith) (record {
+        distinct = tt;
+        all = λ one_of. (λ has. absurd (omega (arith, has.1)), λ can. absurd (head_left one_of can));
+      }))
 
   condemning_course : Leads expired_end (condemn_entry ∷ []) (after expired_end condemn_entry)
   condemning_course = leads_one

@@ -58,7 +58,7 @@ module _ (r : Repository) (b : Branch) (untagged : r.tags ≡ empty) where
       (subst (λ (x : List Digest). IsKeptBy r.commits ((main, b.head) ∷ []) x (Some rules) 1300000 id) tags
       (subst (λ (x : List (List ℕ × Digest)). IsKeptBy r.commits x (tagged_of here) (Some rules) 1300000 id) heads kept))
 
-  head_kept : IsKeptIn here 1300000 b.head
+  pub head_kept : IsKeptIn here 1300000 b.head
   head_kept = subst (λ (x : List (List ℕ × Digest)). IsKeptBy r.commits x (tagged_of here) (Some rules) 1300000 b.head) (sym heads) (inl (main, (0, omega arith, refl)))
 
 -- the head can't expire

@@ -37,4 +37,16 @@ pub fn expiry_of_others()
     ensures head { (cut : Cut) (digest : Digest)
         → Allows (lake cut digest)
         (expire_entry (commit (first_commit cut digest) ∷ commit (first cut) ∷ commit (second_commit cut digest) ∷ [])) → ⊥ }
+    ensures no_commit { (cut : Cut) (digest id : Digest)
+        → (first cut ≡ id → ⊥) → (first_commit cut digest ≡ id → ⊥) → (second_commit cut digest ≡ id → ⊥)
+        → Allows (lake cut digest)
+        (expire_entry (commit (first_commit cut digest) ∷ commit (first cut) ∷ commit id ∷ [])) → ⊥ }
+{}
+
+/// After the two older commits expired nothing is left to expire: a list of none is allowed, and one with an expired
+/// commit isn't.
+pub fn expiry_again()
+    ensures allowed { (cut : Cut) (digest : Digest) → Allows (lake_after cut digest) (expire_entry []) }
+    ensures refused { (cut : Cut) (digest : Digest)
+        → Allows (lake_after cut digest) (expire_entry (commit (first cut) ∷ [])) → ⊥ }
 {}

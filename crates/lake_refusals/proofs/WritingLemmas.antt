@@ -1,6 +1,6 @@
 -- Why uploads, changes, seals and settings are allowed and refused.
-use Rattle.std.proofs.Common.{◌≡◌, ℕ, true, List, refl, sym, ap, subst, ◌∙◌, arith}
-use Rattle.std.specs.Prelude.{Option, Some, None, option_map, option_and_then}
+use Rattle.std.proofs.Common.{◌≡◌, ℕ, true, false, List, refl, sym, ap, subst, ◌∙◌, arith}
+use Rattle.std.specs.Prelude.{◌↔◌, Option, Some, None, option_map, option_and_then}
 use Rattle.std.specs.Option.{unwrap_or}
 use Rattle.std.specs.FinMap.{get, empty, get-insert, get-empty}
 use Rattle.std.specs.Cmp.{nat_cmp_total}
@@ -13,7 +13,9 @@ use Rattle.lake_values.specs.declared.commit.ResetWhat.TheVariants as what
 use Rattle.lake_values.specs.declared.entry.Change.TheVariants.{Put, Delete}
 use Rattle.lake_values.specs.declared.settings.NoteName.TheVariants as name
 use Rattle.lake_format.specs.declared.cut.Cut.{Cut}
+use Rattle.lake_model.specs.declared.history.By.{By}
 use Rattle.lake_model.specs.declared.history.CopySource.TheVariants as source
+use Rattle.lake_model.specs.declared.history.HistoryEntry.{HistoryEntry}
 use Rattle.lake_model.specs.declared.history.Operation.{Operation}
 use Rattle.lake_model.specs.declared.history.Operation.TheVariants.{Copy, NoteSet, Reset, Seal, Stage, TicketDrop, TicketTake}
 use Rattle.lake_model.specs.declared.history.SealFor.TheVariants as seal
@@ -22,10 +24,10 @@ use Rattle.lake_model.specs.Branches.{IsUnprotected}
 use Rattle.lake_model.specs.Commits.{IsCommittable}
 use Rattle.lake_model.specs.NoteChanges.{IsNoteChange}
 use Rattle.lake_model.specs.Uncommitted.{MaySeal, after_ticket_take, copied_map}
-use Rattle.lake_model.specs.History.{Allows, IsPossible}
+use Rattle.lake_model.specs.History.{Allows, IsPossible, accepted_entry, after, faulted_entry}
 use Rattle.lake_model.specs.Soundness.{fresh}
 use Rattle.lake_histories.specs.Words.{quickstart, main, outside, own, entry_of, entry_by, ticket_entry, put_entry, delete_entry, seal_entry, commit_entry, IsCommitAdmissible}
-use Rattle.lake_refusals.specs.Lakes.{a, b, one_day, stopped_lake, lake_of_entries, ticket_lake, retaining_lake, ready_lake, protected_lake}
+use Rattle.lake_refusals.specs.Lakes.{a, b, fault_of, mail, one_day, stopped_lake, lake_of_entries, ticket_lake, retaining_lake, ready_lake, protected_lake}
 use Rattle.lake_histories.proofs.SceneLemmas.{scene, of_main, counted, get_one, main_there, on_main, the_main}
 use Rattle.lake_histories.proofs.EntriesLemmas.{first_repository, first_branch, may}
 use Rattle.lake_histories.proofs.CommitsLemmas.{may_commit, apart_at}
@@ -40,6 +42,16 @@ copied r x path =
     ap (λ (o : Option Branch). option_and_then (λ (map : KeyMapValue). get map path) (option_map (now_map (of_main r x)) o)) (main_there x)
     ∙ get_now x.staged x.sealed (head_map r x) path
 
+-- an operation that was tried asks what it asks where it is accepted, and nothing comes after it
+pub same_condition : (state : State) (by : By) (operation : Operation) → Allows state (faulted_entry by operation) ↔ Allows state (accepted_entry by operation)
+same_condition state by operation = (
+  λ may. record { running = may.running; room = may.room; possible = may.possible },
+  λ may. record { running = may.running; room = may.room; possible = may.possible },
+)
+
+pub nothing_after : (state : State) (by : By) (operation : Operation) (entry : HistoryEntry) → Allows (after state (faulted_entry by operation)) entry → ⊥
+nothing_after state by operation entry may = let running = may.running in absurd cc
+
 module _ (cut : Cut) where
   abbrev r0 : Repository
   r0 = first_repository cut
@@ -52,6 +64,9 @@ module _ (cut : Cut) where
 
   pub stopped_refused : Allows (stopped_lake cut) seal_entry → ⊥
   stopped_refused may = let running = may.running in absurd cc
+
+  pub running_allowed : Allows (record (stopped_lake cut) { stopped = false }) seal_entry
+  running_allowed = may (counted (fresh cut)) r0 b0 1 (Seal quickstart main seal.Commit) refl (omega arith) (on_main (λ r x. IsUnprotected r main) (counted (fresh cut)) r0 b0 refl)
 
   abbrev numbered : ℕ → State
   numbered entries = record (fresh cut) { entries = entries }
@@ -68,6 +83,13 @@ module _ (cut : Cut) where
   pub take_refused : Allows (fresh cut) (ticket_entry 1) → ⊥
   take_refused may = let next : 1 ≡ 0 = may.possible.1 in absurd (omega arith)
 
+  -- where a number may be given out, the store may fail at it
+  pub fault_allowed : Allows (fresh cut) (fault_of (TicketTake quickstart main 0))
+  fault_allowed = (same_condition (fresh cut) (record { seat = 1; call = 0 }) (TicketTake quickstart main 0)).1 take_allowed
+
+  pub fault_refused : Allows (fresh cut) (fault_of (TicketTake quickstart main 1)) → ⊥
+  fault_refused may = take_refused ((same_condition (fresh cut) (record { seat = 1; call = 0 }) (TicketTake quickstart main 1)).0 may)
+
   -- tickets
   abbrev ticketed : State
   ticketed = counted (after_ticket_take 1 0 (fresh cut))
@@ -77,6 +99,12 @@ module _ (cut : Cut) where
 
   not_on_other : get ticketed.tickets 0 ≡ Some 2 → ⊥
   not_on_other is = let n : ◌≡◌ {A = ℕ} 1 2 = ap (λ (o : Option ℕ). unwrap_or o 0) (sym on_ticket ∙ is) in absurd (omega (arith, n))
+
+  pub second_allowed : Allows (ticket_lake cut) (ticket_entry 1)
+  second_allowed = may ticketed r0 b0 1 (TicketTake quickstart main 1) refl (omega arith) (on_main (λ r x. IsUnprotected r main) ticketed r0 b0 refl, refl)
+
+  pub first_again : Allows (ticket_lake cut) (ticket_entry 0) → ⊥
+  first_again may = let next : 0 ≡ 1 = may.possible.1 in absurd (omega (arith, next))
 
   pub put_allowed : (digest : Digest) → Allows (ticket_lake cut) (put_entry a (own digest 0))
   put_allowed digest = may ticketed r0 b0 1 (Stage quickstart main a (Put (own digest 0))) refl (omega arith) (on_main (λ r x. IsUnprotected r main) ticketed r0 b0 refl, on_ticket)
@@ -92,6 +120,12 @@ module _ (cut : Cut) where
 
   pub drop_by_other : Allows (ticket_lake cut) (entry_by 2 (TicketDrop 0)) → ⊥
   drop_by_other may = not_on_other may.possible
+
+  no_second : get ticketed.tickets 1 ≡ None
+  no_second = get-insert nat_cmp_total empty 0 1 1 ∙ get-empty {X = ℕ} nat_cmp 1
+
+  pub drop_without : Allows (ticket_lake cut) (entry_of (TicketDrop 1)) → ⊥
+  drop_without may = let has : get ticketed.tickets 1 ≡ Some 1 = may.possible in absurd (cc (sym no_second ∙ has))
 
   -- copies
   abbrev Copied : List ℕ → EntryValue → Repository → Branch → Type 0
@@ -117,6 +151,16 @@ module _ (cut : Cut) where
       let has = (the_main (Copied a (own digest 0)) (second_state cut) r0 (a_sealed cut) may.possible).1 in
       let same : outside ≡ own digest 0 = cc (sym at_a ∙ has) in
       let places = ap (λ (x : EntryValue). x.place) same in absurd cc)
+
+  from_mail : option_and_then (λ (map : KeyMapValue). get map a) (copied_map (of_main r0 (a_sealed cut)) (source.Branch mail)) ≡ None
+  from_mail = ap (λ (o : Option Branch). option_and_then (λ (map : KeyMapValue). get map a) (option_map (now_map (of_main r0 (a_sealed cut))) o)) (get_one main (a_sealed cut) mail)
+
+  abbrev OfMail : Repository → Branch → Type 0
+  OfMail r x = IsUnprotected r main × (option_and_then (λ (map : KeyMapValue). get map a) (copied_map r (source.Branch mail)) ≡ Some outside)
+
+  pub copy_from_none : Allows (ready_lake cut) (entry_of (Copy quickstart main b (source.Branch mail) a outside)) → ⊥
+  copy_from_none = refuses_by (entry_of (Copy quickstart main b (source.Branch mail) a outside)) (ready_scene cut) (λ may.
+      let has = (the_main OfMail (second_state cut) r0 (a_sealed cut) may.possible).1 in absurd (cc (sym from_mail ∙ has)))
 
   -- settings
   pub deletion_allowed : Allows (retaining_lake cut) (entry_of (NoteSet quickstart name.Retention None))

@@ -4,14 +4,14 @@ use Rattle.lake_values.specs.declared.settings.Note.{Note}
 use Rattle.lake_values.specs.declared.settings.Note.TheVariants.{Retention, Protection}
 use Rattle.lake_values.specs.declared.settings.NoteName.TheVariants as name
 use Rattle.lake_format.specs.declared.cut.Cut.{Cut}
-use Rattle.lake_model.specs.declared.history.EntryKind.TheVariants.{Faulted}
 use Rattle.lake_model.specs.declared.history.HistoryEntry.{HistoryEntry}
+use Rattle.lake_model.specs.declared.history.Operation.{Operation}
 use Rattle.lake_model.specs.declared.history.Operation.TheVariants.{BranchCreate, TagCreate, Seal, NoteSet}
 use Rattle.lake_model.specs.declared.history.SealFor.TheVariants as seal
 use Rattle.lake_model.specs.State.{State}
 use Rattle.lake_model.specs.Parts.{in_repository}
 use Rattle.lake_model.specs.Removal.{with_expired}
-use Rattle.lake_model.specs.History.{after, replay}
+use Rattle.lake_model.specs.History.{after, faulted_entry, replay}
 use Rattle.lake_model.specs.Soundness.{fresh}
 use Rattle.lake_histories.specs.Words.{quickstart, main, first, outside, entry_of, ticket_entry, put_entry, seal_entry}
 
@@ -53,9 +53,13 @@ ma_protected = Protection (codes "ma*" ∷ [])
 abbrev pub protect_entry : HistoryEntry
 protect_entry = entry_of (NoteSet quickstart name.Protection (Some ma_protected))
 
--- the store failed as `main` was to be sealed
+-- the store failed as the seat 1 tried an operation
+abbrev pub fault_of : Operation → HistoryEntry
+fault_of operation = faulted_entry (record { seat = 1; call = 0 }) operation
+
+-- it failed as `main` was to be sealed
 abbrev pub fault_entry : HistoryEntry
-fault_entry = record { by = record { seat = 1; call = 0 }; kind = Faulted (Seal quickstart main seal.Commit) }
+fault_entry = fault_of (Seal quickstart main seal.Commit)
 
 abbrev pub stopped_lake : Cut → State
 stopped_lake cut = after (fresh cut) fault_entry

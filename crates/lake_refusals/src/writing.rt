@@ -1,5 +1,5 @@
 //! Uploads, changes, seals and settings.
-ghost use Rattle.std.specs.Prelude.{◌≡◌, ℕ, List, None, Some};
+ghost use Rattle.std.specs.Prelude.{◌≡◌, ◌↔◌, false, ℕ, List, None, Some};
 ghost use Rattle.lake_base.specs.declared.digest.Digest.{Digest};
 ghost use Rattle.lake_format.specs.declared.cut.Cut.{Cut};
 ghost use Rattle.lake_values.specs.Commit.{AboutValue};
@@ -7,21 +7,36 @@ ghost use Rattle.lake_values.specs.declared.commit.ResetWhat.TheVariants as what
 ghost use Rattle.lake_values.specs.declared.commit.Strategy.{Strategy};
 ghost use Rattle.lake_values.specs.declared.entry.Change.TheVariants.{Put};
 ghost use Rattle.lake_values.specs.declared.settings.NoteName.TheVariants as name;
+ghost use Rattle.lake_model.specs.declared.history.By.{By};
 ghost use Rattle.lake_model.specs.declared.history.CopySource.TheVariants as source;
-ghost use Rattle.lake_model.specs.declared.history.Operation.TheVariants.{Copy, NoteSet, Reset, Seal, Stage, TicketDrop};
+ghost use Rattle.lake_model.specs.declared.history.HistoryEntry.{HistoryEntry};
+ghost use Rattle.lake_model.specs.declared.history.Operation.{Operation};
+ghost use Rattle.lake_model.specs.declared.history.Operation.TheVariants.{Copy, NoteSet, Reset, Seal, Stage, TicketDrop, TicketTake};
 ghost use Rattle.lake_model.specs.declared.history.SealFor.TheVariants as seal;
 ghost use Rattle.lake_model.specs.State.{Branch, Repository, State};
 ghost use Rattle.lake_model.specs.Commits.{IsMerge, IsPick};
 ghost use Rattle.lake_model.specs.Uncommitted.{MaySeal};
-ghost use Rattle.lake_model.specs.History.{Allows};
+ghost use Rattle.lake_model.specs.History.{Allows, accepted_entry, after, faulted_entry};
 ghost use Rattle.lake_model.specs.Soundness.{fresh};
 ghost use Rattle.lake_histories.specs.Words.{quickstart, main, outside, own, entry_of, entry_by, ticket_entry, put_entry, delete_entry, seal_entry, commit_entry, IsCommitAdmissible};
-ghost use Rattle.lake_refusals.specs.Lakes.{a, b, one_day, stopped_lake, lake_of_entries, ticket_lake, retaining_lake, ready_lake, protected_lake};
+ghost use Rattle.lake_refusals.specs.Lakes.{a, b, fault_of, mail, one_day, stopped_lake, lake_of_entries, ticket_lake, retaining_lake, ready_lake, protected_lake};
 
-/// Nothing comes after a fault of the store, though it be possible.
+/// Nothing comes after a fault of the store, though it be possible, and be allowed were the lake not stopped.
 pub fn stopped()
+    ensures allowed { (cut : Cut) → Allows (record (stopped_lake cut) { stopped = false }) seal_entry }
     ensures others { (cut : Cut) → MaySeal (stopped_lake cut) quickstart main seal.Commit }
     ensures refused { (cut : Cut) → Allows (stopped_lake cut) seal_entry → ⊥ }
+{}
+
+/// The store failed as an operation was tried: such an entry is allowed where the operation would have been accepted,
+/// and nothing comes after it.
+pub fn faulted()
+    ensures allowed { (cut : Cut) → Allows (fresh cut) (fault_of (TicketTake quickstart main 0)) }
+    ensures refused { (cut : Cut) → Allows (fresh cut) (fault_of (TicketTake quickstart main 1)) → ⊥ }
+    ensures tried { (state : State) (by : By) (operation : Operation)
+        → Allows state (faulted_entry by operation) ↔ Allows state (accepted_entry by operation) }
+    ensures last { (state : State) (by : By) (operation : Operation) (entry : HistoryEntry)
+        → Allows (after state (faulted_entry by operation)) entry → ⊥ }
 {}
 
 /// A history has at most 4,194,304 entries.
@@ -30,10 +45,12 @@ pub fn full_history()
     ensures refused { (cut : Cut) → Allows (lake_of_entries 4194304 cut) seal_entry → ⊥ }
 {}
 
-/// The number isn't the next one.
+/// The number isn't the next one: it is above it, or was given out before.
 pub fn number_not_next()
     ensures allowed { (cut : Cut) → Allows (fresh cut) (ticket_entry 0) }
     ensures refused { (cut : Cut) → Allows (fresh cut) (ticket_entry 1) → ⊥ }
+    ensures allowed_second { (cut : Cut) → Allows (ticket_lake cut) (ticket_entry 1) }
+    ensures refused_again { (cut : Cut) → Allows (ticket_lake cut) (ticket_entry 0) → ⊥ }
 {}
 
 /// The ticket is another seat's, or there is none.
@@ -44,9 +61,10 @@ pub fn ticket_of_another()
     ensures without { (cut : Cut) (digest : Digest) → Allows (fresh cut) (put_entry a (own digest 0)) → ⊥ }
     ensures allowed_drop { (cut : Cut) → Allows (ticket_lake cut) (entry_of (TicketDrop 0)) }
     ensures refused_drop { (cut : Cut) → Allows (ticket_lake cut) (entry_by 2 (TicketDrop 0)) → ⊥ }
+    ensures drop_without { (cut : Cut) → Allows (ticket_lake cut) (entry_of (TicketDrop 1)) → ⊥ }
 {}
 
-/// The source of a copy hasn't the entry: nothing is at the path, or another entry.
+/// The source of a copy hasn't the entry: nothing is at the path, or another entry, or there is no such branch.
 pub fn entry_not_at_source()
     ensures allowed { (cut : Cut)
         → Allows (ready_lake cut) (entry_of (Copy quickstart main b (source.Branch main) a outside)) }
@@ -54,6 +72,8 @@ pub fn entry_not_at_source()
         → Allows (ready_lake cut) (entry_of (Copy quickstart main a (source.Branch main) b outside)) → ⊥ }
     ensures another { (cut : Cut) (digest : Digest)
         → Allows (ready_lake cut) (entry_of (Copy quickstart main b (source.Branch main) a (own digest 0))) → ⊥ }
+    ensures no_branch { (cut : Cut)
+        → Allows (ready_lake cut) (entry_of (Copy quickstart main b (source.Branch mail) a outside)) → ⊥ }
 {}
 
 /// What a protected branch refuses, and what is allowed where it isn't protected.

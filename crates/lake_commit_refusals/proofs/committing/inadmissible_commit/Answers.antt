@@ -1,4 +1,4 @@
-use Rattle.std.proofs.Common.{sym, ◌∙◌, inl, inr}
+use Rattle.std.proofs.Common.{sym, ◌∙◌}
 use Rattle.lake_commit_refusals.proofs.committing.inadmissible_commit.Goals as goal
 
 pub returns-clause-expired : goal.returns-clause-expired

@@ -12,3 +12,6 @@ returns-clause-twice c = lemmas.twice
 
 pub returns-clause-head : goal.returns-clause-head
 returns-clause-head c = lemmas.not_head
+
+pub returns-clause-no_commit : goal.returns-clause-no_commit
+returns-clause-no_commit c = lemmas.not_other

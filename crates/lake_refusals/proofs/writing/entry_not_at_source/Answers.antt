@@ -1,4 +1,4 @@
-use Rattle.lake_refusals.proofs.WritingLemmas.{copy_allowed, copy_of_nothing, copy_of_another}
+use Rattle.lake_refusals.proofs.WritingLemmas.{copy_allowed, copy_of_nothing, copy_of_another, copy_from_none}
 use Rattle.lake_refusals.proofs.writing.entry_not_at_source.Goals as goal
 
 pub returns-clause-allowed : goal.returns-clause-allowed
@@ -9,3 +9,6 @@ returns-clause-nothing_there c = copy_of_nothing
 
 pub returns-clause-another : goal.returns-clause-another
 returns-clause-another c = copy_of_another
+
+pub returns-clause-no_branch : goal.returns-clause-no_branch
+returns-clause-no_branch c = copy_from_none

@@ -1,5 +1,8 @@
-use Rattle.lake_refusals.proofs.WritingLemmas.{stopped_others, stopped_refused}
+use Rattle.lake_refusals.proofs.WritingLemmas.{running_allowed, stopped_others, stopped_refused}
 use Rattle.lake_refusals.proofs.writing.stopped.Goals as goal
+
+pub returns-clause-allowed : goal.returns-clause-allowed
+returns-clause-allowed c = running_allowed
 
 pub returns-clause-others : goal.returns-clause-others
 returns-clause-others c = stopped_others

@@ -1,4 +1,4 @@
-use Rattle.lake_refusals.proofs.WritingLemmas.{put_allowed, put_by_other, put_without, drop_allowed, drop_by_other}
+use Rattle.lake_refusals.proofs.WritingLemmas.{put_allowed, put_by_other, put_without, drop_allowed, drop_by_other, drop_without}
 use Rattle.lake_refusals.proofs.writing.ticket_of_another.Goals as goal
 
 pub returns-clause-allowed : goal.returns-clause-allowed
@@ -15,3 +15,6 @@ returns-clause-allowed_drop c = drop_allowed
 
 pub returns-clause-refused_drop : goal.returns-clause-refused_drop
 returns-clause-refused_drop c = drop_by_other
+
+pub returns-clause-drop_without : goal.returns-clause-drop_without
+returns-clause-drop_without c = drop_without
