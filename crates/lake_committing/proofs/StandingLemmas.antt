@@ -22,7 +22,7 @@ use Rattle.lake_model.specs.Refusals.{IsClashOrNone}
 use Rattle.lake_model.specs.Soundness.{IsSound, IsSoundRepository}
 use Rattle.lake_state.specs.Index.{HasIndex}
 use Rattle.lake_state.specs.Lakes.{LakeStateValue, state_of}
-use Rattle.lake_state.specs.NewHeads.{NewCommit, drafted}
+use Rattle.lake_state.specs.NewHeads.{NewCommit, commit_of_draft}
 use Rattle.lake_state.specs.Repositories.{RepositoryStateValue, repository_of}
 use Rattle.lake_committing.specs.Keeping.{MayHave}
 
@@ -32,7 +32,7 @@ AreSpelledApart = (a b : CommitRecordValue) → IsSpelledCommit a → IsSpelledC
 
 module _ (l : LakeStateValue) (repo : List ℕ) (r : RepositoryStateValue) (draft : Draft) (new : NewCommit)
     (sound : IsSound (state_of l)) (index : HasIndex l) (at : get l.repositories repo ≡ Some r)
-    (is : new ≡ drafted l.cut r.commits draft) (none : IsClashOrNone (state_of l) (repository_of r) draft None) where
+    (is : new ≡ commit_of_draft l.cut r.commits draft) (none : IsClashOrNone (state_of l) (repository_of r) draft None) where
   in_state : get (state_of l).repositories repo ≡ Some (repository_of r)
   in_state = get_map_values repository_of l.repositories repo ∙ ap (option_map repository_of) at
 

@@ -20,7 +20,7 @@ use Rattle.lake_model.specs.Steps.{IsReplyOf, IsSwapReply, new_commit as model_c
 use Rattle.lake_model.specs.Versions.{VersionsGiven}
 use Rattle.lake_state.specs.Branches.{BranchStateValue, branch_of}
 use Rattle.lake_state.specs.Lakes.{LakeStateValue, state_of}
-use Rattle.lake_state.specs.NewHeads.{NewCommit, drafted}
+use Rattle.lake_state.specs.NewHeads.{NewCommit, commit_of_draft}
 use Rattle.lake_state.specs.Repositories.{RepositoryStateValue, repository_of}
 use Rattle.lake_keeping.specs.Keeping.{Parts}
 use Rattle.lake_keeping.specs.Views.{KeeperView}
@@ -174,7 +174,7 @@ module _ (l : LakeStateValue) (given : VersionsGiven) (repo branch : List ℕ) (
         on_branch : (r : RepositoryStateValue) (o : Option BranchStateValue)
             → option_map with_id
             (option_map (λ b. record_of l.cut r.commits ((swap_rule swap about).draft (repository_of r) b)) (option_map branch_of o))
-            ≡ option_map told_of (option_map (λ b. drafted l.cut r.commits (draft_for swap about r b)) o)
+            ≡ option_map told_of (option_map (λ b. commit_of_draft l.cut r.commits (draft_for swap about r b)) o)
         on_branch r None = refl
         on_branch r (Some b) = refl
 
@@ -182,7 +182,7 @@ module _ (l : LakeStateValue) (given : VersionsGiven) (repo branch : List ℕ) (
             → option_map with_id
             (option_and_then (λ r. option_map (λ b. record_of l.cut r.commits ((swap_rule swap about).draft r b)) (get r.branches branch)) (option_map repository_of o))
             ≡ option_map told_of
-            (option_and_then (λ r. option_map (λ b. drafted l.cut r.commits (draft_for swap about r b)) (get r.branches branch)) o)
+            (option_and_then (λ r. option_map (λ b. commit_of_draft l.cut r.commits (draft_for swap about r b)) (get r.branches branch)) o)
         in_repository None = refl
         in_repository (Some r) =
             ap (λ o. option_map with_id (option_map (λ b. record_of l.cut r.commits ((swap_rule swap about).draft (repository_of r) b)) o))
@@ -198,14 +198,14 @@ module _ (l : LakeStateValue) (given : VersionsGiven) (repo branch : List ℕ) (
 
 module _ (l : LakeStateValue) (sound : IsSound (state_of l)) (repo branch : List ℕ) (swap : SwapKind) (about : AboutValue) (new : NewCommit) where
   plain_on : (r : RepositoryStateValue) → get l.repositories repo ≡ Some r → (o : Option BranchStateValue) → get r.branches branch ≡ o
-      → option_map (λ b. drafted l.cut r.commits (draft_for swap about r b)) o ≡ Some new → is_like_id branch ≡ false
+      → option_map (λ b. commit_of_draft l.cut r.commits (draft_for swap about r b)) o ≡ Some new → is_like_id branch ≡ false
   plain_on r at None on is = absurd cc
   plain_on r at (Some b) on is =
       (sound.repositories repo (repository_of r) (get_map_values repository_of l.repositories repo ∙ ap (option_map repository_of) at)).plain_branches branch
       (ap is_some (get_map_values branch_of r.branches branch ∙ ap (option_map branch_of) on))
 
   plain_in : (o : Option RepositoryStateValue) → get l.repositories repo ≡ o
-      → option_and_then (λ r. option_map (λ b. drafted l.cut r.commits (draft_for swap about r b)) (get r.branches branch)) o ≡ Some new
+      → option_and_then (λ r. option_map (λ b. commit_of_draft l.cut r.commits (draft_for swap about r b)) (get r.branches branch)) o ≡ Some new
       → is_like_id branch ≡ false
   plain_in None at is = absurd cc
   plain_in (Some r) at is = plain_on r at (get r.branches branch) refl is

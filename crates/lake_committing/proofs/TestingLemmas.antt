@@ -24,7 +24,7 @@ use Rattle.lake_state.specs.Branches.{BranchStateValue, branch_of}
 use Rattle.lake_state.specs.Counts.{HasVersions, versions_of}
 use Rattle.lake_state.specs.Index.{HasIndex}
 use Rattle.lake_state.specs.Lakes.{LakeStateValue, state_of}
-use Rattle.lake_state.specs.NewHeads.{NewCommit, drafted}
+use Rattle.lake_state.specs.NewHeads.{NewCommit, commit_of_draft}
 use Rattle.lake_state.specs.Repositories.{RepositoryStateValue, repository_of}
 use Rattle.lake_causes.specs.Clashing.{AsksForBytes, first_clash, first_twins}
 use Rattle.lake_causes.specs.Guarding.{guard_causes}
@@ -198,14 +198,14 @@ module _ (l : LakeStateValue) (given : VersionsGiven) (repo branch : List ℕ) (
 
 module _ (l : LakeStateValue) (repo branch : List ℕ) (swap : SwapKind) (about : AboutValue) (r : RepositoryStateValue) (b : BranchStateValue)
     (at : get l.repositories repo ≡ Some r) (on : get r.branches branch ≡ Some b) (new : NewHead)
-    (is : new_commit new ≡ drafted l.cut r.commits (draft_for swap about r b)) where
+    (is : new_commit new ≡ commit_of_draft l.cut r.commits (draft_for swap about r b)) where
   abbrev draft : Draft
   draft = draft_for swap about r b
 
   pub found_in : drafted_in repo branch swap about l ≡ Some (new_commit new)
   found_in =
-      ap (option_and_then (λ r. option_map (λ b. drafted l.cut r.commits (draft_for swap about r b)) (get r.branches branch))) at
-      ∙ ap (option_map (λ b. drafted l.cut r.commits (draft_for swap about r b))) on ∙ ap Some (sym is)
+      ap (option_and_then (λ r. option_map (λ b. commit_of_draft l.cut r.commits (draft_for swap about r b)) (get r.branches branch))) at
+      ∙ ap (option_map (λ b. commit_of_draft l.cut r.commits (draft_for swap about r b))) on ∙ ap Some (sym is)
 
   -- what is expired of it
   pub expired_is : swap_expired (state_of l) repo branch (swap_rule swap about)
@@ -250,7 +250,7 @@ module _ (l : LakeStateValue) (sound : IsSound (state_of l)) (index : HasIndex l
   room_found = has_room l (versions_of l) repo branch version settings (swap_rule swap about).protects (passes (versions_of l) own)
 
   module _ (new : NewHead) (drafts : IsDrafted l.cut r b swap about tree new) where
-    is_new : new_commit new ≡ drafted l.cut r.commits (draft_for swap about r b)
+    is_new : new_commit new ≡ commit_of_draft l.cut r.commits (draft_for swap about r b)
     is_new =
         drafts.drafted (tree_drafted l (versions_of l) repo branch version settings (swap_rule swap about).protects (passes (versions_of l) own) own
         swap about tree due r b at on)
@@ -292,7 +292,7 @@ module _ (l : LakeStateValue) (sound : IsSound (state_of l)) (index : HasIndex l
               (asks (repository_of r) (draft_for swap about r b) own_bytes) x
 
           pub head_found : ((m : LakeStateValue) (q : List ℕ) (draft : Draft) → IsSound (state_of m) → HasIndex m → get m.repositories q ≡ Some r
-              → new_commit new ≡ drafted m.cut r.commits draft → IsClashOrNone (state_of m) (repository_of r) draft None → MayHave (new_commit new) r)
+              → new_commit new ≡ commit_of_draft m.cut r.commits draft → IsClashOrNone (state_of m) (repository_of r) draft None → MayHave (new_commit new) r)
               → IsNewHead l repo branch swap about new
           head_found stands = record {
             drafted = found_in l repo branch swap about r b at on new is_new;

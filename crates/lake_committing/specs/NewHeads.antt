@@ -13,7 +13,7 @@ use Rattle.lake_model.specs.declared.reply.SwapKind.TheVariants as kind
 use Rattle.lake_model.specs.Commits.{Draft}
 use Rattle.lake_model.specs.Steps.{swap_rule}
 use Rattle.lake_state.specs.Branches.{BranchStateValue, branch_of}
-use Rattle.lake_state.specs.NewHeads.{NewCommit, drafted}
+use Rattle.lake_state.specs.NewHeads.{NewCommit, commit_of_draft}
 use Rattle.lake_state.specs.Repositories.{RepositoryStateValue, repository_of}
 use Rattle.lake_committing.specs.declared.commits.NewHead.{NewHead}
 
@@ -42,7 +42,7 @@ pub record IsDrafted (cut : Cut) (r : RepositoryStateValue) (b : BranchStateValu
   pub content : new.content ≡ file_of (commit_spelling new.commit)
   pub limits : IsSpelledCommit new.commit
   pub tree : new.tree.value ≡ built
-  pub drafted : IsTreeFor cut (draft_for swap about r b) built → new_commit new ≡ drafted cut r.commits (draft_for swap about r b)
+  pub drafted : IsTreeFor cut (draft_for swap about r b) built → new_commit new ≡ commit_of_draft cut r.commits (draft_for swap about r b)
 
 -- a repository without a commit
 abbrev pub without_commit : Digest → RepositoryStateValue → RepositoryStateValue

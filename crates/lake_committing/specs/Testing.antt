@@ -11,7 +11,7 @@ use Rattle.lake_model.specs.Steps.{IsSwapClash, swap_causes, swap_rule}
 use Rattle.lake_model.specs.Versions.{VersionsGiven}
 use Rattle.lake_state.specs.Branches.{BranchStateValue}
 use Rattle.lake_state.specs.Lakes.{LakeStateValue, state_of}
-use Rattle.lake_state.specs.NewHeads.{NewCommit, drafted}
+use Rattle.lake_state.specs.NewHeads.{NewCommit, commit_of_draft}
 use Rattle.lake_state.specs.Repositories.{RepositoryStateValue}
 use Rattle.lake_causes.specs.Clashing.{TellsOrFails}
 use Rattle.lake_committing.specs.declared.commits.NewHead.{NewHead}
@@ -21,7 +21,7 @@ use Rattle.lake_committing.specs.NewHeads.{IsTreeFor, draft_for, new_commit}
 -- the commit that is drafted for a branch, where that is there
 abbrev pub drafted_in : List ℕ → List ℕ → SwapKind → AboutValue → LakeStateValue → Option NewCommit
 drafted_in repo branch swap about l =
-    option_and_then (λ r. option_map (λ b. drafted l.cut r.commits (draft_for swap about r b)) (get r.branches branch))
+    option_and_then (λ r. option_map (λ b. commit_of_draft l.cut r.commits (draft_for swap about r b)) (get r.branches branch))
     (get l.repositories repo)
 
 -- where both versions are those now, a tree is that of the map that is drafted, by the lake's cut

@@ -7,7 +7,7 @@ ghost use Rattle.lake_model.specs.Refusals.{IsClashOrNone};
 ghost use Rattle.lake_model.specs.Soundness.{IsSound};
 ghost use Rattle.lake_state.specs.Index.{HasIndex};
 ghost use Rattle.lake_state.specs.Lakes.{LakeStateValue, state_of};
-ghost use Rattle.lake_state.specs.NewHeads.{drafted};
+ghost use Rattle.lake_state.specs.NewHeads.{commit_of_draft};
 ghost use Rattle.lake_state.specs.Repositories.{repository_of, repository_value};
 ghost use Rattle.lake_committing.specs.Keeping.{MayHave};
 ghost use Rattle.lake_committing.specs.NewHeads.{new_commit};
@@ -23,7 +23,7 @@ pub fn law_of_standing(repository: &RepositoryState, new: &NewHead)
     requires { IsSpelledCommit new.now.commit }
     ensures { (l : LakeStateValue) (repo : List ℕ) (draft : Draft) → IsSound (state_of l) → HasIndex l
         → get l.repositories repo ≡ Some (repository_value repository.now)
-        → new_commit new.now ≡ drafted l.cut (repository_value repository.now).commits draft
+        → new_commit new.now ≡ commit_of_draft l.cut (repository_value repository.now).commits draft
         → IsClashOrNone (state_of l) (repository_of (repository_value repository.now)) draft None
         → MayHave (new_commit new.now) (repository_value repository.now) }
 {

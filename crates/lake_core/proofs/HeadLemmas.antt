@@ -28,7 +28,7 @@ use Rattle.lake_state.specs.Branches.{BranchStateValue, branch_of}
 use Rattle.lake_state.specs.Counts.{HasVersions}
 use Rattle.lake_state.specs.declared.lake.LakeState.{LakeState}
 use Rattle.lake_state.specs.Lakes.{LakeStateValue, lake_value, state_of}
-use Rattle.lake_state.specs.NewHeads.{NewCommit, drafted}
+use Rattle.lake_state.specs.NewHeads.{NewCommit, commit_of_draft}
 use Rattle.lake_state.specs.Repositories.{RepositoryStateValue, repository_of}
 use Rattle.lake_changes.specs.LakeChanges.{after_fault, after_new_head}
 use Rattle.lake_puts.specs.Puts.{new_head_puts}
@@ -102,7 +102,7 @@ module _ (repo branch : List ℕ) (swap : SwapKind) (about : AboutValue) (presen
   }
 
   abbrev of : RepositoryStateValue → BranchStateValue → NewCommit
-  of r b = drafted lake.cut r.commits (draft_for swap about r b)
+  of r b = commit_of_draft lake.cut r.commits (draft_for swap about r b)
 
   on_branch : (r : RepositoryStateValue) → get lake.repositories repo ≡ Some r → (o : Option BranchStateValue) → get r.branches branch ≡ o
       → IsSomeAnd (option_map making_of (option_map (of r) o)) P → IsMadeOn lake repo branch (λ r b. P (making_of (of r b)))
@@ -126,7 +126,7 @@ module _ (l : LakeStateValue) (branch : List ℕ) (r : RepositoryStateValue) (b 
     draft = draft_for swap about r b
 
     abbrev new : NewCommit
-    new = drafted l.cut r.commits draft
+    new = commit_of_draft l.cut r.commits draft
 
     -- a commit of its id is this one
     same_record : MayHave new r → (old : CommitRecordValue) → commit_of r.commits new.id ≡ Some old → old ≡ record_of l.cut r.commits draft
@@ -156,7 +156,7 @@ TellsOfHeads = (opened : LakeStateValue) (history : List HistoryEntry) (present 
     → IsSwapClash (state_of present) repo branch (swap_rule swap about) None
     → WhereThere (state_of present) repo branch (IsPrepared (state_of present) branch swap about)
     → WhereThere (state_of present) repo branch
-    (λ r b. new ≡ drafted present.cut r.commits ((swap_rule swap about).draft r b))
+    (λ r b. new ≡ commit_of_draft present.cut r.commits ((swap_rule swap about).draft r b))
     → MayMake opened history present by (swap_operation repo branch swap about) (after_new_head repo branch new)
 
 module _ (law : TellsOfHeads) (opened : LakeStateValue) (history : List HistoryEntry) (l : LakeStateValue) (stands : Stands opened history l)
@@ -184,18 +184,18 @@ module _ (law : TellsOfHeads) (opened : LakeStateValue) (history : List HistoryE
   -- it may be made
   pub may_head : (clash : Option Clash) → IsSwapClash (state_of l) repo branch (swap_rule swap about) clash → first_cause (causes clash) ≡ None
       → (r : RepositoryStateValue) (b : BranchStateValue) (at : get l.repositories repo ≡ Some r) (on : get r.branches branch ≡ Some b)
-      → MayHaveIn repo (drafted l.cut r.commits (draft_for swap about r b)) l
-      → MayMake opened history l by (swap_operation repo branch swap about) (after_new_head repo branch (drafted l.cut r.commits (draft_for swap about r b)))
+      → MayHaveIn repo (commit_of_draft l.cut r.commits (draft_for swap about r b)) l
+      → MayMake opened history l by (swap_operation repo branch swap about) (after_new_head repo branch (commit_of_draft l.cut r.commits (draft_for swap about r b)))
   may_head clash there none r b at on have =
       let gone = clear clash none in
-      let new = drafted l.cut r.commits (draft_for swap about r b) in
+      let new = commit_of_draft l.cut r.commits (draft_for swap about r b) in
       law opened history l by repo branch version settings swap about new stands
       (subst (λ c. first_cause (causes c) ≡ None) gone none)
       (subst (IsSwapClash (state_of l) repo branch (swap_rule swap about)) gone there)
       (where_there l repo branch r b at on (IsPrepared (state_of l) branch swap about)
       (prepared l branch r b swap about tree
       (ready (now clash none) (repository_of r) (branch_of b) (in_state l repo branch r b at on) (on_state l repo branch r b at on)) (have r at)))
-      (where_there l repo branch r b at on (λ r b. new ≡ drafted l.cut r.commits ((swap_rule swap about).draft r b)) refl)
+      (where_there l repo branch r b at on (λ r b. new ≡ commit_of_draft l.cut r.commits ((swap_rule swap about).draft r b)) refl)
 
 -- ---- the lake stands afterwards
 

@@ -19,7 +19,7 @@ use Rattle.lake_state.specs.Repositories.{RepositoryStateValue, repository_of}
 use Rattle.lake_state.specs.Lakes.{LakeStateValue, state_of}
 use Rattle.lake_changes.specs.LakeChanges.{with_entry, with_references, with_version}
 use Rattle.lake_changes.proofs.IndexLemmas.{made_of}
-use Rattle.lake_state.specs.NewHeads.{NewCommit, drafted, with_names, with_new_commit, with_new_head}
+use Rattle.lake_state.specs.NewHeads.{NewCommit, commit_of_draft, with_names, with_new_commit, with_new_head}
 use Rattle.lake_changes.specs.LakeChanges.{after_new_head}
 
 -- ---- the branch
@@ -70,7 +70,7 @@ pub record IsCommitOf (cut : Cut) (graph : Graph) (draft : Draft) (new : NewComm
   pub map : new.tree.map ≡ draft.objects
   pub files : new.tree.files ≡ files cut draft.objects
 
-pub by_parts : (cut : Cut) (graph : Graph) (draft : Draft) (new : NewCommit) → new ≡ drafted cut graph draft → IsCommitOf cut graph draft new
+pub by_parts : (cut : Cut) (graph : Graph) (draft : Draft) (new : NewCommit) → new ≡ commit_of_draft cut graph draft → IsCommitOf cut graph draft new
 by_parts cut graph draft new is = record {
   content = ap (λ (n : NewCommit). n.content) is;
   id = ap (λ (n : NewCommit). n.id) is;

@@ -9,7 +9,7 @@ ghost use Rattle.lake_model.specs.Steps.{IsSwapClash, swap_causes, swap_operatio
 ghost use Rattle.step_laws.specs.Prepared.{IsPrepared, WhereThere};
 ghost use Rattle.lake_state.specs.Lakes.{LakeStateValue, state_of};
 ghost use Rattle.lake_standing.specs.Standing.{MayMake, Stands, versions_since};
-ghost use Rattle.lake_state.specs.NewHeads.{NewCommit, drafted};
+ghost use Rattle.lake_state.specs.NewHeads.{NewCommit, commit_of_draft};
 ghost use Rattle.lake_changes.specs.LakeChanges.{after_new_head};
 
 use lake_changes::{laws_of_few, laws_of_indexes};
@@ -27,7 +27,7 @@ pub fn law_of_new_heads()
         → IsSwapClash (state_of present) repo branch (swap_rule swap about) None
         → WhereThere (state_of present) repo branch (IsPrepared (state_of present) branch swap about)
         → WhereThere (state_of present) repo branch
-        (λ r b. new ≡ drafted present.cut r.commits ((swap_rule swap about).draft r b))
+        (λ r b. new ≡ commit_of_draft present.cut r.commits ((swap_rule swap about).draft r b))
         → MayMake opened history present by (swap_operation repo branch swap about) (after_new_head repo branch new) }
 {
     law_of_swap_steps();

@@ -6,7 +6,7 @@ use Rattle.std.proofs.lemmas.Bool.{leb-true, le-leb}
 use Rattle.std.proofs.lemmas.List.Kept.{IsStrictlySortedBy-filter}
 use Rattle.std.proofs.lemmas.Slice.Eq.{bytes_eq-Decides}
 use Rattle.lake_values.specs.Ancestry.{Graph, IsGraph, id_order, ids, same_id, date, first_parent, walk}
-use Rattle.lake_values.specs.Keeping.{cutoff, days_of, IsHead, IsFollower, IsFollowed, IsYoung, IsKeptBy, IsKept, is_id, is_head, is_follower, is_followed, is_young, is_kept, kept}
+use Rattle.lake_values.specs.Keeping.{cutoff, days_of, IsHead, IsFollower, IsFollowed, IsYoung, IsKeptBy, IsKept, is_id, is_head, is_follower, is_followed, is_young, is_kept, kept_ids}
 use Rattle.lake_values.specs.Settings.{RulesValue}
 use Rattle.lake_base.specs.declared.digest.Digest.{Digest}
 use Rattle.lake_values.proofs.AncestryOrderLemmas.{ids_from, ids_to, ids_ascend}
@@ -153,16 +153,16 @@ module _ (g : Graph) (graph : IsGraph g) where
         or_second (is_head heads id) _ (or_second (list_any (same_id id) tags) _ (or_second (is_followed g heads rules now id) _ (young_to heads rules now id young)))
 
   module _ (heads : List (List ℕ × Digest)) (tags : List Digest) (rules : Option RulesValue) (now : ℕ) where
-    pub kept_from : (id : Digest) → Contains (kept g heads tags rules now) id → IsKept g heads tags rules now id
-    unfolding kept
+    pub kept_from : (id : Digest) → Contains (kept_ids g heads tags rules now) id → IsKept g heads tags rules now id
+    unfolding kept_ids
     kept_from id within =
         let two = Contains-from_filter (is_kept g heads tags rules now) (ids g) id within in
         (ids_from g id two.0, by_from heads tags now id rules two.1)
 
-    pub kept_to : (id : Digest) → IsKept g heads tags rules now id → Contains (kept g heads tags rules now) id
-    unfolding kept
+    pub kept_to : (id : Digest) → IsKept g heads tags rules now id → Contains (kept_ids g heads tags rules now) id
+    unfolding kept_ids
     kept_to id k = Contains-filter (is_kept g heads tags rules now) (ids g) id (ids_to g id k.0) (by_to heads tags now id rules k.1)
 
-pub kept_ascends : (g : Graph) (heads : List (List ℕ × Digest)) (tags : List Digest) (rules : Option RulesValue) (now : ℕ) → IsStrictlySortedBy id_order (kept g heads tags rules now)
-unfolding kept
+pub kept_ascends : (g : Graph) (heads : List (List ℕ × Digest)) (tags : List Digest) (rules : Option RulesValue) (now : ℕ) → IsStrictlySortedBy id_order (kept_ids g heads tags rules now)
+unfolding kept_ids
 kept_ascends g heads tags rules now = IsStrictlySortedBy-filter id_order (is_kept g heads tags rules now) (ids g) (ids_ascend g)

@@ -9,7 +9,7 @@ ghost use Rattle.std.specs.Prelude.{◌≡◌, ◌↔◌, ◌≤◌, ℕ, List, 
 ghost use Rattle.std.specs.List.{Contains, insert};
 ghost use Rattle.std.specs.List.Sorted.{IsStrictlySortedBy};
 ghost use Rattle.lake_values.specs.Ancestry.{Graph, graph_of, IsGraph, id_order};
-ghost use Rattle.lake_values.specs.Keeping.{cutoff, days_of, IsHead, IsFollower, IsFollowed, IsYoung, IsKept, IsKeptBy, kept};
+ghost use Rattle.lake_values.specs.Keeping.{cutoff, days_of, IsHead, IsFollower, IsFollowed, IsYoung, IsKept, IsKeptBy, kept_ids};
 ghost use Rattle.lake_values.specs.Settings.{RulesValue};
 ghost use Rattle.lake_base.specs.declared.digest.Digest.{Digest as Id};
 ghost use Rattle.lake_reference.specs.OrderSteps.{with_item};
@@ -56,7 +56,7 @@ pub fn kept(
     now: u64,
 ) -> Result<Sequence<CommitId>, NoMemory>
     requires { IsGraph (graph_of commits.now) }
-    ensures { IfOk result (λ ids. ids ≡ kept (graph_of commits.now) heads.now tags.now (option_copied rules.entry) now) }
+    ensures { IfOk result (λ ids. ids ≡ kept_ids (graph_of commits.now) heads.now tags.now (option_copied rules.entry) now) }
 {
     let mut kept = Vec::new(alloc);
     for (id, _) in commits {
@@ -71,9 +71,9 @@ pub fn kept(
 /// as bytes. (A law: it does nothing.)
 pub fn law_of_kept()
     ensures all { (graph : Graph) (heads : List (List ℕ × Id)) (tags : List Id) (rules : Option RulesValue) (now : ℕ) (id : Id)
-        → IsGraph graph → Contains (kept graph heads tags rules now) id ↔ IsKept graph heads tags rules now id }
+        → IsGraph graph → Contains (kept_ids graph heads tags rules now) id ↔ IsKept graph heads tags rules now id }
     ensures order { (graph : Graph) (heads : List (List ℕ × Id)) (tags : List Id) (rules : Option RulesValue) (now : ℕ)
-        → IsStrictlySortedBy id_order (kept graph heads tags rules now) }
+        → IsStrictlySortedBy id_order (kept_ids graph heads tags rules now) }
 {}
 
 // Puts an id in its place among ids in order, where it isn't among them.

@@ -23,8 +23,8 @@ pub record NewCommit : Type 0 where
   pub tree : TreeValue
 
 -- the commit of a draft: its tree is that of the draft's map, with the files that the cut gives
-abbrev pub drafted : Cut → Graph → Draft → NewCommit
-drafted cut graph draft = record {
+abbrev pub commit_of_draft : Cut → Graph → Draft → NewCommit
+commit_of_draft cut graph draft = record {
   id = commit_id (record_of cut graph draft);
   content = record_of cut graph draft;
   tree = record { map = draft.objects; files = files cut draft.objects };

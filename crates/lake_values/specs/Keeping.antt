@@ -86,5 +86,5 @@ is_kept graph heads tags (Some rules) now id =
     || (list_any (same_id id) tags || (is_followed graph heads rules now id || is_young graph heads rules now id))
 
 -- the kept commits, each once, in order of id
-unfoldable pub kept : Graph → List (List ℕ × Digest) → List Digest → Option RulesValue → ℕ → List Digest
-kept graph heads tags rules now = filter (is_kept graph heads tags rules now) (ids graph)
+unfoldable pub kept_ids : Graph → List (List ℕ × Digest) → List Digest → Option RulesValue → ℕ → List Digest
+kept_ids graph heads tags rules now = filter (is_kept graph heads tags rules now) (ids graph)

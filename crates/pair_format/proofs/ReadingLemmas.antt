@@ -26,7 +26,7 @@ use Rattle.pair_format.specs.declared.stored.Stored.{Stored}
 use Rattle.pair_format.specs.declared.stored.Stored.TheVariants.{Repository, Branch, Tag, Commit, MetaRange, Range, Staged, Note, Gone, Counts}
 use Rattle.pair_format.specs.Keys.{kind_of, note_number}
 use Rattle.pair_format.specs.Spelling.{key_of, key_spelling, value_spelling, pair_spelling, flag, IsSpelledKey, IsSpelledValue, IsSpelledStored}
-use Rattle.pair_format.specs.Reading.{Reader, both, map_reader, read_u64, read_digest, read_repo, read_ref, read_rest, read_path, read_note, read_tokens, read_flag, read_versioned, read_change, key_fields, value_fields, alone, read_key, read_value, placed, value_from, pair_from}
+use Rattle.pair_format.specs.Reading.{Reader, both, map_reader, read_u64, read_digest, read_repo, read_ref, read_rest, read_path, read_note, read_tokens, read_flag, read_versioned, read_change, key_fields, value_fields, alone, read_key, read_value, with_place, value_from, pair_from}
 use Rattle.pair_format.proofs.FieldsLemmas.{IsReader, both_reader, u64_reader, digest_reader, repo_reader, ref_reader, note_reader, flag_reader, change_reader, tokens_reader}
 
 -- ---- readers that take all that is left
@@ -344,7 +344,7 @@ value_again (Counts number version token) is =
 
 -- ---- pairs
 
-placed_ok : {A : Type 0} (side : ℕ → PairFault) (n : ℕ) (r : Result A FieldFault) (y : A) → placed side n r ≡ Ok y → r ≡ Ok y
+placed_ok : {A : Type 0} (side : ℕ → PairFault) (n : ℕ) (r : Result A FieldFault) (y : A) → with_place side n r ≡ Ok y → r ≡ Ok y
 placed_ok side n (Ok x) y e = let same : x ≡ y = cc in ap (λ z. Ok z) same
 placed_ok side n (Err fault) y e = absurd cc
 
@@ -357,7 +357,7 @@ pair_parts : (key value : List ℕ) (s : Stored) → pair_from key value ≡ Ok 
 unfolding pair_from
 pair_parts key value s e = by (read_key key) refl e
   where
-    by : (r : Result OwnedKey FieldFault) → read_key key ≡ r → value_from value (placed Key (length key) r) ≡ Ok s → Parts key value s
+    by : (r : Result OwnedKey FieldFault) → read_key key ≡ r → value_from value (with_place Key (length key) r) ≡ Ok s → Parts key value s
     by (Ok k) is h = record { parts = k; key_is = is; value_is = placed_ok Value (length value) (read_value k value) s h }
     by (Err fault) is h = absurd cc
 
@@ -371,8 +371,8 @@ found key value s key_fits value_fits e =
 pub again : (s : Stored) → IsSpelledStored s → pair_from (key_spelling (key_of s)) (value_spelling s) ≡ Ok s
 unfolding pair_from
 again s is =
-    ap (λ r. value_from (value_spelling s) (placed Key (length (key_spelling (key_of s))) r)) (key_again (key_of s) is.named)
-    ∙ ap (λ (r : Result (Stored × List ℕ) FieldFault). placed Value (length (value_spelling s)) (r >>= alone)) (value_again s is.valued)
+    ap (λ r. value_from (value_spelling s) (with_place Key (length (key_spelling (key_of s))) r)) (key_again (key_of s) is.named)
+    ∙ ap (λ (r : Result (Stored × List ℕ) FieldFault). with_place Value (length (value_spelling s)) (r >>= alone)) (value_again s is.valued)
 
 abbrev done : Stored → Result Stored PairFault
 done s = Ok s

@@ -178,15 +178,15 @@ fault_at side n (Bad left) = side (n - left)
 fault_at side n FieldNoMemory = NoMemory
 
 -- what is read on one side of a pair, which has n bytes there
-abbrev pub placed : {A : Type 0} → (ℕ → PairFault) → ℕ → Result A FieldFault → Result A PairFault
-placed side n (Ok x) = Ok x
-placed side n (Err fault) = Err (fault_at side n fault)
+abbrev pub with_place : {A : Type 0} → (ℕ → PairFault) → ℕ → Result A FieldFault → Result A PairFault
+with_place side n (Ok x) = Ok x
+with_place side n (Err fault) = Err (fault_at side n fault)
 
 -- what a value spells behind its key
 abbrev pub value_from : List ℕ → Result OwnedKey PairFault → Result Stored PairFault
-value_from value (Ok key) = placed Value (length value) (read_value key value)
+value_from value (Ok key) = with_place Value (length value) (read_value key value)
 value_from value (Err fault) = Err fault
 
 -- what a pair spells: its key first, and then its value
 unfoldable pub pair_from : List ℕ → List ℕ → Result Stored PairFault
-pair_from key value = value_from value (placed Key (length key) (read_key key))
+pair_from key value = value_from value (with_place Key (length key) (read_key key))

@@ -1,7 +1,7 @@
 use Rattle.std.proofs.Common.{◌+◌, ap, subst, sym, ◌∙◌}
 use Rattle.std.specs.Option.{option_copied}
 use Rattle.lake_values.specs.Ancestry.{graph_of, id_order}
-use Rattle.lake_values.specs.Keeping.{IsKept, kept}
+use Rattle.lake_values.specs.Keeping.{IsKept, kept_ids}
 use Rattle.lake_values.proofs.AncestryOrderLemmas.{ids_total, ids_same}
 use Rattle.lake_values.proofs.AncestryLemmas.{differ}
 use Rattle.lake_reference.proofs.OrderPlaceLemmas.{HasThose, those_start, those_more, those_same, those_all}
@@ -40,5 +40,5 @@ returns c =
     let now = c.args.now in
     c.of.ensures
     ∙ those_all ids_total ids_same (IsKept g heads tags rules now) c.args.commits.now (λ id k. k.0) c.loop-id.id-index c.loop-id.kept.items
-    c.loop-id-test.false c.loop-id.invariant (kept g heads tags rules now) (kept_ascends g heads tags rules now)
+    c.loop-id-test.false c.loop-id.invariant (kept_ids g heads tags rules now) (kept_ascends g heads tags rules now)
     (kept_from g c.requires heads tags rules now) (kept_to g c.requires heads tags rules now)
