@@ -1,0 +1,3 @@
+pub mod DraftLemmas
+pub mod MapLemmas
+pub mod ReadyLemmas

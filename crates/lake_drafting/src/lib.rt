@@ -1,0 +1,20 @@
+//! New heads of a branch, drafted of what `Lake::prepare` hands out: the tree that `Lake::swap` asks for. Maps are made,
+//! merged, asked about by hooks and cut into trees; `draft` does so without the lake.
+//!
+//! - `maps`: the map of a tree, and the least path at which two maps differ.
+//! - `drafting`: the tree of a draft, or why it isn't worth making.
+//! - `heads`: a draft of a branch of a lake, with the versions by which it is guarded; and whether they are old.
+//! - `fault`: why there is none.
+//!
+//! The promise to the layer above: of a head that was drafted the condition of `Lake::swap` holds, as long as the lake is
+//! the same; and a draft that is refused is refused by the first cause against it, unless memory ran out.
+#![tactic(auto)]
+
+mod drafting;
+mod fault;
+mod heads;
+mod maps;
+
+pub use drafting::draft;
+pub use fault::{DraftFault, HeadFault};
+pub use heads::{HeadDraft, draft_head, is_outdated, sides_of};
