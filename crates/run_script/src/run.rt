@@ -1,9 +1,8 @@
 //! The run of a script, over a keeper, a reader and a writer.
 
 use keeper::Keeper;
-use lake_core::Lake;
 use script_forms::{LineFault, ScriptFault};
-use script_steps::{make, open, reply_value};
+use script_steps::{Script, make, open, reply_value};
 use serde_json::Value;
 use std::alloc::Global;
 use std::fmt;
@@ -73,22 +72,22 @@ fn answer_lines<K: Keeper, R: BufRead, W: Write>(
     if !next_line(reader, &mut line)? {
         return Ok(());
     }
-    let mut lake = opened(alloc, keeper, line.as_slice())?;
+    let mut script = opened(alloc, keeper, line.as_slice())?;
     write_reply(alloc, out, 1, Ok(Value::from(0)))?;
     for number in 2..u64::MAX {
         if !next_line(reader, &mut line)? {
             break;
         }
-        let made = make(alloc, &mut lake, line.as_slice());
+        let made = make(alloc, &mut script, line.as_slice());
         write_reply(alloc, out, number, made)?;
     }
     Ok(())
 }
 
-// The lake of the first line, over a keeper. Without memory for it the script can't be run.
-fn opened<K: Keeper>(alloc: Global, keeper: K, line: &[u8]) -> Result<Lake<K>, RunFault> {
+// The script of the first line, over a keeper. Without memory for it the script can't be run.
+fn opened<K: Keeper>(alloc: Global, keeper: K, line: &[u8]) -> Result<Script<K>, RunFault> {
     match open(alloc, keeper, line) {
-        Ok(lake) => Ok(lake),
+        Ok(script) => Ok(script),
         Err(ScriptFault::Line(fault)) => Err(RunFault::Line(1, fault)),
         Err(_) => Err(no_memory()),
     }

@@ -1,4 +1,5 @@
-//! Scripts over a keeper that fails, and scripts of steps that several causes refuse.
+//! Scripts over a keeper that fails, and scripts of steps that several causes refuse; `heads` has those of new heads.
+mod heads;
 
 use crate::run::run_lines;
 use keeper::{KeeperFail, MemoryKeeper};

@@ -1,6 +1,6 @@
 //! The calls of the lake, each in a function of its own. These say nothing of what a call answers and leaves, so that
 //! the steps above them are proved without it.
-ghost use Rattle.std.specs.Prelude.{◌≡◌, IfSome, IsTrue, false, option_copied};
+ghost use Rattle.std.specs.Prelude.{◌≡◌, IfSome, IsTrue, false};
 ghost use Rattle.lake_base.specs.Names.{is_like_id};
 ghost use Rattle.lake_values.specs.NoteNames.{note_name};
 ghost use Rattle.lake_model.specs.Uncommitted.{HasTicket, put_number};
@@ -15,7 +15,6 @@ use lake_base::{Path, RefName, RepoName, Sequence, Text};
 use lake_core::Lake;
 use lake_model::{By, Point, RepoInfo, SealFor, Seen, Sides, StepFault, Versions};
 use lake_pages::{Page, PageQuery};
-use lake_preparing::Prepared;
 use lake_values::{Change, CommitId, CommitRecord, Entry, Note, NoteName, ResetWhat};
 
 pub fn resolve<K: Keeper>(lake: &Lake<K>, target: &Target) -> Result<Point, StepFault> {
@@ -91,16 +90,6 @@ pub fn are_commits<K: Keeper>(lake: &Lake<K>, repo: &RepoName, sides: &Sides) ->
     ensures { IsTrue result → HasSides (state lake.now) repo.now sides.now }
 {
     lake.are_commits(repo, sides)
-}
-
-pub fn prepare<K: Keeper>(
-    lake: &Lake<K>,
-    branch: &Named,
-    sides: Option<&Sides>,
-) -> Result<Prepared, StepFault>
-    requires { IfSome (option_copied sides) (HasSides (state lake.now) branch.now.repo) }
-{
-    lake.prepare(&branch.repo, &branch.name, sides)
 }
 
 pub fn create_repo<K: Keeper>(

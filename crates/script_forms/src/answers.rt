@@ -1,15 +1,13 @@
 //! What each call of the lake answered, as the value of its step, or why it gave none.
 
 use crate::fault::ScriptFault;
-use crate::preparations::prepared_value;
 use crate::replies::{
-    commits_value, found_value, names_value, note_value, numbers_value, page_value, point_value,
-    repos_value, seen_value, told_value, versions_value,
+    commits_value, found_value, head_value, names_value, note_value, numbers_value, page_value,
+    point_value, repos_value, seen_value, told_value, versions_value,
 };
 use lake_base::{RefName, Sequence};
 use lake_model::{Point, RepoInfo, Seen, StepFault, Versions};
 use lake_pages::Page;
-use lake_preparing::Prepared;
 use lake_values::{CommitId, CommitRecord, Entry, Note};
 use serde_json::Value;
 use std::alloc::Global;
@@ -33,15 +31,6 @@ pub fn point_answer(alloc: Global, answer: Result<Point, StepFault>) -> Result<V
 pub fn seen_answer(alloc: Global, answer: Result<Seen, StepFault>) -> Result<Value, ScriptFault> {
     let seen = answer?;
     Ok(seen_value(alloc, &seen)?)
-}
-
-/// Of `prepare`.
-pub fn prepared_answer(
-    alloc: Global,
-    answer: Result<Prepared, StepFault>,
-) -> Result<Value, ScriptFault> {
-    let prepared = answer?;
-    Ok(prepared_value(alloc, &prepared)?)
 }
 
 /// Of `page`.
@@ -87,6 +76,15 @@ pub fn commit_answer(
 ) -> Result<Value, ScriptFault> {
     let (at, commit) = answer?;
     Ok(found_value(alloc, at, &commit)?)
+}
+
+/// Of a new head.
+pub fn head_answer(
+    alloc: Global,
+    answer: Result<(u64, CommitId, CommitRecord), StepFault>,
+) -> Result<Value, ScriptFault> {
+    let (at, commit, record) = answer?;
+    Ok(head_value(alloc, at, &commit, &record)?)
 }
 
 /// Of `note`.

@@ -1,6 +1,6 @@
 //! Why a line is no step, and why a step gave no value.
 
-use lake_base::NoMemory;
+use lake_base::{NoMemory, Path, Sequence};
 use lake_model::StepFault;
 use std::alloc::{AllocError, AllocFailed};
 use std::fmt;
@@ -47,6 +47,21 @@ pub enum ScriptFault {
     Condition,
     /// It isn't built yet.
     NotBuilt,
+    /// There is no draft of a new head.
+    Draft(DraftRefusal),
+}
+
+/// Why there is no draft of a new head.
+#[derive(Debug, Drop)]
+pub enum DraftRefusal {
+    /// Sealed changes aren't committed: the least path that they change.
+    Dirty(Path),
+    /// It would change nothing.
+    NoChanges,
+    /// Paths conflict: the least of them, and how many there are.
+    Conflicts { paths: Sequence<Path>, total: u64 },
+    /// The hook of this number denies it.
+    HookDenied(usize),
 }
 
 impl From<LineFault> for ScriptFault {

@@ -4,11 +4,11 @@ use crate::settings::hooks_value;
 use lake_base::NoMemory;
 use lake_format::Cut;
 use lake_preparing::Prepared;
-use lake_values::Changes;
+use lake_values::{Change, Changes};
 use meta_range::{Tree, Trio};
 use serde_json::{Map, Value};
 use std::alloc::Global;
-use vector_forms::{change_value, digest_value, pair_value, text_value};
+use vector_forms::{digest_value, entry_value, pair_value, text_value};
 
 /// What was prepared: a tree is shown by its id.
 pub fn prepared_value(alloc: Global, prepared: &Prepared) -> Result<Value, NoMemory> {
@@ -46,9 +46,17 @@ fn sealed_value(alloc: Global, changes: &Changes) -> Result<Value, NoMemory> {
     let mut list = Vec::new(alloc);
     for (path, change) in changes.as_slice() {
         let path = text_value(alloc, path.as_str())?;
-        list.push(pair_value(alloc, path, change_value(alloc, change)?)?)?;
+        list.push(pair_value(alloc, path, told_change(alloc, change)?)?)?;
     }
     Ok(Value::Array(list))
+}
+
+// A change: an entry, or "delete".
+fn told_change(alloc: Global, change: &Change) -> Result<Value, NoMemory> {
+    match change {
+        Change::Put(entry) => entry_value(alloc, entry),
+        Change::Delete => text_value(alloc, "delete"),
+    }
 }
 
 // A tree, by its id.

@@ -282,6 +282,20 @@ pub fn found_value(alloc: Global, at: u64, commit: &CommitId) -> Result<Value, N
     told_value(alloc, at, "commit", commit)
 }
 
+/// A new head, and its record.
+pub fn head_value(
+    alloc: Global,
+    at: u64,
+    commit: &CommitId,
+    record: &CommitRecord,
+) -> Result<Value, NoMemory> {
+    let mut members = Map::new(alloc);
+    serde_json::put(&mut members, alloc, "at", Value::from(at))?;
+    serde_json::put(&mut members, alloc, "commit", digest_value(alloc, commit)?)?;
+    serde_json::put(&mut members, alloc, "record", record_value(alloc, record)?)?;
+    Ok(Value::Object(members))
+}
+
 /// A setting, and the version of the settings.
 pub fn note_value(alloc: Global, at: u64, settings: u64, note: &Note) -> Result<Value, NoMemory> {
     let mut members = Map::new(alloc);

@@ -1,18 +1,22 @@
 //! The first step, which opens the lake.
 ghost use Rattle.std.specs.Prelude.{◌<◌, IfOk};
 
+use crate::script::Script;
 use keeper::Keeper;
 use lake_core::{Lake, OpenFault};
 use lake_format::Cut;
 use lake_model::StepFault;
 use script_forms::{LineFault, ScriptFault, StepLine, number_of};
+use script_heads::Latest;
 use serde_json::Value;
 use std::alloc::Global;
 
-/// Opens the lake of a line that is the step `fresh`, over a keeper.
-pub fn open<K: Keeper>(alloc: Global, keeper: K, line: &[u8]) -> Result<Lake<K>, ScriptFault> {
+/// Opens the lake of a line that is the step `fresh`, over a keeper: the script begins.
+pub fn open<K: Keeper>(alloc: Global, keeper: K, line: &[u8]) -> Result<Script<K>, ScriptFault> {
     let cut = cut_of(alloc, line)?;
-    fresh_lake(alloc, keeper, cut)
+    let lake = fresh_lake(alloc, keeper, cut)?;
+    let latest = Latest::new(alloc);
+    Ok(Script { lake, latest })
 }
 
 // The cut of a line that is `fresh`: max_bytes, and a modulus that isn't 0.

@@ -2,7 +2,7 @@
 
 use lake_base::NoMemory;
 use lake_model::StepFault;
-use script_forms::{LineFault, ScriptFault, refusal_value};
+use script_forms::{LineFault, ScriptFault, draft_refusal, refusal_value};
 use serde_json::Value;
 use std::alloc::Global;
 use vector_forms::{object_of, text_value};
@@ -19,6 +19,7 @@ pub fn reply_value(
         Err(ScriptFault::Step(StepFault::NoMemory)) => Ok(None),
         Err(ScriptFault::Step(fault)) => Ok(refusal_value(alloc, &fault).ok()),
         Err(ScriptFault::Condition) => Ok(named_refusal(alloc, "Condition").ok()),
+        Err(ScriptFault::Draft(fault)) => Ok(draft_refusal(alloc, &fault).ok()),
         Err(ScriptFault::NotBuilt) => Ok(named_refusal(alloc, "NotBuilt").ok()),
     }
 }

@@ -1,9 +1,11 @@
 //! The steps, by name.
 
-use crate::{listings, names, preparing, readings, settings, writes};
+use crate::script::Script;
+use crate::{listings, names, readings, settings, writes};
 use keeper::Keeper;
 use lake_core::Lake;
 use script_forms::{LineFault, ScriptFault, StepLine};
+use script_heads::Latest;
 use script_states::state;
 use serde_json::Value;
 use std::alloc::Global;
@@ -13,6 +15,7 @@ use std::alloc::Global;
 enum Step {
     Reading(Reading),
     Change(Change),
+    Head(Head),
 }
 
 // A reading.
@@ -28,7 +31,6 @@ enum Reading {
     Find,
     Note,
     Versions,
-    Prepare,
 }
 
 // A change.
@@ -48,17 +50,31 @@ enum Change {
     SetNote,
 }
 
-/// Makes the step of a line on a lake: its value.
+// What a new head of a branch is made from, and a new head.
+#[derive(Clone, Copy)]
+enum Head {
+    Prepare,
+    Commit,
+    Merge,
+    Pick,
+    CommitOld,
+    MergeOld,
+    PickOld,
+}
+
+/// Makes the step of a line of a script: its value.
 pub fn make<K: Keeper>(
     alloc: Global,
-    lake: &mut Lake<K>,
+    script: &mut Script<K>,
     line: &[u8],
 ) -> Result<Value, ScriptFault> {
     let line = StepLine::read(alloc, line)?;
     let (name, arguments) = line.parts()?;
+    let Script { lake, latest } = script;
     match Step::named(name) {
         Some(Step::Reading(step)) => step.make(alloc, lake, arguments),
         Some(Step::Change(step)) => step.make(alloc, lake, arguments),
+        Some(Step::Head(step)) => step.make(alloc, lake, latest, arguments),
         None => Err(ScriptFault::from(LineFault::UnknownStep)),
     }
 }
@@ -66,9 +82,12 @@ pub fn make<K: Keeper>(
 impl Step {
     // The step of a name.
     fn named(name: &str) -> Option<Step> {
-        match Reading::named(name) {
-            Some(reading) => Some(Step::Reading(reading)),
-            None => Change::named(name).map(Step::Change),
+        if let Some(reading) = Reading::named(name) {
+            return Some(Step::Reading(reading));
+        }
+        match Change::named(name) {
+            Some(change) => Some(Step::Change(change)),
+            None => Head::named(name).map(Step::Head),
         }
     }
 }
@@ -87,7 +106,6 @@ impl Reading {
             "find" => Some(Reading::Find),
             "note" => Some(Reading::Note),
             "versions" => Some(Reading::Versions),
-            "prepare" => Some(Reading::Prepare),
             _ => None,
         }
     }
@@ -110,7 +128,6 @@ impl Reading {
             Reading::Find => listings::find(alloc, lake, arguments),
             Reading::Note => readings::note(alloc, lake, arguments),
             Reading::Versions => readings::versions(alloc, lake, arguments),
-            Reading::Prepare => preparing::prepare(alloc, lake, arguments),
         }
     }
 }
@@ -155,6 +172,41 @@ impl Change {
             Change::Seal => writes::seal(alloc, lake, arguments),
             Change::Reset => writes::reset(alloc, lake, arguments),
             Change::SetNote => settings::set_note(alloc, lake, arguments),
+        }
+    }
+}
+
+impl Head {
+    // The step of a name.
+    fn named(name: &str) -> Option<Head> {
+        match name {
+            "prepare" => Some(Head::Prepare),
+            "commit" => Some(Head::Commit),
+            "merge" => Some(Head::Merge),
+            "pick" => Some(Head::Pick),
+            "commit_old" => Some(Head::CommitOld),
+            "merge_old" => Some(Head::MergeOld),
+            "pick_old" => Some(Head::PickOld),
+            _ => None,
+        }
+    }
+
+    // Makes it.
+    fn make<K: Keeper>(
+        self,
+        alloc: Global,
+        lake: &mut Lake<K>,
+        latest: &mut Latest,
+        arguments: &[Value],
+    ) -> Result<Value, ScriptFault> {
+        match self {
+            Head::Prepare => script_heads::prepare(alloc, lake, latest, arguments),
+            Head::Commit => script_heads::commit(alloc, lake, arguments),
+            Head::Merge => script_heads::merge(alloc, lake, arguments),
+            Head::Pick => script_heads::pick(alloc, lake, arguments),
+            Head::CommitOld => script_heads::commit_old(alloc, lake, latest, arguments),
+            Head::MergeOld => script_heads::merge_old(alloc, lake, latest, arguments),
+            Head::PickOld => script_heads::pick_old(alloc, lake, latest, arguments),
         }
     }
 }

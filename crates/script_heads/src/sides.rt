@@ -1,4 +1,4 @@
-//! What a new head of a branch is made from.
+//! The commits of a merge or a pick, as a line names them.
 ghost use Rattle.std.specs.Prelude.{IfOk, IfSome};
 ghost use Rattle.lake_preparing.specs.Preparations.{HasSides};
 ghost use Rattle.lake_core.specs.Lakes.{state};
@@ -9,28 +9,14 @@ use lake_core::Lake;
 use lake_model::Sides;
 use lake_values::CommitId;
 use script_calls::calls;
-use script_calls::target::{Named, Target, miscounted};
-use script_forms::{LineFault, ScriptFault, prepared_answer};
+use script_calls::target::Target;
+use script_forms::{LineFault, ScriptFault};
 use serde_json::Value;
 use std::alloc::Global;
 use vector_forms::{list_of, member_of};
 
-/// `prepare`: repository, branch, the sides of a merge or a pick.
-pub fn prepare<K: Keeper>(
-    alloc: Global,
-    lake: &Lake<K>,
-    arguments: &[Value],
-) -> Result<Value, ScriptFault> {
-    let [repo, branch, sides] = arguments else {
-        return Err(miscounted());
-    };
-    let branch = Named::of(alloc, repo, branch)?;
-    let sides = tested_sides(alloc, lake, &branch.repo, sides)?;
-    prepared_answer(alloc, calls::prepare(lake, &branch, sides.as_ref()))
-}
-
-// The sides of a merge or a pick, which are commits of the repository; none where the value is null.
-fn tested_sides<K: Keeper>(
+/// The sides of a merge or a pick, which are commits of the repository; none where the value is null.
+pub fn tested_sides<K: Keeper>(
     alloc: Global,
     lake: &Lake<K>,
     repo: &RepoName,
@@ -62,8 +48,12 @@ fn sides_of<K: Keeper>(alloc: Global, lake: &Lake<K>, value: &Value) -> Result<S
     Ok(Sides::Pick { base, source })
 }
 
-// `{"id_of":[REPO,EXPR]}`: the commit that an expression leads to.
-fn id_of<K: Keeper>(alloc: Global, lake: &Lake<K>, value: &Value) -> Result<CommitId, ScriptFault> {
+/// `{"id_of":[REPO,EXPR]}`: the commit that an expression leads to.
+pub fn id_of<K: Keeper>(
+    alloc: Global,
+    lake: &Lake<K>,
+    value: &Value,
+) -> Result<CommitId, ScriptFault> {
     let [repo, e] = list_of(value, "id_of")? else {
         return Err(ScriptFault::from(LineFault::Malformed("id_of")));
     };
