@@ -14,6 +14,7 @@ pub mod NamedLemmas
 pub mod NamingLemmas
 pub mod SoundnessLemmas
 pub mod IdentityLemmas
+pub mod BasesLemmas
 pub mod UnreadLemmas
 pub mod ReadingLemmas
 pub mod SealingLemmas
