@@ -22,6 +22,10 @@ abbrev pub name_target : Repository → List ℕ → Option Digest
 name_target r name =
     option_or (option_map (λ b. b.head) (get r.branches name)) (option_or (get r.tags name) (commit_named r name))
 
+-- the id of a commit, as an expression, with `@` or without
+abbrev pub by_id : Digest → Bool → RefExprValue
+by_id id at = record { name = encode_lower id.0; at = at; moves = [] }
+
 -- the number of the move that finds no parent
 abbrev pub parent_fault : Result Digest ℕ → Result Digest StepFault
 parent_fault (Ok id) = Ok id

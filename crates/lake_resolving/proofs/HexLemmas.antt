@@ -1,12 +1,12 @@
 -- The hex text of a digest: it is 64 digits, and no other digest has it.
 use Rattle.std.proofs.Common.{◌≡◌, ℕ, zero, suc, ◌+◌, ◌*◌, ◌/◌, ◌%◌, ◌<◌, ◌==◌, Bool, true, false, not, cond, ltb, ◌&&◌, inl, inr, List, [], ◌∷◌, length, take, slice_index, min, Option, Some, None, refl, sym, ap, ◌∙◌, arith}
 use Rattle.std.specs.List.{AllByRecursion, position, position_or_len}
-use Rattle.std.specs.Option.{option_or}
+use Rattle.std.specs.Option.{is_none, option_or}
 use Rattle.std.proofs.lemmas.Bool.{and_parts, cases_lt, eqb-true}
 use Rattle.std.proofs.lemmas.Bool.Decides.{nat_tests}
 use Rattle.std.proofs.lemmas.List.{get_or_past, take_all}
 use Rattle.hex.specs.Hex.{hex_digit_value, encode_lower, encode_with, lower_digits}
-use Rattle.lake_base.specs.Names.{is_hex, stray_hex, digest_fault}
+use Rattle.lake_base.specs.Names.{is_hex, is_like_id, stray_hex, digest_fault}
 use Rattle.lake_base.proofs.DigestLemmas.{all_hex}
 use Rattle.lake_format.specs.Spelling.{AreBytes, IsDigest}
 
@@ -107,6 +107,12 @@ read_whole : (text : List ℕ) → length text ≡ 64 → AllByRecursion (λ c. 
 read_whole text long hex =
     ap (λ f. option_or f (cond (length text == 64) None (Some (min 64 (length text))))) (ap stray_hex (take_all 64 text (omega arith)) ∙ none_stray is_hex text hex)
     ∙ ap (λ n. cond (n == 64) None (Some (min 64 n))) long
+
+-- the text of a digest is like an id
+pub text_is_like_id : (bytes : List ℕ) → IsDigest bytes → is_like_id (encode_lower bytes) ≡ true
+text_is_like_id bytes is =
+    let long : length (encode_lower bytes) ≡ 64 = omega (arith, twice bytes, is.long) in
+    (λ i. (long i == 64) && is_none (none_stray is_hex (encode_lower bytes) (all_digits bytes is.bytes) i))
 
 -- the text of a digest is read without a fault
 pub digest_reads : (bytes : List ℕ) → IsDigest bytes → digest_fault (encode_lower bytes) ≡ None
