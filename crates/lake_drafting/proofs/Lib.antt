@@ -1,3 +1,4 @@
 pub mod DraftLemmas
 pub mod MapLemmas
 pub mod ReadyLemmas
+pub mod WaitingLemmas

@@ -65,16 +65,39 @@ unless_ok : {X : Type 0} (refusal : Option StepFault) (answer given : X) → unl
 unless_ok None answer given is = cc
 unless_ok (Some fault) answer given is = absurd cc
 
-module _ (state : State) (given : VersionsGiven) (repo branch : List ℕ) (sides : Option Sides) (r : Repository) (b : Branch) where
-  -- of a branch that is there
-  abbrev of_branch : Repository → Option Branch → Result PreparedValue StepFault
-  of_branch q found = option_map_or
-      (λ c. unless_refused (option_map_or (expired_source q) sides None) (preparation state given repo branch sides q c)) found (Err step.NoRef)
+-- the repository and the branch of which something was handed out
+pub record HandedThere (state : State) (given : VersionsGiven) (repo branch : List ℕ) (sides : Option Sides) (p : PreparedValue) : Type 0 where
+  pub r : Repository
+  pub b : Branch
+  pub at : get state.repositories repo ≡ Some r
+  pub on : get r.branches branch ≡ Some b
+  pub same : preparation state given repo branch sides r b ≡ p
 
-  pub handed : (p : PreparedValue) → get state.repositories repo ≡ Some r → get r.branches branch ≡ Some b
-      → prepare_reply state given repo branch sides ≡ Ok p → preparation state given repo branch sides r b ≡ p
-  handed p at on is = unless_ok (option_map_or (expired_source r) sides None) (preparation state given repo branch sides r b) p
-      (sym (ap (of_branch r) on) ∙ sym (ap (λ o. option_map_or (λ q. of_branch q (get q.branches branch)) o (Err step.NoRepo)) at) ∙ is)
+module _ (state : State) (given : VersionsGiven) (repo branch : List ℕ) (sides : Option Sides) (p : PreparedValue)
+    (is : prepare_reply state given repo branch sides ≡ Ok p) where
+  -- what is handed out of a repository, of a branch that may be there
+  abbrev of_branch : Repository → Option Branch → Result PreparedValue StepFault
+  of_branch r found = option_map_or
+      (λ b. unless_refused (option_map_or (expired_source r) sides None) (preparation state given repo branch sides r b)) found (Err step.NoRef)
+
+  abbrev of_lake : Option Repository → Result PreparedValue StepFault
+  of_lake found = option_map_or (λ r. of_branch r (get r.branches branch)) found (Err step.NoRepo)
+
+  handed : (r : Repository) (b : Branch) → get state.repositories repo ≡ Some r → get r.branches branch ≡ Some b → preparation state given repo branch sides r b ≡ p
+  handed r b at on = unless_ok (option_map_or (expired_source r) sides None) (preparation state given repo branch sides r b) p
+      (sym (ap (of_branch r) on) ∙ sym (ap of_lake at) ∙ is)
+
+  on_branch : (r : Repository) → get state.repositories repo ≡ Some r → (o : Option Branch) → get r.branches branch ≡ o
+      → HandedThere state given repo branch sides p
+  on_branch r at (Some b) on = record { r = r; b = b; at = at; on = on; same = handed r b at on }
+  on_branch r at None none = let refused : Err step.NoRef ≡ Ok p = sym (ap of_lake at ∙ ap (of_branch r) none) ∙ is in absurd cc
+
+  in_lake : (o : Option Repository) → get state.repositories repo ≡ o → HandedThere state given repo branch sides p
+  in_lake (Some r) at = on_branch r at (get r.branches branch) refl
+  in_lake None none = let refused : Err step.NoRepo ≡ Ok p = sym (ap of_lake none) ∙ is in absurd cc
+
+  pub handed_there : HandedThere state given repo branch sides p
+  handed_there = in_lake (get state.repositories repo) refl
 
 -- ---- it is ready
 
@@ -129,6 +152,15 @@ module _ (state : State) (given : VersionsGiven) (repo branch : List ℕ) (about
         drafted = record { map = is.map; files = is.files };
       }
 
+-- what was drafted of what a branch that is there handed out is ready
+pub ready_there : (state : State) (given : VersionsGiven) (repo branch : List ℕ) (about : AboutValue) (swap : SwapKind) (p : PreparedValue) (tree : TreeValue)
+    → ((sides : Sides) → sides_of swap ≡ Some sides → HasSides state repo sides) → (r : Repository) (b : Branch) → get state.repositories repo ≡ Some r
+    → preparation state given repo branch (sides_of swap) r b ≡ p → IsDraft p.cut (drafted_map (strategy_of swap) p branch about.metadata) (Ok tree)
+    → IsReadyOn state branch swap about tree r b
+ready_there state given repo branch about swap p tree have r b at same made =
+    let draft = subst (λ x. IsDraft x.cut (drafted_map (strategy_of swap) x branch about.metadata) (Ok tree)) (sym same) made in
+    ready_on state given repo branch about tree r b swap (λ sides of. have sides of r at) draft.0 draft.1
+
 module _ (state : State) (given : VersionsGiven) (repo branch : List ℕ) (about : AboutValue) (swap : SwapKind) (p : PreparedValue) (tree : TreeValue)
     (is : prepare_reply state given repo branch (sides_of swap) ≡ Ok p)
     (have : (sides : Sides) → sides_of swap ≡ Some sides → HasSides state repo sides) where
@@ -136,9 +168,7 @@ module _ (state : State) (given : VersionsGiven) (repo branch : List ℕ) (about
   pub ready : (version settings : ℕ) → IsDraft p.cut (drafted_map (strategy_of swap) p branch about.metadata) (Ok tree)
       → IsReadyFor state given repo branch version settings swap about tree
   ready version settings made current r b at on =
-      let same = handed state given repo branch (sides_of swap) r b p at on is in
-      let draft = subst (λ x. IsDraft x.cut (drafted_map (strategy_of swap) x branch about.metadata) (Ok tree)) (sym same) made in
-      ready_on state given repo branch about tree r b swap (λ sides of. have sides of r at) draft.0 draft.1
+      ready_there state given repo branch about swap p tree have r b at (handed state given repo branch (sides_of swap) p is r b at on) made
 
 -- what holds of the sides, where there are some
 pub some_sides : (P : Sides → Type 0) (o : Option Sides) → IfSome o P → (sides : Sides) → o ≡ Some sides → P sides

@@ -1,9 +1,11 @@
 -- Drafts of a branch's new head, of what a lake replies when it is asked for what they are made of.
-use Rattle.std.specs.Prelude.{◌≡◌, Option, Some, None, Result, Ok, Err}
+use Rattle.std.specs.Prelude.{◌≡◌, ◌++◌, ℕ, List, Option, Some, None, Result, Ok, Err}
+use Rattle.lake_values.specs.Commit.{AboutValue}
 use Rattle.lake_values.specs.declared.commit.Strategy.{Strategy}
 use Rattle.lake_values.specs.declared.commit.Strategy.TheVariants.{Refuse}
 use Rattle.lake_model.specs.declared.fault.StepFault.{StepFault}
 use Rattle.lake_model.specs.declared.fault.StepFault.TheVariants as step
+use Rattle.lake_model.specs.declared.history.HistoryEntry.{HistoryEntry}
 use Rattle.lake_model.specs.declared.reply.Sides.{Sides}
 use Rattle.lake_model.specs.declared.reply.Sides.TheVariants as sides
 use Rattle.lake_model.specs.declared.reply.SwapKind.{SwapKind}
@@ -11,7 +13,11 @@ use Rattle.lake_model.specs.declared.reply.SwapKind.TheVariants as kind
 use Rattle.lake_drafting.specs.declared.fault.HeadFault.{HeadFault}
 use Rattle.lake_drafting.specs.declared.fault.HeadFault.TheVariants.{Step, Draft}
 use Rattle.lake_drafting.specs.declared.heads.HeadDraft.{HeadDraft}
+use Rattle.lake_model.specs.History.{IsLegal, replay}
 use Rattle.lake_model.specs.Preparing.{PreparedValue}
+use Rattle.lake_state.specs.Lakes.{LakeStateValue, state_of}
+use Rattle.lake_standing.specs.Standing.{versions_since}
+use Rattle.lake_core.specs.Heads.{IsReadyFor}
 use Rattle.lake_drafting.specs.Drafts.{DraftedMap, IsDraft}
 
 -- the commits of a merge or a pick
@@ -31,6 +37,13 @@ pub record IsHeadDraft (p : PreparedValue) (drafted : DraftedMap) (head : HeadDr
   pub version : head.version ≡ p.version
   pub settings : head.settings ≡ p.settings
   pub draft : IsDraft p.cut drafted (Ok head.tree)
+
+-- A draft waits: whatever legal entries follow those of a lake that was opened as this, it keeps the condition of `swap`
+-- by its versions.
+abbrev pub Waits : LakeStateValue → List HistoryEntry → List ℕ → List ℕ → SwapKind → AboutValue → HeadDraft → Type 0
+Waits opened history repo branch kind about head = (later : List HistoryEntry) → IsLegal (state_of opened) (history ++ later)
+    → IsReadyFor (replay (state_of opened) (history ++ later)) (versions_since opened (history ++ later)) repo branch
+    head.version head.settings kind about head.tree
 
 -- What was answered for a branch is a draft of what the lake replies when it is asked for it, or why there is none.
 abbrev pub IsHeadReply : Result PreparedValue StepFault → (PreparedValue → DraftedMap) → Result HeadDraft HeadFault → Type 0

@@ -6,14 +6,16 @@ ghost use Rattle.lake_model.specs.Preparing.{prepare_reply};
 ghost use Rattle.lake_model.specs.Steps.{is_current};
 ghost use Rattle.meta_range.specs.Ranges.{TreeValue};
 ghost use Rattle.step_laws.specs.Prepared.{WhereThere};
+ghost use Rattle.lake_state.specs.Lakes.{lake_value};
 ghost use Rattle.lake_preparing.specs.Preparations.{HasSides};
 ghost use Rattle.lake_core.specs.Heads.{IsReadyFor};
 ghost use Rattle.lake_core.specs.Lakes.{state, versions};
 ghost use Rattle.lake_drafting.specs.Drafts.{drafted_map};
-ghost use Rattle.lake_drafting.specs.Heads.{IsHeadReply, sides_of, strategy_of};
+ghost use Rattle.lake_drafting.specs.Heads.{IsHeadReply, Waits, sides_of, strategy_of};
 
 use crate::drafting::draft;
 use crate::fault::HeadFault;
+use crate::waiting::law_of_waiting;
 use keeper::Keeper;
 use lake_base::{RefName, RepoName};
 use lake_core::Lake;
@@ -34,7 +36,8 @@ pub struct HeadDraft {
 
 /// Drafts a new head of a branch: what the lake hands out for it is asked, and its tree is made. The condition of `swap`
 /// holds of it by these versions; what `swap` refuses besides (a stopped lake, a full history, a protected branch, a commit
-/// that expired, a clash) isn't asked. NoRepo; NoRef; Expired for a source that is; and the faults of `draft`.
+/// that expired, a clash) isn't asked. What it gives waits: whatever legal entries follow, the condition holds. NoRepo;
+/// NoRef; Expired for a source that is; and the faults of `draft`.
 pub fn draft_head<K: Keeper>(
     alloc: Global,
     lake: &Lake<K>,
@@ -48,7 +51,10 @@ pub fn draft_head<K: Keeper>(
         (λ p. drafted_map (strategy_of kind) p branch.now about.now.metadata) result }
     ensures ready { IfOk result (λ head. IsReadyFor (state lake.now) (versions lake.now) repo.now branch.now
         head.version head.settings kind about.now head.tree) }
+    ensures waits { IfOk result (λ head. Waits (lake_value lake.now.opened) lake.now.history repo.now branch.now kind about.now head) }
 {
+    law_of_waiting();
+    let _ = lake.entries();
     let sides = sides_of(&kind);
     let prepared = lake.prepare(repo, branch, sides.as_ref())?;
     let tree = draft(
@@ -99,8 +105,8 @@ pub fn sides_of(kind: &SwapKind) -> Option<Sides>
     }
 }
 
-// What a merge or a pick does at conflicts.
-fn strategy_of(kind: &SwapKind) -> Strategy
+/// What a merge or a pick does at conflicts; a commit has none. It takes no memory.
+pub fn strategy_of(kind: &SwapKind) -> Strategy
     ensures { result ≡ strategy_of kind.now }
 {
     match kind {
