@@ -215,7 +215,7 @@ found_reading s objects next (Some entry) its gone is =
 
 -- so the reading of a path replies its body
 pub reading_of : (s : State) (objects : HeldObjects) (bodies : List ℕ → Option (List ℕ)) (path : List ℕ) → HasBodies s objects bodies
-    → IsReading (object_reply s (get objects) (record { repo = quickstart; e = main_branch; path = path })) (bodies path)
+    → IsReading (object_reply s (get objects) (record { repo = quickstart; e = main_branch; text = main; path = path })) (bodies path)
 reading_of s objects bodies path has =
     subst (λ answer. IsReading (seen_reply (get objects) answer) (bodies path)) (sym (look_is s objects bodies path has))
     (found_reading s objects s.next_number (get (now_map has.r has.b) path) (bodies path) has.gone (has.each path))

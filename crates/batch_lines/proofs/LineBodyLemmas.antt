@@ -190,7 +190,7 @@ reading_text path answer None is = ap (reply_text (names_of (cat_call path))) is
 reading_text path answer (Some body) is = ap (reply_text (names_of (cat_call path))) is.1
 
 cat_shown : (lake : Lake) (path : List ℕ) (its : Option (List ℕ)) (one : LineEffect) → IsCallServed lake (cat_call path) one → one.starved ≡ false
-    → IsReading (object_reply (state_of lake) (get lake.objects) (record { repo = quickstart; e = record { name = main; at = false; moves = [] }; path = path })) its
+    → IsReading (object_reply (state_of lake) (get lake.objects) (record { repo = quickstart; e = record { name = main; at = false; moves = [] }; text = main; path = path })) its
     → one.text ≡ cat_text path its
 cat_shown lake path its one (Served moment is) memory reading = ap (λ (o : LineEffect). o.text) is ∙ reading_text path _ its reading
 cat_shown lake path its one (Unread is) memory reading = let starved = ap (λ (o : LineEffect). o.starved) is in absurd cc

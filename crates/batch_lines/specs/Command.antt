@@ -26,6 +26,7 @@ abbrev pub cat_call : List ℕ → Call
 cat_call path = Object (record {
   repo = codes "quickstart";
   e = record { name = codes "main"; at = false; moves = [] };
+  text = codes "main";
   path = path;
 })
 

@@ -49,8 +49,7 @@ outside_text path = line (codes "Error: object held outside: " ++ path ++ codes 
 abbrev pub lost_text : List ℕ → List ℕ
 lost_text path = line (codes "Error: object lost: " ++ path ++ codes " [500]")
 
--- the names that a call has: its repository, the name of its reference and its path. A call of today has no expression
--- that is more than a name.
+-- the names that a call has: its repository, its branch or the text of its expression as given, and its path
 pub record CallNames : Type 0 where
   pub repo : List ℕ
   pub reference : List ℕ
@@ -58,7 +57,7 @@ pub record CallNames : Type 0 where
 
 abbrev pub names_of : Call → CallNames
 names_of (Upload u) = record { repo = u.repo; reference = u.branch; path = u.path }
-names_of (Object o) = record { repo = o.repo; reference = o.e.name; path = o.path }
+names_of (Object o) = record { repo = o.repo; reference = o.text; path = o.path }
 
 -- A call was refused. A branch that changed at each try is answered as too many tries.
 abbrev pub refusal_text : CallNames → StepFault → List ℕ

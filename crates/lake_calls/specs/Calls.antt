@@ -11,10 +11,11 @@ pub record UploadCall : Type 0 where
   pub content_type : List ℕ
   pub body : List ℕ
 
--- an object that is to be read: the one at a path of what an expression leads to
+-- an object that is to be read: the one at a path of what an expression leads to, with the expression's text as given
 pub record ObjectCall : Type 0 where
   pub repo : List ℕ
   pub e : RefExprValue
+  pub text : List ℕ
   pub path : List ℕ
 
 -- a call, as a client makes it
