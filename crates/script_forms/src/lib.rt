@@ -1,10 +1,9 @@
 //! The forms of scripts: a line of JSON is a step, a list of its name and its arguments; its reply is a line of JSON.
 //!
-//! - `line`: a line as a step's name and its arguments; `arguments`: the forms of arguments; `heads`: what is said of a new
-//!   head.
+//! - `line`: a line as a step's name and its arguments; `arguments`: the forms of arguments.
 //! - `settings`: the name of a setting, and a setting as JSON.
-//! - `replies`: what the lake tells, as JSON values; `preparations`: what a new head is made from, as one; `answers`: the
-//!   value of a step by its call; `refusals`: why a step was refused.
+//! - `replies`: what the lake tells, as JSON values; `answers`: the value of a step by its call; `refusals`: why a step was
+//!   refused.
 //! - `fault`: why a line is no step, and why a step gave no value.
 //!
 //! The promise to the layer above: it is safe on every input. No clause says more.
@@ -13,9 +12,7 @@
 mod answers;
 mod arguments;
 mod fault;
-mod heads;
 mod line;
-mod preparations;
 mod refusals;
 mod replies;
 mod settings;
@@ -29,9 +26,7 @@ pub use arguments::{
     path_of, query_of, ref_name_of, repo_of, reset_of, str_of, text_of,
 };
 pub use fault::{DraftRefusal, LineFault, ScriptFault};
-pub use heads::{about_of, strategy_of};
 pub use line::StepLine;
-pub use preparations::prepared_value;
-pub use refusals::{draft_refusal, refusal_value};
+pub use refusals::refusal_value;
 pub use replies::{name_values, repo_members};
-pub use settings::{setting_name, setting_value};
+pub use settings::{hooks_value, setting_name, setting_value};

@@ -1,5 +1,5 @@
-//! The calls by which a new head is made, each in a function of its own. These say nothing of what a call answers and
-//! leaves, so that the steps above them are proved without it.
+//! The calls by which a new head is made, each in a function of its own. These say of what a call answers and leaves only
+//! what the next call asks, so that the steps above them are proved without the rest.
 ghost use Rattle.std.specs.Prelude.{◌≡◌, ◌<◌, IfOk, IfSome, IsTrue};
 ghost use Rattle.lake_values.specs.Commit.{AboutValue};
 ghost use Rattle.lake_model.specs.declared.reply.SwapKind.{SwapKind as AnyKind};

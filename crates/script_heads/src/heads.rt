@@ -7,6 +7,7 @@ ghost use Rattle.lake_drafting.specs.Heads.{sides_of};
 use crate::calls;
 use crate::faults::head_fault;
 use crate::sides::id_of;
+use crate::words::{about_of, strategy_of};
 use keeper::Keeper;
 use lake_base::RepoName;
 use lake_core::Lake;
@@ -15,7 +16,7 @@ use lake_model::{By, SwapKind};
 use lake_values::About;
 use script_calls::calls::are_commits;
 use script_calls::target::{Named, miscounted};
-use script_forms::{ScriptFault, about_of, by_of, head_answer, strategy_of};
+use script_forms::{ScriptFault, by_of, head_answer};
 use serde_json::Value;
 use std::alloc::Global;
 

@@ -4,6 +4,7 @@ use crate::calls;
 use crate::faults::{draft_fault, head_fault};
 use crate::heads::has_sides;
 use crate::latest::{Handed, Latest, Way};
+use crate::words::{about_of, strategy_of};
 use keeper::Keeper;
 use lake_base::NoMemory;
 use lake_core::Lake;
@@ -13,7 +14,7 @@ use lake_model::By;
 use lake_values::{About, KeyMap, Strategy};
 use meta_range::Tree;
 use script_calls::target::{Named, miscounted};
-use script_forms::{ScriptFault, about_of, by_of, head_answer, strategy_of};
+use script_forms::{ScriptFault, by_of, head_answer};
 use serde_json::Value;
 use std::alloc::Global;
 

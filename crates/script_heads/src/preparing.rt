@@ -2,11 +2,12 @@
 
 use crate::calls;
 use crate::latest::Latest;
+use crate::prepared::prepared_value;
 use crate::sides::tested_sides;
 use keeper::Keeper;
 use lake_core::Lake;
 use script_calls::target::{Named, miscounted};
-use script_forms::{ScriptFault, prepared_value};
+use script_forms::ScriptFault;
 use serde_json::Value;
 use std::alloc::Global;
 

@@ -2,7 +2,8 @@
 
 use lake_base::NoMemory;
 use lake_model::StepFault;
-use script_forms::{LineFault, ScriptFault, draft_refusal, refusal_value};
+use script_forms::{LineFault, ScriptFault, refusal_value};
+use script_heads::draft_refusal;
 use serde_json::Value;
 use std::alloc::Global;
 use vector_forms::{object_of, text_value};

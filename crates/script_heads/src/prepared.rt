@@ -1,11 +1,11 @@
 //! What a new head of a branch is made from, as a JSON value.
 
-use crate::settings::hooks_value;
 use lake_base::NoMemory;
 use lake_format::Cut;
 use lake_preparing::Prepared;
 use lake_values::{Change, Changes};
 use meta_range::{Tree, Trio};
+use script_forms::hooks_value;
 use serde_json::{Map, Value};
 use std::alloc::Global;
 use vector_forms::{digest_value, entry_value, pair_value, text_value};

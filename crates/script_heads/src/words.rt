@@ -2,11 +2,10 @@
 ghost use Rattle.std.specs.Prelude.{IfOk};
 ghost use Rattle.lake_values.specs.Commit.{IsRemark};
 
-use crate::arguments::{number_of, str_of};
-use crate::fault::{LineFault, ScriptFault};
 use lake_base::limits::{COMMITTER_LIMIT, KEY_LIMIT, MESSAGE_LIMIT};
 use lake_base::{NameFault, NoMemory, Text};
 use lake_values::{About, Pairs, PairsFault, Strategy};
+use script_forms::{LineFault, ScriptFault, number_of, str_of};
 use serde_json::Value;
 use std::alloc::Global;
 use vector_forms::{member_of, text_of};
