@@ -1,3 +1,3 @@
-//! Scripts of calls on a record and its tokens, as tables; and the calls as a step of the lake makes them.
-mod scripts;
+//! Calls on a record and its tokens, and the calls as a step of the lake makes them.
+mod calls;
 mod steps;

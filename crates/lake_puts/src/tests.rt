@@ -1,8 +1,10 @@
 //! Each call on a lake with one branch, which has changes under two tokens.
-ghost use Rattle.std.specs.Prelude.{◌≡◌, IsTrue, false};
+ghost use Rattle.std.specs.Prelude.{◌≡◌, IfSome, IsTrue, false};
 ghost use Rattle.std.specs.Option.{ForSome};
 ghost use Rattle.std.specs.FinMap.{get};
 ghost use Rattle.lake_base.specs.Names.{is_like_id};
+ghost use Rattle.lake_values.specs.NoteNames.{note_name};
+ghost use Rattle.lake_puts.specs.Puts.{HasText};
 ghost use Rattle.lake_state.specs.Counts.{AreFew};
 ghost use Rattle.lake_state.specs.Lakes.{lake_value};
 
@@ -205,6 +207,20 @@ static RESETS: [(&str, &[u8], usize); 4] = [
     ("main", b"", 5),
 ];
 
+// The puts of a reset.
+fn puts_of_reset(
+    alloc: Global,
+    lake: &LakeState,
+    repo: &RepoName,
+    name: &RefName,
+    what: &ResetWhat,
+) -> Result<Vec<Put>, NoMemory>
+    requires plain { is_like_id name.now ≡ false }
+    requires few { AreFew (lake_value lake.now) }
+{
+    reset_puts(alloc, lake, repo, name, what)
+}
+
 #[test]
 fn each_reset_has_its_puts(rt: HostRuntime) -> Result<(), Fail> {
     let alloc = rt.alloc();
@@ -214,7 +230,7 @@ fn each_reset_has_its_puts(rt: HostRuntime) -> Result<(), Fail> {
         let name = name(alloc, text)?;
         let what = ResetWhat::Prefix(Text::read(alloc, prefix, 1)?);
         assert!(rt; !name.like_id() && are_few(&lake));
-        let puts = reset_puts(alloc, &lake, &repo, &name, &what)?;
+        let puts = puts_of_reset(alloc, &lake, &repo, &name, &what)?;
         assert_eq!(rt; puts.len(), *count, "of {text}");
     }
     Ok(())
@@ -231,21 +247,43 @@ fn is_plain(lake: &LakeState, repo: &RepoName) -> bool
     }
 }
 
+// A setting of no patterns, one of no rules, and none.
+fn setting(alloc: Global, name: NoteName) -> Option<Note>
+    ensures name { IfSome result (λ n. note_name n ≡ name) }
+    ensures text { IfSome result HasText }
+{
+    match name {
+        NoteName::Protection => Some(Note::Protection(Protection {
+            patterns: Sequence::of(Vec::new(alloc)),
+        })),
+        NoteName::Hooks => Some(Note::Hooks(HookRules {
+            rules: Sequence::of(Vec::new(alloc)),
+        })),
+        NoteName::Retention => None,
+    }
+}
+
+// The puts of a setting, where its condition holds.
+fn puts_of_setting(
+    alloc: Global,
+    lake: &LakeState,
+    repo: &RepoName,
+    name: NoteName,
+) -> Result<Vec<Put>, Fail> {
+    if !is_plain(lake, repo) || !are_few(lake) {
+        return Err("the lake isn't small")?;
+    }
+    let note = setting(alloc, name);
+    Ok(set_note_puts(alloc, lake, repo, name, note.as_ref())?)
+}
+
 #[test]
 fn each_setting_has_its_puts(rt: HostRuntime) -> Result<(), Fail> {
     let alloc = rt.alloc();
     let repo = RepoName::read(alloc, b"abc")?;
     let lake = lake(alloc, repo.copy(alloc)?)?;
-    assert!(rt; is_plain(&lake, &repo) && are_few(&lake));
-    let patterns = Sequence::of(Vec::new(alloc));
-    let note = Note::Protection(Protection { patterns });
-    let puts = set_note_puts(alloc, &lake, &repo, NoteName::Protection, Some(&note))?;
-    assert_eq!(rt; puts.len(), 3);
-    let rules = Sequence::of(Vec::new(alloc));
-    let note = Note::Hooks(HookRules { rules });
-    let puts = set_note_puts(alloc, &lake, &repo, NoteName::Hooks, Some(&note))?;
-    assert_eq!(rt; puts.len(), 3);
-    let puts = set_note_puts(alloc, &lake, &repo, NoteName::Retention, None)?;
-    assert_eq!(rt; puts.len(), 3);
+    for name in [NoteName::Protection, NoteName::Hooks, NoteName::Retention] {
+        assert_eq!(rt; puts_of_setting(alloc, &lake, &repo, name)?.len(), 3);
+    }
     Ok(())
 }
