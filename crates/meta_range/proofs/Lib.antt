@@ -8,3 +8,4 @@ pub mod BuildLemmas
 pub mod NamesLemmas
 pub mod TrioLemmas
 pub mod FileLemmas
+pub mod EndsLemmas

@@ -5,3 +5,4 @@ pub mod Names
 pub mod Trio
 pub mod Metarange
 pub mod Reading
+pub mod Ends

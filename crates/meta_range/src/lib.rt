@@ -3,7 +3,7 @@
 //!
 //! - `tree`, `tree_files`, `shared_range`, `limits`: the tree of a map, what stands in it, and its files.
 //! - `trio`, `named_ranges`, `places`: three trees of a merge, and their ranges by name.
-//! - `cursor`: its rows, one after the other.
+//! - `cursor`: its rows, one after the other; `ends`: where its ranges begin and end.
 //! - `metarange`: the file that says of a tree's ranges which they are, written and read.
 //! - `reading`, `given_files`, `file`, `fault`: a tree from its files, or the first fault.
 //!
@@ -12,6 +12,7 @@
 #![tactic(auto)]
 
 mod cursor;
+mod ends;
 mod fault;
 mod file;
 mod given_files;
@@ -29,6 +30,7 @@ mod tree_files;
 mod trio;
 
 pub use cursor::Cursor;
+pub use ends::law_of_ends;
 pub use fault::{MetaFault, TreeFault};
 pub use file::File;
 pub use lake_values::cursor::EntryCursor;
