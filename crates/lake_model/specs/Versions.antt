@@ -17,7 +17,7 @@ pub record VersionsGiven : Type 0 where
   pub branches : ByteMap (ByteMap ℕ)
   -- the last one of each repository's settings
   pub settings : ByteMap ℕ
-  -- how many entries so far changed what references lead to
+  -- how many entries so far changed what references lead to, a setting, or what is expired
   pub references : ℕ
 
 -- the version of a branch: the last one given, 0 where none was
@@ -46,7 +46,7 @@ version_holder (Pick repo branch base source strategy about) = Branch repo branc
 version_holder (NoteSet repo name value) = Settings repo
 version_holder _ = Nobody
 
--- whether an operation changes what references lead to
+-- whether an operation changes what references lead to, a setting, or what is expired
 abbrev pub moves_references : Operation → Bool
 moves_references (RepoCreate repo branch date) = true
 moves_references (BranchCreate repo branch commit) = true

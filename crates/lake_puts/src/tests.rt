@@ -1,4 +1,4 @@
-//! Each call on a lake with one branch, which has changes under two tokens.
+//! Calls on a lake with one branch, which has changes under two tokens.
 ghost use Rattle.std.specs.Prelude.{◌≡◌, IfSome, IsTrue, false};
 ghost use Rattle.std.specs.Option.{ForSome};
 ghost use Rattle.std.specs.FinMap.{get};

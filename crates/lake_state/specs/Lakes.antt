@@ -22,7 +22,7 @@ pub record LakeStateValue : Type 0 where
   pub stopped : Bool
   -- how many entries the history has
   pub entries : ℕ
-  -- how many of them changed what references lead to
+  -- how many of them changed what references lead to, a setting, or what is expired
   pub references : ℕ
   -- what is given out next
   pub next_number : ℕ

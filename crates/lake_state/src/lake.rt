@@ -33,7 +33,7 @@ pub struct LakeState {
     pub stopped: bool,
     /// How many entries the history has.
     pub entries: u64,
-    /// How many of them changed what references lead to.
+    /// How many of them changed what references lead to, a setting, or what is expired.
     pub references: u64,
     /// What is given out next: the number of an object, a version, a token.
     pub next_number: u64,
