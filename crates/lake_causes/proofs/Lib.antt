@@ -7,6 +7,7 @@ pub mod FaultLemmas
 pub mod FirstCauseLemmas
 pub mod GuardingLemmas
 pub mod NamingLemmas
+pub mod ProvenanceLemmas
 pub mod PlaceLemmas
 pub mod RepositoriesLemmas
 pub mod SmallLakeLemmas

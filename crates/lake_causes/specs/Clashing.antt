@@ -14,6 +14,8 @@ use Rattle.lake_model.specs.Refusals.{Clash, IsClashOrNone, clash_fault, first_c
 use Rattle.lake_model.specs.Steps.{create_repository_causes}
 use Rattle.lake_state.specs.Index.{indexed_commit}
 use Rattle.lake_state.specs.Lakes.{LakeStateValue}
+use Rattle.tree_provenance.specs.Provenance.{IsFileOf}
+use Rattle.tree_provenance.specs.declared.provenance.Provenance.{Provenance}
 
 -- what a test answers that takes memory: it passed where there is no cause; else its answer is the cause; or memory ran
 -- out
@@ -34,6 +36,10 @@ pub record AsksForBytes {X : Type 0} (state : State) (r : Repository) (draft : D
   pub clash : Option Clash
   pub there : IsClashOrNone state r draft clash
   pub tells : TellsOrFails (clash_fault clash) answer
+
+-- each file of the trees that a map was made from is found by its name
+abbrev pub AreFound : LakeStateValue → Provenance → Type 0
+AreFound l provenance = (file : List ℕ) → IsFileOf provenance file → get l.names.files (file_name file).0 ≡ Some file
 
 -- ---- in the hands of the code
 

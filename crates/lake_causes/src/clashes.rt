@@ -11,7 +11,8 @@ ghost use Rattle.lake_model.specs.Soundness.{IsSound};
 ghost use Rattle.lake_model.specs.State.{Repository};
 ghost use Rattle.lake_state.specs.Index.{HasIndex};
 ghost use Rattle.lake_state.specs.Lakes.{lake_value, state_of};
-ghost use Rattle.lake_causes.specs.Clashing.{AsksForBytes, TellsOrFails, clash_with, first_clash, first_twins, indexed_clash, indexed_content, other_content, other_than};
+ghost use Rattle.tree_provenance.specs.Provenance.{IsMadeFrom};
+ghost use Rattle.lake_causes.specs.Clashing.{AreFound, AsksForBytes, TellsOrFails, clash_with, first_clash, first_twins, indexed_clash, indexed_content, other_content, other_than};
 
 use commit_graph::commit_bytes;
 use lake_base::{Digest, NoMemory, Sequence};
@@ -20,59 +21,91 @@ use lake_state::LakeState;
 use meta_range::{File, Tree};
 use std::alloc::Global;
 use std::collections::BTreeMap;
+use tree_provenance::Provenance;
 
 /// What the bytes of a new commit ask, given under its id, with its tree: neither they nor a file of the tree share a
 /// name with other bytes that are kept, and no two files of the tree share a name and differ. NameClash, NoMemory.
+///
+/// A range that is known to be one of the trees' that the map was made from is kept, and its rows aren't looked at.
 pub fn test_new_commit(
     alloc: Global,
     lake: &LakeState,
     content: &File,
     tree: &Tree,
+    provenance: &Provenance<'_>,
 ) -> Result<(), StepFault>
     requires sound { IsSound (state_of (lake_value lake.now)) }
     requires index { HasIndex (lake_value lake.now) }
     requires named { content.now ≡ file_of content.now.bytes }
+    requires made { IsMadeFrom provenance.now tree.now.map }
+    requires found { AreFound (lake_value lake.now) provenance.now }
     ensures { (r : Repository) (draft : Draft)
         → bytes_of (lake_value lake.now).cut r.commits draft ≡ content.now.bytes ∷ tree.now.files
         → AsksForBytes (state_of (lake_value lake.now)) r draft result }
 {
     test_clash(alloc, lake, content)?;
-    test_files(alloc, lake, tree)?;
+    test_files(alloc, lake, tree, provenance)?;
     test_twins(alloc, tree)
 }
 
 // Refuses a tree where other bytes are kept under the name of a file of it. NameClash, NoMemory.
-pub(crate) fn test_files(alloc: Global, lake: &LakeState, tree: &Tree) -> Result<(), StepFault>
+pub(crate) fn test_files(
+    alloc: Global,
+    lake: &LakeState,
+    tree: &Tree,
+    provenance: &Provenance<'_>,
+) -> Result<(), StepFault>
+    requires made { IsMadeFrom provenance.now tree.now.map }
+    requires found { AreFound (lake_value lake.now) provenance.now }
     ensures { TellsOrFails (clash_fault (first_clash (lake_value lake.now) tree.now.files)) result }
 {
     for place in 0..=tree.range_count() {
-        test_file(alloc, lake, tree, place)?;
+        test_file(alloc, lake, tree, provenance, place)?;
     }
     Ok(())
 }
 
 // Refuses the file of a tree at a place where other bytes are kept under its name. NameClash, NoMemory.
-fn test_file(alloc: Global, lake: &LakeState, tree: &Tree, place: usize) -> Result<(), StepFault>
-    requires { place < length tree.now.files }
+fn test_file(
+    alloc: Global,
+    lake: &LakeState,
+    tree: &Tree,
+    provenance: &Provenance<'_>,
+    place: usize,
+) -> Result<(), StepFault>
+    requires within { place < length tree.now.files }
+    requires made { IsMadeFrom provenance.now tree.now.map }
+    requires found { AreFound (lake_value lake.now) provenance.now }
     ensures { TellsOrFails (clash_fault (indexed_clash (lake_value lake.now) (file_at tree.now.files place))) result }
 {
-    if is_free(alloc, lake, tree, place)? {
+    if is_free(alloc, lake, tree, provenance, place)? {
         return Ok(());
     }
     let new = tree.file(alloc, place)?;
     test_clash(alloc, lake, &new)
 }
 
-// Whether nothing is found under the name of the file of a tree at a place, or a file that is the same. A range is
-// compared with a range by its rows, and isn't written.
-fn is_free(alloc: Global, lake: &LakeState, tree: &Tree, place: usize) -> Result<bool, NoMemory>
-    requires { place < length tree.now.files }
+// Whether nothing is found under the name of the file of a tree at a place, or a file that is the same. A range that is
+// known to be one of the trees' that the map was made from is kept; another is compared with a range by its rows, and isn't written.
+fn is_free(
+    alloc: Global,
+    lake: &LakeState,
+    tree: &Tree,
+    provenance: &Provenance<'_>,
+    place: usize,
+) -> Result<bool, NoMemory>
+    requires within { place < length tree.now.files }
+    requires made { IsMadeFrom provenance.now tree.now.map }
+    requires found { AreFound (lake_value lake.now) provenance.now }
     ensures { IfOk result (λ free. OnTrue free (other_content (lake_value lake.now)
         (file_name (file_at tree.now.files place)) (file_at tree.now.files place) ≡ None)) }
 {
     let name = tree.file_name(place);
     if lake.commit(&name).is_some() {
         return Ok(false);
+    }
+    if place > 0 && provenance.has_range(tree, place) {
+        return Ok(true);
     }
     match lake.file(&name) {
         Some(kept) => kept.has_file_of(alloc, tree, place),

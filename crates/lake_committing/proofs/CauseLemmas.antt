@@ -1,10 +1,8 @@
 -- The first cause of a new head: what its guard tells, then what is expired, then a clash.
-use Rattle.std.proofs.Common.{◌≡◌, ℕ, Bool, true, false, List, [], ◌∷◌, ◌++◌, refl, sym, ap, ◌∙◌}
+use Rattle.std.proofs.Common.{◌≡◌, ℕ, Bool, true, false, List, [], ◌∷◌, ◌++◌, refl, ap, ◌∙◌}
 use Rattle.std.specs.Prelude.{Option, Some, None, option_and_then, option_map}
 use Rattle.std.specs.Option.{option_or}
 use Rattle.std.specs.FinMap.{get}
-use Rattle.byte_map.proofs.ValuesLemmas.{get_map_values}
-use Rattle.lake_values.specs.Commit.{AboutValue}
 use Rattle.lake_format.specs.Spelling.{commit_id}
 use Rattle.lake_model.specs.declared.fault.StepFault.{StepFault}
 use Rattle.lake_model.specs.State.{Branch, Repository, State}

@@ -5,6 +5,7 @@ pub mod StandingLemmas
 pub mod CauseLemmas
 pub mod HeadingLemmas
 pub mod NamingLemmas
+pub mod ProvenanceLemmas
 pub mod PlaceLemmas
 pub mod TestingLemmas
 pub mod SwappingLemmas

@@ -1,5 +1,5 @@
 -- A new commit with which nothing clashes is the one of its id that stands, with its tree.
-use Rattle.std.proofs.Common.{◌≡◌, ◌≢◌, ◌⊎◌, ℕ, Bool, true, false, List, ◌∷◌, inl, inr, refl, sym, ap, subst, ◌∙◌}
+use Rattle.std.proofs.Common.{◌≡◌, ◌⊎◌, ℕ, true, List, inl, inr, refl, sym, ap, subst, ◌∙◌}
 use Rattle.std.proofs.lemmas.Bool.{cases_Bool}
 use Rattle.std.proofs.lemmas.Slice.Eq.{bytes_eq-Decides}
 use Rattle.std.specs.Prelude.{Option, Some, None, IsSome, is_some, option_map}
@@ -7,13 +7,12 @@ use Rattle.std.specs.FinMap.{empty, get}
 use Rattle.std.specs.List.{Contains}
 use Rattle.std.specs.Option.{unwrap_or}
 use Rattle.std.specs.Str.{bytes_eq}
-use Rattle.lake_base.specs.declared.digest.Digest.{Digest}
 use Rattle.lake_values.specs.Ancestry.{commit_of}
 use Rattle.lake_values.specs.Commit.{CommitRecordValue}
 use Rattle.lake_values.proofs.OrderLemmas.{Contains-first, Contains-later}
 use Rattle.lake_format.specs.Cutting.{files, tree_id}
-use Rattle.lake_format.specs.Spelling.{commit_id, commit_spelling, file_name, IsSpelledCommit}
-use Rattle.meta_range.specs.Files.{Clash, FitsTree}
+use Rattle.lake_format.specs.Spelling.{commit_spelling, file_name, IsSpelledCommit}
+use Rattle.meta_range.specs.Files.{Clash}
 use Rattle.meta_range.specs.Ranges.{TreeValue}
 use Rattle.byte_map.proofs.ValuesLemmas.{get_map_values}
 use Rattle.lake_model.specs.State.{map_of}
@@ -24,7 +23,6 @@ use Rattle.lake_state.specs.Index.{HasIndex}
 use Rattle.lake_state.specs.Lakes.{LakeStateValue, state_of}
 use Rattle.lake_state.specs.NewHeads.{NewCommit, commit_of_draft}
 use Rattle.lake_state.specs.Repositories.{RepositoryStateValue, repository_of}
-use Rattle.lake_committing.specs.Keeping.{MayHave}
 
 -- what the limits say of a commit's bytes
 abbrev pub AreSpelledApart : Type 0

@@ -1,5 +1,5 @@
 -- What the test of a new head answers.
-use Rattle.std.proofs.Common.{◌≡◌, ◌⊎◌, ◌<◌, ℕ, Bool, true, false, List, [], ◌∷◌, inl, inr, refl, sym, ap, subst, ◌∙◌}
+use Rattle.std.proofs.Common.{◌≡◌, ◌<◌, ℕ, Bool, true, false, List, [], ◌∷◌, inl, inr, refl, sym, ap, subst, ◌∙◌}
 use Rattle.std.specs.Prelude.{◌==◌, ◌&&◌, Option, Some, None, Result, Ok, Err, IsErrAnd, not, nat_lt, option_and_then, option_map}
 use Rattle.std.specs.Option.{option_or}
 use Rattle.std.specs.FinMap.{get}
@@ -7,15 +7,15 @@ use Rattle.std.proofs.lemmas.Bool.{eqb-true, ltb-true}
 use Rattle.lake_base.specs.declared.digest.Digest.{Digest}
 use Rattle.lake_values.specs.Commit.{AboutValue, CommitRecordValue}
 use Rattle.lake_format.specs.Cutting.{files}
-use Rattle.lake_format.specs.Spelling.{commit_id, commit_spelling}
+use Rattle.lake_format.specs.Spelling.{commit_spelling}
 use Rattle.meta_range.specs.Files.{file_of}
 use Rattle.meta_range.specs.Ranges.{TreeValue}
 use Rattle.meta_range.specs.declared.file.File.{File}
 use Rattle.lake_model.specs.declared.fault.StepFault.{StepFault}
 use Rattle.lake_model.specs.declared.fault.StepFault.TheVariants.{Changed, HistoryFull, NoMemory}
 use Rattle.lake_model.specs.declared.reply.SwapKind.{SwapKind}
-use Rattle.lake_model.specs.State.{Repository}
-use Rattle.lake_model.specs.Commits.{Draft, bytes_of, record_of}
+use Rattle.lake_model.specs.State.{HasCommit, Repository}
+use Rattle.lake_model.specs.Commits.{Draft, bytes_of}
 use Rattle.lake_model.specs.Refusals.{Causes, Clash, IsClashOrNone, cause_if, clash_fault, first_cause, first_of}
 use Rattle.lake_model.specs.Soundness.{IsSound}
 use Rattle.lake_model.specs.Steps.{IsSwapClash, SwapRule, expired_fault, is_current, swap_causes, swap_expired, swap_rule}
@@ -26,15 +26,19 @@ use Rattle.lake_state.specs.Index.{HasIndex}
 use Rattle.lake_state.specs.Lakes.{LakeStateValue, state_of}
 use Rattle.lake_state.specs.NewHeads.{NewCommit, commit_of_draft}
 use Rattle.lake_state.specs.Repositories.{RepositoryStateValue, repository_of}
-use Rattle.lake_causes.specs.Clashing.{AsksForBytes, first_clash, first_twins}
+use Rattle.tree_provenance.specs.Provenance.{IsMadeFrom}
+use Rattle.tree_provenance.specs.declared.provenance.Provenance.{Provenance}
+use Rattle.lake_causes.specs.Clashing.{AreFound, AsksForBytes, first_clash, first_twins}
 use Rattle.lake_causes.specs.Guarding.{guard_causes}
 use Rattle.lake_causes.proofs.ClashLemmas.{any_answer}
 use Rattle.lake_causes.proofs.TwinLemmas.{twins_answer}
 use Rattle.lake_committing.specs.Keeping.{MayHave}
 use Rattle.lake_committing.specs.NewHeads.{IsDrafted, IsTreeFor, draft_for, new_commit}
+use Rattle.lake_committing.specs.Provenance.{HasTreesOf}
 use Rattle.lake_committing.specs.Testing.{AsksForHead, HasTreeFor, IsNewHead, drafted_in}
 use Rattle.lake_committing.specs.declared.commits.NewHead.{NewHead}
 use Rattle.lake_committing.proofs.CauseLemmas.{expired_there, first_tells, guard_passes, guard_refuses, second_tells}
+use Rattle.lake_committing.proofs.ProvenanceLemmas.{all_found, head_there}
 use Rattle.lake_committing.proofs.PlaceLemmas.{in_state, no_branch, no_repository, on_state, same_some, where_there}
 
 -- ---- a clash of what is drafted, or none
@@ -249,11 +253,26 @@ module _ (l : LakeStateValue) (sound : IsSound (state_of l)) (index : HasIndex l
   pub room_found : l.entries < 4194304
   room_found = has_room l (versions_of l) repo branch version settings (swap_rule swap about).protects (passes (versions_of l) own)
 
+  tree_is : IsTreeFor l.cut (draft_for swap about r b) tree
+  tree_is =
+      tree_drafted l (versions_of l) repo branch version settings (swap_rule swap about).protects (passes (versions_of l) own) own
+      swap about tree due r b at on
+
+  -- the head is there, and the trees that the map is made from are found by their names
+  pub head_is : HasCommit (repository_of r) b.head
+  head_is = head_there l sound index repo r at branch b on
+
+  pub trees_found : (provenance : Provenance) → HasTreesOf r provenance → AreFound l provenance
+  trees_found = all_found l sound index repo r at
+
   module _ (new : NewHead) (drafts : IsDrafted l.cut r b swap about tree new) where
     is_new : new_commit new ≡ commit_of_draft l.cut r.commits (draft_for swap about r b)
-    is_new =
-        drafts.drafted (tree_drafted l (versions_of l) repo branch version settings (swap_rule swap about).protects (passes (versions_of l) own) own
-        swap about tree due r b at on)
+    is_new = drafts.drafted tree_is
+
+    -- what the drafted map is made from, the map of the tree is
+    pub made_from : (shared : TreeValue) → shared ≡ new.tree.value → (provenance : Provenance) → IsMadeFrom provenance (draft_for swap about r b).objects
+        → IsMadeFrom provenance shared.map
+    made_from shared deref provenance made = subst (IsMadeFrom provenance) (sym (ap (λ (t : TreeValue). t.map) (deref ∙ drafts.tree) ∙ tree_is.map)) made
 
     module _ (source : Option Digest) (used : source ≡ (swap_rule swap about).source) where
       abbrev expired : Option StepFault

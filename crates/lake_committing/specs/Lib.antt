@@ -4,3 +4,4 @@ pub mod Naming
 pub mod Testing
 pub mod Ready
 pub mod Making
+pub mod Provenance

@@ -10,6 +10,7 @@ ghost use Rattle.lake_state.specs.Lakes.{lake_value, state_of};
 ghost use Rattle.lake_committing.specs.Testing.{AsksForHead, HasTreeFor, IsNewHead};
 
 use crate::commits::{NewHead, new_head};
+use crate::provenance::provenance_of;
 use crate::standing::law_of_standing;
 use lake_base::{RefName, RepoName, TryCopy};
 use lake_causes::{test_guard, test_live_head, test_new_commit};
@@ -62,7 +63,9 @@ pub fn test_head(
     )?;
     let new = new_head(alloc, repository, found, kind, about.copy(alloc)?, tree)?;
     test_live_head(repository, source_of(kind), new.content.name)?;
-    test_new_commit(alloc, lake, &new.content, &new.tree)?;
+    let sealed = found.record.overlay(alloc, &found.tokens, true)?;
+    let provenance = provenance_of(alloc, repository, found, kind, &sealed)?;
+    test_new_commit(alloc, lake, &new.content, &new.tree, &provenance)?;
     law_of_standing(repository, &new);
     Ok(new)
 }

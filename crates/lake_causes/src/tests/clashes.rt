@@ -10,6 +10,7 @@ use meta_range::{File, Tree};
 use std::alloc::Global;
 use std::sync::Arc;
 use std::test::Fail;
+use tree_provenance::Provenance;
 
 // The repository of the lake, and the head of its branch.
 pub(super) fn repository_of(
@@ -112,7 +113,10 @@ fn another_file_of_a_kept_name_clashes(rt: HostRuntime) -> Result<(), Fail> {
     let alloc = rt.alloc();
     for (place, clash) in [(0, false), (1, true)] {
         let (lake, tree) = misnamed_lake(alloc, place)?;
-        assert_eq!(rt; test_files(alloc, &lake, &tree).is_err(), clash);
+        assert_eq!(rt;
+            test_files(alloc, &lake, &tree, &Provenance::Unknown).is_err(),
+            clash
+        );
         assert!(rt; test_twins(alloc, &tree).is_ok());
     }
     Ok(())

@@ -1,4 +1,4 @@
-use Rattle.std.proofs.Common.{refl, sym, ap, ◌∙◌}
+use Rattle.std.proofs.Common.{refl, ap, ◌∙◌}
 use Rattle.lake_model.specs.Steps.{swap_rule}
 use Rattle.lake_state.specs.Counts.{versions_of}
 use Rattle.lake_state.specs.Lakes.{LakeStateValue, lake_value, state_of}

@@ -6,7 +6,7 @@ use Rattle.lake_state.specs.Lakes.{lake_value, state_of}
 use Rattle.lake_state.specs.Repositories.{repository_value}
 use Rattle.lake_causes.specs.Guarding.{guard_causes}
 use Rattle.lake_committing.specs.NewHeads.{IsDrafted}
-use Rattle.lake_committing.proofs.TestingLemmas.{guard_refused, head_found, head_passed, live_refused, names_refused, room_found, starved}
+use Rattle.lake_committing.proofs.TestingLemmas.{guard_refused, head_found, head_is, head_passed, live_refused, made_from, names_refused, room_found, starved, trees_found}
 use Rattle.lake_committing.proofs.testing.test_head.Goals as goal
 
 pub returns-in_err-repository-clause-asks : goal.returns-in_err-repository-clause-asks
@@ -39,6 +39,44 @@ returns-in_err-test_live_head-clause-asks c given has =
     c.args.tree c.requires.tree c.asks_protection.result (c.asks_protection.ensures c.args.about.now) r b c.in_ok-repository.ensures (c.law_of_versions.ensures l)
     new drafts c.source_of.result (c.source_of.ensures c.args.about.now) c.in_err-test_live_head.field-0.0 c.in_err-test_live_head.ensures given has
     c.from_residual-in_err-test_live_head.result c.from_residual-in_err-test_live_head.ensures.1
+
+pub returns-in_err-sealed-clause-asks : goal.returns-in_err-sealed-clause-asks
+returns-in_err-sealed-clause-asks c given has =
+    starved (lake_value c.args.lake.now) c.requires.sound c.requires.index c.args.repo.now c.args.branch.now c.args.kind c.args.about.now given
+    c.args.guard.version c.args.guard.settings c.from_residual-in_err-sealed.result c.from_residual-in_err-sealed.ensures.1
+
+pub provenance_of-requires-clause-head : goal.provenance_of-requires-clause-head
+provenance_of-requires-clause-head c =
+    let l = lake_value c.args.lake.now in
+    let r = repository_value c.in_ok-repository.repository.now in
+    let b = branch_value c.in_ok-repository.found.now in
+    head_is l c.requires.sound c.requires.index c.args.repo.now c.args.branch.now c.args.kind c.args.about.now c.args.guard.version c.args.guard.settings
+    c.args.tree c.requires.tree c.asks_protection.result (c.asks_protection.ensures c.args.about.now) r b c.in_ok-repository.ensures (c.law_of_versions.ensures l)
+
+pub returns-in_err-provenance-clause-asks : goal.returns-in_err-provenance-clause-asks
+returns-in_err-provenance-clause-asks c given has =
+    starved (lake_value c.args.lake.now) c.requires.sound c.requires.index c.args.repo.now c.args.branch.now c.args.kind c.args.about.now given
+    c.args.guard.version c.args.guard.settings c.from_residual-in_err-provenance.result c.from_residual-in_err-provenance.ensures.1
+
+pub test_new_commit-requires-clause-made : goal.test_new_commit-requires-clause-made
+test_new_commit-requires-clause-made c =
+    let l = lake_value c.args.lake.now in
+    let r = repository_value c.in_ok-repository.repository.now in
+    let b = branch_value c.in_ok-repository.found.now in
+    let new = c.in_ok-new.new in
+    let drafts = subst (λ (about : AboutValue). IsDrafted l.cut r b c.args.kind about c.args.tree new) c.in_ok-copy.ensures.equal (c.in_ok-new.ensures l.cut) in
+    made_from l c.requires.sound c.requires.index c.args.repo.now c.args.branch.now c.args.kind c.args.about.now c.args.guard.version c.args.guard.settings
+    c.args.tree c.requires.tree c.asks_protection.result (c.asks_protection.ensures c.args.about.now) r b c.in_ok-repository.ensures (c.law_of_versions.ensures l)
+    new drafts c.deref.result.now c.deref.ensures c.in_ok-provenance.provenance (c.in_ok-provenance.ensures.made c.args.about.now)
+
+pub test_new_commit-requires-clause-found : goal.test_new_commit-requires-clause-found
+test_new_commit-requires-clause-found c =
+    let l = lake_value c.args.lake.now in
+    let r = repository_value c.in_ok-repository.repository.now in
+    let b = branch_value c.in_ok-repository.found.now in
+    trees_found l c.requires.sound c.requires.index c.args.repo.now c.args.branch.now c.args.kind c.args.about.now c.args.guard.version c.args.guard.settings
+    c.args.tree c.requires.tree c.asks_protection.result (c.asks_protection.ensures c.args.about.now) r b c.in_ok-repository.ensures (c.law_of_versions.ensures l)
+    c.in_ok-provenance.provenance c.in_ok-provenance.ensures.trees
 
 pub returns-in_err-test_new_commit-clause-asks : goal.returns-in_err-test_new_commit-clause-asks
 returns-in_err-test_new_commit-clause-asks c given has =
