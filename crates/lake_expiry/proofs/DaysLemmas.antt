@@ -76,7 +76,7 @@ module _ (cut : Cut) (digest : Digest) where
   abbrev before_second : Branch
   before_second = branch_with one sealed_second empty
 
-  abbrev s2 : State
+  abbrev pub s2 : State
   s2 = uploaded (counted (counted s1)) 1
 
   abbrev pub two : Digest
@@ -85,13 +85,13 @@ module _ (cut : Cut) (digest : Digest) where
   abbrev pub r2 : Repository
   r2 = with_new s2 r1 before_second (said_at 1100000)
 
-  abbrev clean_second : Branch
+  abbrev pub clean_second : Branch
   clean_second = branch_with two empty empty
 
   second_course : Leads (scene (counted s1) r1 clean_first) (second_changes digest) (scene s2 r1 before_second)
   second_course = leads_on (deletion (counted s1) r1 one refl (omega arith) refl x) (upload (counted (counted s1)) r1 one refl (omega arith) refl (insert empty x Delete) 1 y digest refl)
 
-  second_end : lake_of_second cut digest ≡ scene (counted s2) r2 clean_second
+  pub second_end : lake_of_second cut digest ≡ scene (counted s2) r2 clean_second
   unfolding lake_of_second
   second_end =
       ap (λ (l : State). replay l (second_day digest)) first_end

@@ -4,3 +4,4 @@ pub mod UploadsLemmas
 pub mod DaysLemmas
 pub mod EndLemmas
 pub mod ExpiryLemmas
+pub mod PauseLemmas

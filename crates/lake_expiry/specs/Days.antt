@@ -67,6 +67,10 @@ last_changes digest =
 unfoldable pub lake : Cut → Digest → State
 lake cut digest = replay (lake_of_second cut digest) (last_changes digest)
 
+-- the lake of the two days with nothing sealed or given out after them: commits are kept for a day
+unfoldable pub quiet_lake : Cut → Digest → State
+quiet_lake cut digest = replay (lake_of_second cut digest) (entry_of (NoteSet quickstart name.Retention (Some one_day)) ∷ [])
+
 -- the commits of the two days
 unfoldable pub first_commit : Cut → Digest → Digest
 first_commit cut digest = head_of (lake_of_first cut digest)
@@ -95,6 +99,10 @@ older_commits cut digest = commit (first_commit cut digest) ∷ commit (first cu
 -- the lake after that
 abbrev pub lake_after : Cut → Digest → State
 lake_after cut digest = after (lake cut digest) (expire_entry (older_commits cut digest))
+
+-- the quiet lake after that
+abbrev pub quiet_lake_after : Cut → Digest → State
+quiet_lake_after cut digest = after (quiet_lake cut digest) (expire_entry (older_commits cut digest))
 
 -- the number 0 is condemned
 abbrev pub condemn_entry : HistoryEntry

@@ -1,13 +1,22 @@
 //! The commits of a lake expire, and a number is condemned.
-ghost use Rattle.std.specs.Prelude.{◌≡◌, [], ◌∷◌};
+ghost use Rattle.std.specs.Prelude.{◌≡◌, [], ◌∷◌, ℕ, Option, Some, true, IsOk};
 ghost use Rattle.lake_base.specs.declared.digest.Digest.{Digest};
 ghost use Rattle.lake_format.specs.declared.cut.Cut.{Cut};
+ghost use Rattle.lake_values.specs.Commit.{AboutValue};
 ghost use Rattle.lake_values.specs.Keeping.{cutoff};
+ghost use Rattle.lake_values.specs.declared.commit.Strategy.{Strategy};
 ghost use Rattle.lake_model.specs.History.{Allows, IsLegal};
 ghost use Rattle.lake_model.specs.Naming.{IsGarbage, IsNamed};
+ghost use Rattle.lake_model.specs.Preparing.{prepare_reply};
+ghost use Rattle.lake_model.specs.Refusals.{Clash, first_cause};
 ghost use Rattle.lake_model.specs.Soundness.{fresh};
-ghost use Rattle.lake_histories.specs.Words.{first, IsCommitAdmissible};
-ghost use Rattle.lake_expiry.specs.Days.{AreApart, commit, entries, expire_entry, first_commit, lake, lake_after, lake_before_first, lake_before_second, older_commits, said_at, second_commit};
+ghost use Rattle.lake_model.specs.Steps.{is_current, swap_causes, swap_rule};
+ghost use Rattle.lake_model.specs.Versions.{VersionsGiven};
+ghost use Rattle.lake_model.specs.declared.fault.StepFault.TheVariants.{Expired};
+ghost use Rattle.lake_model.specs.declared.reply.Sides.TheVariants as sides;
+ghost use Rattle.lake_model.specs.declared.reply.SwapKind.TheVariants.{Pick};
+ghost use Rattle.lake_histories.specs.Words.{first, main, quickstart, IsCommitAdmissible};
+ghost use Rattle.lake_expiry.specs.Days.{AreApart, commit, entries, expire_entry, first_commit, lake, lake_after, lake_before_first, lake_before_second, older_commits, quiet_lake, quiet_lake_after, said_at, second_commit};
 
 /// Commits are kept for a day. At the moment 1,300,000 those expire that are no branch's head, as all are dated before
 /// the moment 1,213,600. Then the number 0, of an object that was deleted in the second commit, is garbage and is
@@ -49,4 +58,20 @@ pub fn expiry_again()
     ensures allowed { (cut : Cut) (digest : Digest) → Allows (lake_after cut digest) (expire_entry []) }
     ensures refused { (cut : Cut) (digest : Digest)
         → Allows (lake_after cut digest) (expire_entry (commit (first cut) ∷ [])) → ⊥ }
+{}
+
+/// Nothing is sealed on `main` and the commit of the first day isn't expired, so what a pick of it is made from is handed
+/// out. It expires in the pause before the swap, and by versions that are those now the swap is refused: the first cause
+/// is that this commit is expired. The premise of the expiry is that the ids of the three commits differ.
+pub fn pick_in_the_pause()
+    ensures handed { (cut : Cut) (digest : Digest) (given : VersionsGiven)
+        → IsOk (prepare_reply (quiet_lake cut digest) given quickstart main
+        (Some (sides.Pick (first cut) (first_commit cut digest)))) }
+    ensures expires { (cut : Cut) (digest : Digest) → AreApart cut digest
+        → Allows (quiet_lake cut digest) (expire_entry (older_commits cut digest)) }
+    ensures refused { (cut : Cut) (digest : Digest) (given : VersionsGiven) (version settings : ℕ) (strategy : Strategy)
+        (about : AboutValue) (clash : Option Clash) → is_current given quickstart main version settings ≡ true
+        → first_cause (swap_causes (quiet_lake_after cut digest) given quickstart main version settings
+        (swap_rule (Pick (first cut) (first_commit cut digest) strategy) about) clash)
+        ≡ Some (Expired (first_commit cut digest)) }
 {}
