@@ -18,6 +18,7 @@ import time
 
 import lake as scripts
 
+
 class Counted(scripts.Lake):
     """A program whose instructions are counted."""
 
