@@ -1,15 +1,14 @@
 -- Changes in an ordered map, and what a reset leaves of them and of one more.
-use Rattle.std.proofs.Common.{◌≡◌, ℕ, Bool, true, false, cond, not, T, List, [], ◌∷◌, Some, None, Option, refl, sym, ap, subst, ◌∙◌, map as list_map, length}
+use Rattle.std.proofs.Common.{◌≡◌, ℕ, Bool, true, false, cond, not, List, [], ◌∷◌, Some, None, refl, sym, ap, ◌∙◌, map as list_map, length}
 use Rattle.std.specs.List.{filter}
 use Rattle.std.specs.List.Sorted.{IsStrictlySortedBy}
 use Rattle.std.specs.Ordering.{eq_by_cmp}
 use Rattle.std.specs.Map.{lookup}
 use Rattle.std.specs.Cmp.{eq_by_cmp_equiv}
-use Rattle.std.specs.Cmp.Lexicographic.{texts_ties}
 use Rattle.std.proofs.lemmas.Cmp.{nat_list_cmp_total}
-use Rattle.std.specs.FinMap.{find, get, entries, from_entries, from_sorted, insert, remove, empty, get-from_entries, get-from_sorted, get-insert, get-remove, get-empty, entries-from_sorted, len, len-entries}
+use Rattle.std.specs.FinMap.{find, get, entries, from_entries, from_sorted, insert, remove, get-from_entries, get-from_sorted, get-insert, get-remove, entries-from_sorted, len, len-entries}
 use Rattle.std.specs.FinMap.Entries.{find-where_key}
-use Rattle.lake_base.specs.Maps.{byte_order, ByteMap}
+use Rattle.lake_base.specs.Maps.{byte_order}
 use Rattle.lake_base.proofs.MapsLemmas.{same_key, tied, ascend_from}
 use Rattle.lake_values.specs.KeyMap.{ChangesValue}
 use Rattle.lake_values.specs.Reset.{drops_path, changes_after_reset}

@@ -1,10 +1,9 @@
 -- What the changes of tokens, the newer over the older, say of a path.
 use Rattle.std.proofs.Common.{◌≡◌, ℕ, Bool, true, false, cond, List, [], ◌∷◌, ◌++◌, Some, None, Option, refl, sym, ap, ◌∙◌, suc, ◌+◌, ◌<◌, ◌≤◌, length, drop, get_or, drop-cons, add-one, arith}
 use Rattle.std.specs.Bool.{nat_eq}
-use Rattle.std.specs.List.{list_any, AllByRecursion, IsDistinct}
+use Rattle.std.specs.List.{AllByRecursion, IsDistinct}
 use Rattle.std.specs.Option.{option_or}
 use Rattle.std.specs.Str.{bytes_eq}
-use Rattle.std.specs.Cmp.{nat_eq_equiv}
 use Rattle.std.specs.Cmp.Lexicographic.{texts_ties}
 use Rattle.std.specs.FinMap.{get, insert, empty, contains_key, get-empty, get-insert}
 use Rattle.std.proofs.lemmas.Cmp.{nat_list_cmp_total}
@@ -13,11 +12,11 @@ use Rattle.lake_base.specs.Maps.{byte_order}
 use Rattle.lake_values.specs.KeyMap.{ChangesValue, over}
 use Rattle.lake_values.specs.declared.entry.Change.{Change}
 use Rattle.lake_values.proofs.KeyMapLemmas.{same, get_over, over_over}
-use Rattle.branch_record.specs.Tokens.{TokenMap, changes_under, with_changes, with_change}
-use Rattle.branch_record.specs.Record.{BranchRecordValue, AreDistinct, named_tokens, is_among, record_after_seal}
+use Rattle.branch_record.specs.Tokens.{TokenMap, changes_under, with_change}
+use Rattle.branch_record.specs.Record.{BranchRecordValue, AreDistinct, record_after_seal}
 use Rattle.branch_record.specs.Looking.{first_change, branch_change}
 use Rattle.branch_record.specs.Overlay.{layers_of, staged_changes, sealed_changes}
-use Rattle.branch_record.proofs.TokensLemmas.{turned, under_with, under_here, under_other, under_none}
+use Rattle.branch_record.proofs.TokensLemmas.{turned, under_here, under_other, under_none}
 
 -- changes over none are those changes
 pub over_none : (c : ChangesValue) → over c empty ≡ c

@@ -1,4 +1,5 @@
 pub mod ChangesLemmas
+pub mod CursorLemmas
 pub mod LayersLemmas
 pub mod PrefixLemmas
 pub mod ResetLemmas

@@ -1,5 +1,5 @@
 -- The paths that begin with a prefix stand next to each other, from the prefix on; and what a reset of the prefix leaves.
-use Rattle.std.proofs.Common.{◌≡◌, ℕ, ◌<◌, Bool, true, false, cond, ◌&&◌, List, [], ◌∷◌, Some, None, Option, refl, sym, ap, subst, ◌∙◌, inl, inr, arith}
+use Rattle.std.proofs.Common.{◌≡◌, ℕ, ◌<◌, Bool, true, false, cond, List, [], ◌∷◌, Some, None, Option, refl, sym, ap, subst, ◌∙◌, inl, inr}
 use Rattle.std.specs.Bool.{nat_eq}
 use Rattle.std.specs.List.{starts_with, slice_get}
 use Rattle.std.specs.Map.{lookup}
@@ -10,7 +10,7 @@ use Rattle.std.specs.declared.ops.Bound.TheVariants.{Included, Unbounded}
 use Rattle.std.specs.Ordering.{nat_cmp, ordering_then, is_gt, eq_by_cmp}
 use Rattle.std.specs.declared.cmp.Ordering.TheVariants.{Equal, Greater}
 use Rattle.std.specs.Cmp.{nat_cmp_is, nat_cmp_total, tied_itself}
-use Rattle.std.specs.FinMap.{get, find, remove, from_entries, get-from_entries, get-remove}
+use Rattle.std.specs.FinMap.{get, find, remove, get-remove}
 use Rattle.std.proofs.lemmas.Bool.{cases_order, and_parts, and_from, eq-eqb, eqb-true}
 use Rattle.std.proofs.lemmas.Cmp.{nat_list_cmp_total}
 use Rattle.lake_base.specs.Maps.{byte_order}

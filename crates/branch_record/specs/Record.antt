@@ -1,5 +1,5 @@
 -- The record of a branch.
-use Rattle.std.specs.Prelude.{◌≡◌, ◌-◌, ℕ, nat_eq, Bool, List, ◌∷◌, if◌then◌else◌}
+use Rattle.std.specs.Prelude.{ℕ, nat_eq, Bool, List, ◌∷◌, if◌then◌else◌}
 use Rattle.std.specs.List.{list_any, IsDistinct}
 use Rattle.std.specs.FinMap.{contains_key}
 use Rattle.lake_base.specs.declared.digest.Digest.{Digest}

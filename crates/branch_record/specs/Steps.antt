@@ -1,10 +1,12 @@
 -- How tokens are kept: rows of an ordered map, and one change that waits for its place in them.
-use Rattle.std.specs.Prelude.{◌≡◌, ◌==◌, ℕ, nat_eq, Bool, true, false, not, IsSome, ◌&&◌, List, [], ◌∷◌, ◌++◌, Option, Some, None, if◌then◌else◌}
-use Rattle.std.specs.Option.{unwrap_or, option_to_list}
+use Rattle.std.specs.Prelude.{◌≡◌, ◌==◌, ℕ, nat_eq, Bool, true, false, not, IsSome, ◌&&◌, List, [], ◌∷◌, Option, Some, None, if◌then◌else◌}
+use Rattle.std.specs.Option.{unwrap_or}
 use Rattle.std.specs.FinMap.{empty, entries, find, len, put}
 use Rattle.std.specs.List.{starts_with}
+use Rattle.std.specs.Ordering.{is_lt}
 use Rattle.std.specs.Str.{bytes_eq}
 use Rattle.lake_base.specs.Maps.{byte_order}
+use Rattle.lake_values.specs.Cursor.{entries_from}
 use Rattle.lake_values.specs.KeyMap.{ChangesValue}
 use Rattle.lake_values.specs.Reset.{drops_path}
 use Rattle.lake_values.specs.declared.entry.Change.{Change}
@@ -50,9 +52,24 @@ abbrev pub put_row : Option (List ℕ × Change) → List (List ℕ × Change) �
 put_row None rows = rows
 put_row (Some row) rows = put byte_order row.0 row.1 rows
 
--- the row that was looked at, and those after it
-abbrev pub rows_from : Option (List ℕ × Change) → Option (List (List ℕ × Change)) → List (List ℕ × Change)
-rows_from first rest = option_to_list first ++ unwrap_or rest []
+-- the row at hand, and those after it
+abbrev pub rows_from : Option (List ℕ × Change) → List (List ℕ × Change) → List (List ℕ × Change)
+rows_from None rest = []
+rows_from (Some row) rest = row ∷ rest
+
+-- a row and those after it are all of the rows from it on; where there is none, none comes
+abbrev pub AreFromFirst : Option (List ℕ × Change) → List (List ℕ × Change) → List (List ℕ × Change) → Type 0
+AreFromFirst None rest rows = rest ≡ []
+AreFromFirst (Some row) rest rows = entries_from row.0 rows ≡ row ∷ rest
+
+-- rows that are still to come, where there are any
+abbrev pub rows_left : Option (List (List ℕ × Change)) → List (List ℕ × Change)
+rows_left rows = unwrap_or rows []
+
+-- the row, where it doesn't stand below these bytes
+abbrev pub row_above : List ℕ → Option (List ℕ × Change) → Option (List ℕ × Change)
+row_above least None = None
+row_above least (Some row) = if is_lt (byte_order row.0 least) then None else Some row
 
 -- the rows of changes, where there are any
 abbrev pub rows_under : Option ChangesValue → List (List ℕ × Change)

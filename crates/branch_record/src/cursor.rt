@@ -1,13 +1,17 @@
 //! The changes under a token, taken one by one in order of path.
-ghost use Rattle.std.specs.Prelude.{◌≡◌, [], ◌∷◌, None, MatchOption, option_map, option_copied};
+ghost use Rattle.std.specs.Prelude.{◌≡◌, [], ◌∷◌, MatchOption, drop, option_map, option_copied};
 ghost use Rattle.std.specs.Map.Iter.{deref_pair};
-ghost use Rattle.branch_record.specs.Steps.{put_row, rows_from, rows_under};
+ghost use Rattle.lake_values.specs.Cursor.{entries_from};
+ghost use Rattle.branch_record.specs.Steps.{put_row, row_above, rows_left, rows_under};
 
 use crate::ordered::OrderedChanges;
+use crate::placed::PlacedCursor;
 use lake_base::names::Path;
+use lake_values::cursor::is_below;
 use lake_values::entry::Change;
+use layer_cursor::{ChangeCursor, ChangesLeft};
+use std::alloc::Global;
 use std::cmp::Ordering;
-use std::collections::btree_map::Iter;
 use std::marker::Model;
 
 /// The changes under a token that are still to come, in ascending order of path. Contracts see the list of them.
@@ -15,29 +19,32 @@ use std::marker::Model;
 pub struct ChangesCursor<'a> {
     // One that waits for its place among the others.
     waiting: Option<(&'a Path, &'a Change)>,
-    // The first of the others, once it was looked at, and those after it.
-    first: Option<(&'a Path, &'a Change)>,
-    rest: Option<Iter<'a, Path, Change>>,
+    // Those in place, where there are any.
+    placed: Option<PlacedCursor<'a>>,
 }
 
 impl<'a> Model for ChangesCursor<'a> {
     ghost use Rattle.std.specs.Prelude.{List, ℕ, option_map};
     ghost use Rattle.std.specs.Map.Iter.{deref_pair};
     ghost use Rattle.std.specs.Coded.{coded_list, coded_ℕ, coded×};
+    ghost use Rattle.lake_base.specs.Maps.{HasAscendingKeys};
     ghost use Rattle.lake_values.specs.declared.entry.Change.{Change as AnyChange};
     ghost use Rattle.lake_values.specs.contracts.entry.Change.{the_row as change_row};
-    ghost use Rattle.branch_record.specs.Steps.{put_row, rows_from, rows_under};
+    ghost use Rattle.branch_record.specs.Steps.{put_row, rows_left};
 
     ghost Value = { List (List ℕ × AnyChange) };
 
     ghost coded = { coded_list (coded× (coded_list coded_ℕ) change_row.coded) };
 
-    ghost view = { λ c. put_row (option_map deref_pair c.waiting) (rows_from (option_map deref_pair c.first) c.rest) };
+    ghost view = { λ c. put_row (option_map deref_pair c.waiting) (rows_left c.placed) };
+
+    ghost invariant = { λ c. HasAscendingKeys (put_row (option_map deref_pair c.waiting) (rows_left c.placed)) };
 }
 
 impl<'a> ChangesCursor<'a> {
     // A cursor over these changes, with the one that waits in its place.
     pub(crate) fn new(
+        alloc: Global,
         under: Option<&'a OrderedChanges>,
         waiting: Option<(&'a Path, &'a Change)>,
     ) -> ChangesCursor<'a>
@@ -46,13 +53,11 @@ impl<'a> ChangesCursor<'a> {
         match under {
             Some(changes) => ChangesCursor {
                 waiting,
-                first: None,
-                rest: Some(changes.iter()),
+                placed: Some(PlacedCursor::new(alloc, changes)),
             },
             None => ChangesCursor {
                 waiting,
-                first: None,
-                rest: None,
+                placed: None,
             },
         }
     }
@@ -62,11 +67,12 @@ impl<'a> ChangesCursor<'a> {
         ensures { MatchOption result ((self.old ≡ []) × (self.new ≡ []))
             (λ row. self.old ≡ (row.0.now, row.1.now) ∷ self.new) }
     {
-        look_at_first(&mut self.first, &mut self.rest);
+        let placed = first_placed(&self.placed);
         let Some((path, change)) = self.waiting else {
-            return self.first.take();
+            pass_placed(&mut self.placed);
+            return placed;
         };
-        let Some((at, had)) = self.first else {
+        let Some((at, had)) = placed else {
             self.waiting = None;
             return Some((path, change));
         };
@@ -77,30 +83,80 @@ impl<'a> ChangesCursor<'a> {
             }
             Ordering::Equal => {
                 self.waiting = None;
-                self.first = None;
+                pass_placed(&mut self.placed);
                 Some((at, change))
             }
             Ordering::Greater => {
-                self.first = None;
+                pass_placed(&mut self.placed);
                 Some((at, had))
             }
         }
     }
+
+    /// Passes over the changes at paths below these bytes, by a search. That takes a copy of them, where they are a
+    /// path; where they aren't, or no memory is left, it goes over the changes one by one.
+    pub fn seek(&mut self, least: &[u8])
+        ensures { self.new ≡ entries_from least.now self.old }
+    {
+        drop_below(&mut self.waiting, least);
+        seek_placed(&mut self.placed, least);
+    }
 }
 
-// Takes the first of the rows, where none was looked at yet.
-fn look_at_first<'a>(
-    first: &mut Option<(&'a Path, &'a Change)>,
-    rest: &mut Option<Iter<'a, Path, Change>>,
-)
-    ensures same { rows_from (option_map deref_pair first.new) rest.new ≡ rows_from (option_map deref_pair first.old) rest.old }
-    ensures ends { first.new ≡ None → rows_from None rest.new ≡ [] }
-{
-    if first.is_some() {
-        return;
+impl<'a> ChangesLeft for ChangesCursor<'a> {
+    ghost left = { λ cursor. cursor };
+}
+
+impl<'a> ChangeCursor<'a> for ChangesCursor<'a> {
+    fn next(&mut self) -> Option<(&'a Path, &'a Change)> {
+        let _ = &self.placed;
+        ChangesCursor::next(self)
     }
-    *first = match rest {
-        Some(rows) => rows.next(),
-        None => None,
+
+    fn seek(&mut self, least: &[u8]) {
+        let _ = &self.placed;
+        ChangesCursor::seek(self, least);
+    }
+}
+
+// Drops the change that waits, where it stands below these bytes.
+fn drop_below(waiting: &mut Option<(&Path, &Change)>, least: &[u8])
+    ensures { option_map deref_pair waiting.new ≡ row_above least.now (option_map deref_pair waiting.old) }
+{
+    let dropped = match waiting {
+        Some((path, _)) => is_below(path.as_slice(), least),
+        None => false,
     };
+    if dropped {
+        *waiting = None;
+    }
+}
+
+// The first of the changes in place, with its path. It stays.
+fn first_placed<'a>(placed: &Option<PlacedCursor<'a>>) -> Option<(&'a Path, &'a Change)>
+    ensures { MatchOption result (rows_left placed.now ≡ [])
+        (λ row. rows_left placed.now ≡ (row.0.now, row.1.now) ∷ drop 1 (rows_left placed.now)) }
+{
+    match placed {
+        Some(cursor) => cursor.first(),
+        None => None,
+    }
+}
+
+// Passes over the first of the changes in place.
+fn pass_placed(placed: &mut Option<PlacedCursor<'_>>)
+    ensures { rows_left placed.new ≡ drop 1 (rows_left placed.old) }
+{
+    if let Some(cursor) = placed {
+        cursor.pass();
+    }
+}
+
+// Passes over the changes in place that stand below these bytes.
+fn seek_placed(placed: &mut Option<PlacedCursor<'_>>, least: &[u8])
+    ensures { rows_left placed.new ≡ entries_from least.now (rows_left placed.old) }
+{
+    if let Some(cursor) = placed {
+        cursor.seek(least);
+    }
 }

@@ -1,6 +1,7 @@
 //! Changes in an ordered map: what is written under load.
 ghost use Rattle.std.specs.Prelude.{◌≡◌, ◌==◌, OnOk, OnErr, IfOk, IfErr, MatchOption, option_copied};
 ghost use Rattle.std.specs.FinMap as map;
+ghost use Rattle.lake_values.specs.Cursor.{entries_from};
 ghost use Rattle.lake_values.specs.Reset.{changes_after_reset};
 ghost use Rattle.lake_values.specs.declared.commit.ResetWhat.TheVariants.{Object, Prefix};
 ghost use Rattle.branch_record.specs.Steps.{IsNoneUnder, IsUnder};
@@ -13,7 +14,7 @@ use lake_values::commit::ResetWhat;
 use lake_values::entry::Change;
 use std::alloc::Global;
 use std::collections::BTreeMap;
-use std::collections::btree_map::Iter;
+use std::collections::btree_map::Range;
 use std::marker::Model;
 use std::ops::Bound;
 
@@ -62,10 +63,18 @@ impl OrderedChanges {
     }
 
     // The changes in order of path.
-    pub(crate) fn iter(&self) -> Iter<'_, Path, Change>
+    pub(crate) fn iter(&self) -> Range<'_, Path, Change>
         ensures { result ≡ map.entries self.now }
     {
-        self.rows.iter()
+        let all: (Bound<&Path>, Bound<&Path>) = (Bound::Unbounded, Bound::Unbounded);
+        self.rows.range(all)
+    }
+
+    // Those at or above a path, by a search.
+    pub(crate) fn iter_from(&self, path: &Path) -> Range<'_, Path, Change>
+        ensures { result ≡ entries_from path.now (map.entries self.now) }
+    {
+        self.rows.range((Bound::Included(path), Bound::Unbounded))
     }
 
     // These changes with this one over them, by a search. Where no memory is left, it comes back.

@@ -67,7 +67,8 @@ impl Tokens {
     pub fn changes_of(&self, token: u64) -> ChangesCursor<'_>
         ensures { result ≡ map.entries (changes_under self.now.changes token) }
     {
-        ChangesCursor::new(self.changes.get(&token), waiting_of(&self.waiting, token))
+        let under = self.changes.get(&token);
+        ChangesCursor::new(self.alloc, under, waiting_of(&self.waiting, token))
     }
 
     /// Puts a change over those under a token. Where there is room, it takes no memory.

@@ -17,11 +17,12 @@ use lake_pages::{Page, PageQuery, page_of, page_over};
 use lake_resolving::{is_plain_branch, target};
 use lake_state::{BranchState, LakeState, RepositoryState};
 use lake_values::{CommitId, KeyMap};
-use layer_cursor::LayerCursor;
+use layer_cursor::{LayerCursor, SliceChanges};
 use std::alloc::Global;
 
 /// A page of what an expression leads to: the items under a prefix and a delimiter above a name, so many, and whether
-/// one is left. On a branch with changes these are put into one list first; the tree is walked for the page alone.
+/// one is left. The sealed changes of a branch, where it has some, are put into one list first; its staged ones and the
+/// tree are walked for the page alone.
 /// NoRepo, NoRef, NoParent.
 pub fn page(
     alloc: Global,
@@ -82,7 +83,8 @@ fn page_of_commit(
     }
 }
 
-// A page of what is read on a branch now: its changes, as one list, over its head's tree.
+// A page of what is read on a branch now: its staged changes over its sealed ones, as one list, and these over its
+// head's tree.
 fn page_on(
     alloc: Global,
     repository: &RepositoryState,
@@ -94,12 +96,17 @@ fn page_on(
     ensures more { IfOk result (λ page. page.has_more ≡ has_more query.now
         (now_map (repository_of (repository_value repository.now)) (branch_of (branch_value branch.now)))) }
 {
-    let changes = branch.record.overlay(alloc, &branch.tokens, false)?;
+    let sealed = branch.record.overlay(alloc, &branch.tokens, true)?;
+    let staged = branch.tokens.changes_of(branch.record.staging());
     match repository.tree(&branch.record.head()) {
-        Some(tree) => page_over(alloc, LayerCursor::new(&changes, tree.seek(None)), query),
+        Some(tree) => {
+            let below = LayerCursor::new(SliceChanges::new(&sealed), tree.seek(None));
+            page_over(alloc, LayerCursor::new(staged, below), query)
+        }
         None => {
             let none = KeyMap::new(alloc);
-            page_over(alloc, LayerCursor::new(&changes, none.cursor()), query)
+            let below = LayerCursor::new(SliceChanges::new(&sealed), none.cursor());
+            page_over(alloc, LayerCursor::new(staged, below), query)
         }
     }
 }

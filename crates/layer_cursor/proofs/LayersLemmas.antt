@@ -80,7 +80,7 @@ pub tested : (a b path other : List ℕ) (told said : Bool) → a ≡ path → b
 tested a b path other told said is are tells e = (λ i. is_lt (byte_order (sym is i) (sym are i))) ∙ sym tells ∙ e
 
 -- the row that a cursor gives, and what it then has left, are what it had
-pub ahead_of : (given : Option (Bor (List ℕ) × Bor EntryValue)) (old new : Rows) → MatchOption given ((old ≡ []) × (new ≡ [])) (λ row. old ≡ (row.0.now, row.1.now) ∷ new) → rows_ahead given new ≡ old
+pub ahead_of : {X : Type 0} (given : Option (Bor (List ℕ) × Bor X)) (old new : List (List ℕ × X)) → MatchOption given ((old ≡ []) × (new ≡ [])) (λ row. old ≡ (row.0.now, row.1.now) ∷ new) → rows_ahead given new ≡ old
 ahead_of None old new gives = sym gives.0
 ahead_of (Some row) old new gives = sym gives
 

@@ -28,13 +28,13 @@ rows_over (c ∷ cs) rows = rows_below c.0 rows ++ (rows_of_change c.0 c.1 ++ ro
 
 -- ---- the walk
 
--- the row at hand, and those after it; where none is at hand, none comes
-abbrev pub rows_ahead : Option (Bor (List ℕ) × Bor EntryValue) → List (List ℕ × EntryValue) → List (List ℕ × EntryValue)
+-- the row or the change at hand, and those after it; where none is at hand, none comes
+abbrev pub rows_ahead : {X : Type 0} → Option (Bor (List ℕ) × Bor X) → List (List ℕ × X) → List (List ℕ × X)
 rows_ahead None after = []
 rows_ahead (Some row) after = (row.0.now, row.1.now) ∷ after
 
--- whether the first row stands below a path
-abbrev pub begins_below : List ℕ → List (List ℕ × EntryValue) → Bool
+-- whether the first stands below a path
+abbrev pub begins_below : {X : Type 0} → List ℕ → List (List ℕ × X) → Bool
 begins_below path [] = false
 begins_below path (row ∷ rows) = is_lt (byte_order row.0 path)
 

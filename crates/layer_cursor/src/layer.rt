@@ -1,14 +1,15 @@
 //! A cursor over the entries that changes leave of those below.
-ghost use Rattle.std.specs.Prelude.{◌≡◌, ◌∷◌, true, [], MatchOption};
+ghost use Rattle.std.specs.Prelude.{◌≡◌, ℕ, List, true, [], Some, MatchOption};
 ghost use Rattle.std.specs.FinMap.{entries, from_sorted};
 ghost use Rattle.lake_base.specs.Maps.{HasAscendingKeys};
 ghost use Rattle.lake_values.specs.Cursor.{entries_from};
-ghost use Rattle.lake_values.specs.KeyMap.{KeyMapValue, apply};
-ghost use Rattle.layer_cursor.specs.Layers.{is_row_next, rows_below};
+ghost use Rattle.lake_values.specs.KeyMap.{ChangesValue, KeyMapValue, apply};
+ghost use Rattle.lake_values.specs.declared.entry.Change.{Change as AnyChange};
+ghost use Rattle.layer_cursor.specs.Layers.{is_row_next, rows_ahead, rows_below};
 
 use crate::ahead::Ahead;
+use crate::changes::{ChangeCursor, ChangesLeft};
 use lake_base::names::Path;
-use lake_values::changes::Changes;
 use lake_values::cursor::{EntriesLeft, EntryCursor, is_below};
 use lake_values::entry::{Change, Entry};
 use std::marker::Model;
@@ -17,81 +18,100 @@ use std::marker::Model;
 /// the entry that it puts, or none where it deletes, and elsewhere the entry below. Contracts see those still to
 /// come, in ascending order of path.
 #[derive(Drop)]
-pub struct LayerCursor<'a, C: EntriesLeft> {
-    changes: &'a [(Path, Change)],
+pub struct LayerCursor<'a, D: ChangesLeft, C: EntriesLeft> {
+    // The first change, which is at hand, and those after it.
+    change: Option<(&'a Path, &'a Change)>,
+    after: D,
     below: Ahead<'a, C>,
 }
 
-impl<'a, C: EntriesLeft> Model for LayerCursor<'a, C> {
+impl<'a, D: ChangesLeft, C: EntriesLeft> Model for LayerCursor<'a, D, C> {
     ghost use Rattle.std.specs.Prelude.{List, ℕ};
     ghost use Rattle.lake_base.specs.Maps.{HasAscendingKeys};
     ghost use Rattle.lake_values.specs.Entry.{EntryValue};
-    ghost use Rattle.layer_cursor.specs.Layers.{rows_over};
+    ghost use Rattle.layer_cursor.specs.Layers.{rows_ahead, rows_over};
 
     ghost Value = { List (List ℕ × EntryValue) };
 
-    ghost view = { λ layer. rows_over layer.changes.now layer.below };
+    ghost view = { λ layer. rows_over (rows_ahead layer.change (D.left layer.after)) layer.below };
 
-    ghost invariant = { λ layer. HasAscendingKeys layer.changes.now × HasAscendingKeys layer.below };
+    ghost invariant = { λ layer.
+        HasAscendingKeys (rows_ahead layer.change (D.left layer.after)) × HasAscendingKeys layer.below };
 }
 
-impl<'a, C: EntryCursor<'a>> LayerCursor<'a, C> {
-    /// The entries of these changes over those that a cursor still has. It takes no memory.
-    pub fn new(changes: &'a Changes, below: C) -> LayerCursor<'a, C>
-        ensures left { result ≡ entries (apply changes.now (from_sorted (C.left below))) }
-        ensures of_map { (map : KeyMapValue) → C.left below ≡ entries map
-            → result ≡ entries (apply changes.now map) }
+impl<'a, D: ChangeCursor<'a>, C: EntryCursor<'a>> LayerCursor<'a, D, C> {
+    /// The entries of the changes that a cursor still has over those that another still has. It takes no memory.
+    pub fn new(mut changes: D, below: C) -> LayerCursor<'a, D, C>
+        ensures left { result ≡ entries (apply (from_sorted (D.left changes)) (from_sorted (C.left below))) }
+        ensures of_map { (layer : ChangesValue) (map : KeyMapValue)
+            → D.left changes ≡ entries layer → C.left below ≡ entries map
+            → result ≡ entries (apply layer map) }
     {
+        let change = changes.next();
         LayerCursor {
-            changes: changes.as_slice(),
+            change,
+            after: changes,
             below: Ahead::new(below),
         }
     }
 }
 
-impl<'a, C: EntriesLeft> EntriesLeft for LayerCursor<'a, C> {
+impl<'a, D: ChangesLeft, C: EntriesLeft> EntriesLeft for LayerCursor<'a, D, C> {
     ghost left = { λ layer. layer };
 }
 
 #[tactic(auto, using(crate::proofs::LayersLemmas::over_ascends))]
-impl<'a, C: EntryCursor<'a>> EntryCursor<'a> for LayerCursor<'a, C> {
+impl<'a, D: ChangeCursor<'a>, C: EntryCursor<'a>> EntryCursor<'a> for LayerCursor<'a, D, C> {
     fn next(&mut self) -> Option<(&'a Path, &'a Entry)> {
-        while let Some((row, changes)) = first_change(self.changes, &self.below) {
-            self.changes = changes;
-            self.below.pass(&row.0);
-            if let Change::Put(entry) = &row.1 {
-                return Some((&row.0, entry));
+        while let Some((path, change)) = first_change(self.change, &self.below) {
+            self.change = self.after.next();
+            self.below.pass(path);
+            if let Change::Put(entry) = change {
+                return Some((path, entry));
             }
         }
         self.below.next()
     }
 
     fn seek(&mut self, least: &[u8]) {
-        self.changes = changes_from(self.changes, least);
+        seek_changes(&mut self.change, &mut self.after, least);
         self.below.seek(least);
     }
 }
 
-// The first change and those after it, where no entry below stands before it.
+// The first change, where no entry below stands before it.
 fn first_change<'a, C: EntryCursor<'a>>(
-    changes: &'a [(Path, Change)],
+    change: Option<(&'a Path, &'a Change)>,
     below: &Ahead<'a, C>,
-) -> Option<(&'a (Path, Change), &'a [(Path, Change)])>
-    ensures { MatchOption result (is_row_next changes.now below.now ≡ true)
-        (λ x. (changes.now ≡ x.0.now ∷ x.1.now) × (rows_below x.0.now.0 below.now ≡ [])) }
+) -> Option<(&'a Path, &'a Change)>
+    ensures { (after : List (List ℕ × AnyChange)) → MatchOption result
+        (is_row_next (rows_ahead change.entry after) below.now ≡ true)
+        (λ row. (rows_ahead change.entry after ≡ rows_ahead (Some row) after) × (rows_below row.0.now below.now ≡ [])) }
 {
-    let (row, changes) = changes.split_first()?;
-    if below.begins_below(&row.0) {
+    let Some((path, change)) = change else {
+        return None;
+    };
+    if below.begins_below(path) {
         return None;
     }
-    Some((row, changes))
+    Some((path, change))
 }
 
-// The changes at or above these bytes.
-fn changes_from<'a>(changes: &'a [(Path, Change)], least: &[u8]) -> &'a [(Path, Change)]
-    requires { HasAscendingKeys changes.now }
-    ensures { result.now ≡ entries_from least.now changes.now }
+// Passes over the changes at paths below these bytes, of the one at hand and those after it.
+fn seek_changes<'a, D: ChangeCursor<'a>>(
+    change: &mut Option<(&'a Path, &'a Change)>,
+    after: &mut D,
+    least: &[u8],
+)
+    requires { HasAscendingKeys (rows_ahead change.old (D.left after.old)) }
+    ensures { rows_ahead change.new (D.left after.new)
+        ≡ entries_from least.now (rows_ahead change.old (D.left after.old)) }
 {
-    let at = changes.partition_point(|row| is_below(row.0.as_slice(), least));
-    changes.split_at(at).1
+    let Some((path, _)) = *change else {
+        return;
+    };
+    if is_below(path.as_slice(), least) {
+        after.seek(least);
+        *change = after.next();
+    }
 }

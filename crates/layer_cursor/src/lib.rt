@@ -2,6 +2,7 @@
 //! the tree of its head.
 //!
 //! - `layer`: a cursor over the entries that changes leave of those below.
+//! - `changes`: changes, taken one by one.
 //! - `ahead`: a cursor's entries, the first of them at hand.
 //! - `laws`: what changes leave is the map to which they are applied.
 //!
@@ -10,10 +11,12 @@
 #![tactic(auto)]
 
 mod ahead;
+mod changes;
 mod laws;
 mod layer;
 #[cfg(test)]
 mod tests;
 
+pub use changes::{ChangeCursor, ChangesLeft, SliceChanges};
 pub use laws::law_of_layers;
 pub use layer::LayerCursor;

@@ -4,7 +4,7 @@ ghost use Rattle.std.specs.Prelude.{◌≡◌, IfOk, map as each};
 ghost use Rattle.std.specs.FinMap.{entries};
 ghost use Rattle.lake_values.specs.KeyMap.{apply};
 
-use crate::LayerCursor;
+use crate::{LayerCursor, SliceChanges};
 use lake_base::digest::Digest;
 use lake_base::names::Path;
 use lake_base::outside::NoMemory;
@@ -77,7 +77,10 @@ fn rows_after<'a>(
     ensures { IfOk result (λ rows.
         each (λ row. (row.0.now, row.1.now)) rows.items ≡ entries (apply changes.now map.now)) }
 {
-    rows_of(alloc, LayerCursor::new(changes, map.cursor()))
+    rows_of(
+        alloc,
+        LayerCursor::new(SliceChanges::new(changes), map.cursor()),
+    )
 }
 
 fn told(alloc: Global, rows: Vec<(&Path, &Entry)>) -> Result<String, Fail> {
@@ -132,7 +135,7 @@ fn steps_leave_what_the_table_says(rt: HostRuntime) -> Result<(), Fail> {
     let changes = changes_of(alloc, "b2 d- e2 g-")?;
     let map = map_of(alloc, "a1 c1 d1 e1 f1")?;
     for [steps, due] in &STEPS {
-        let mut cursor = LayerCursor::new(&changes, map.cursor());
+        let mut cursor = LayerCursor::new(SliceChanges::new(&changes), map.cursor());
         for step in steps.as_bytes() {
             if *step == b'.' {
                 let _row = cursor.next();
@@ -153,7 +156,8 @@ fn changes_lie_over_changes(rt: HostRuntime) -> Result<(), Fail> {
         changes_of(alloc, "a2 b2 d2")?,
     );
     let map = map_of(alloc, "c1 d1 e1")?;
-    let cursor = LayerCursor::new(&staged, LayerCursor::new(&sealed, map.cursor()));
+    let below = LayerCursor::new(SliceChanges::new(&sealed), map.cursor());
+    let cursor = LayerCursor::new(SliceChanges::new(&staged), below);
     assert_eq!(rt; told(alloc, rows_of(alloc, cursor)?)?.as_str(), "b3 d2 e1 ");
     Ok(())
 }

@@ -1,6 +1,6 @@
-use Rattle.std.proofs.Common.{◌≡◌, ◌++◌, ap, sym, subst, ◌∙◌}
+use Rattle.std.proofs.Common.{◌++◌, ap, sym, subst, ◌∙◌}
 use Rattle.std.proofs.lemmas.List.{append-nil}
-use Rattle.std.specs.FinMap.{entries, entries_sorted, from_sorted}
+use Rattle.std.specs.FinMap.{entries_sorted, from_sorted}
 use Rattle.lake_base.specs.Maps.{byte_order, HasAscendingKeys}
 use Rattle.lake_base.proofs.MapsLemmas.{same_again}
 use Rattle.branch_record.specs.Tokens.{changes_under}

@@ -1,7 +1,5 @@
 use Rattle.std.proofs.Common.{ap, sym, ◌∙◌}
 use Rattle.std.specs.Option.{is_some}
-use Rattle.std.specs.BTreeMap.{BTreeMap}
-use Rattle.lake_values.specs.KeyMap.{ChangesValue}
 use Rattle.lake_values.specs.Reset.{changes_after_reset}
 use Rattle.branch_record.specs.Tokens.{with_changes}
 use Rattle.branch_record.specs.Steps.{tokens_of}

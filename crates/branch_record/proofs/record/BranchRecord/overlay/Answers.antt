@@ -1,4 +1,4 @@
-use Rattle.std.proofs.Common.{◌≡◌, [], true, false, cond, length, ap, sym, ◌∙◌}
+use Rattle.std.proofs.Common.{◌≡◌, [], cond, ap, sym, ◌∙◌}
 use Rattle.std.proofs.lemmas.Bool.{eqb-true}
 use Rattle.std.proofs.lemmas.List.{nil_from_length}
 use Rattle.lake_values.specs.KeyMap.{over}

@@ -1,4 +1,4 @@
-use Rattle.std.proofs.Common.{◌≡◌, ◌∷◌, true, false, ap, sym, ◌∙◌}
+use Rattle.std.proofs.Common.{◌≡◌, true, false, ap, sym, ◌∙◌}
 use Rattle.std.specs.FinMap.{contains_key}
 use Rattle.branch_record.specs.Record.{BranchRecordValue, record_after_seal}
 use Rattle.branch_record.specs.Overlay.{staged_changes, sealed_changes}

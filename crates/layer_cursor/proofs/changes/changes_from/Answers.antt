@@ -3,7 +3,7 @@ use Rattle.std.specs.Ordering.{is_lt}
 use Rattle.std.proofs.lemmas.List.Sorted.{IsPartitionPoint-from_clause}
 use Rattle.lake_base.specs.Maps.{byte_order}
 use Rattle.lake_values.proofs.CursorLemmas.{below_down, partitioned, seek_from}
-use Rattle.layer_cursor.proofs.layer.changes_from.Goals as goal
+use Rattle.layer_cursor.proofs.changes.changes_from.Goals as goal
 
 pub returns : goal.returns
 returns c =
