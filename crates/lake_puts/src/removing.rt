@@ -1,13 +1,14 @@
 //! The removals of changes that a reset drops.
-ghost use Rattle.std.specs.Prelude.{◌≡◌, ◌++◌, ◌∷◌, [], OnOk};
+ghost use Rattle.std.specs.Prelude.{◌≡◌, ◌++◌, OnOk};
 ghost use Rattle.std.specs.List.{flat_map};
 ghost use Rattle.lake_state.specs.Branches.{branch_value};
-ghost use Rattle.lake_puts.specs.Puts.{removals_at, removals_of, removals_under};
+ghost use Rattle.lake_puts.specs.Puts.{removals_of, removals_under};
+ghost use Rattle.lake_puts.specs.Removing.{reset_start};
 
 use crate::pushing::push_removed;
 use branch_record::{ResetWhat, Tokens};
 use keeper::Put;
-use lake_base::{NoMemory, Path};
+use lake_base::NoMemory;
 use lake_state::BranchState;
 use pair_format::StoredKey;
 use std::alloc::Global;
@@ -42,7 +43,7 @@ pub(crate) fn push_removals_of(
     Ok(())
 }
 
-// Appends the removal of each change under a token that a reset drops.
+// Appends the removal of each change under a token that a reset drops: a search for the first, and then these alone.
 fn push_removals_under(
     alloc: Global,
     puts: &mut Vec<Put>,
@@ -53,25 +54,23 @@ fn push_removals_under(
     ensures { OnOk result (puts.new.items ≡ puts.old.items ++ removals_under what.now tokens.now.changes token) }
 {
     let mut changes = tokens.changes_of(token);
+    changes.seek(reset_start(what));
     while let Some((path, _)) = changes.next() {
-        push_removal(alloc, puts, token, path, what)?;
+        if !what.drops_path(path) {
+            return Ok(());
+        }
+        push_removed(alloc, puts, &StoredKey::Staged { token, path })?;
     }
     Ok(())
 }
 
-// Appends the removal of the change at a path under a token, where a reset drops it.
-#[tactic(auto, unfolding(crate::specs::Puts::removals_at))]
-fn push_removal(
-    alloc: Global,
-    puts: &mut Vec<Put>,
-    token: u64,
-    path: &Path,
-    what: &ResetWhat,
-) -> Result<(), NoMemory>
-    ensures { OnOk result (puts.new.items ≡ puts.old.items ++ removals_at what.now token (path.now ∷ [])) }
+// The bytes from which on the paths stand that a reset drops.
+fn reset_start(what: &ResetWhat) -> &[u8]
+    ensures { result.now ≡ reset_start what.now }
 {
-    if what.drops_path(path) {
-        push_removed(alloc, puts, &StoredKey::Staged { token, path })?;
+    match what {
+        ResetWhat::All => &[],
+        ResetWhat::Object(path) => path.as_slice(),
+        ResetWhat::Prefix(prefix) => prefix.as_slice(),
     }
-    Ok(())
 }
