@@ -1,6 +1,6 @@
 -- What each change leaves: the lake stands for its history, and the answer is the reply.
-use Rattle.std.proofs.Common.{◌≡◌, ◌++◌, ◌∷◌, [], ◌+◌, ℕ, List, refl, sym, ap, ◌∙◌, subst}
-use Rattle.std.specs.Prelude.{Option, Some, None, IfSome, Result, Ok, Err, IsErrAnd, IsOk, IsSomeAnd}
+use Rattle.std.proofs.Common.{◌≡◌, ◌++◌, ◌∷◌, [], ◌+◌, ◌≤◌, ℕ, List, refl, sym, ap, ◌∙◌, subst, inl, arith}
+use Rattle.std.specs.Prelude.{Option, Some, None, IfSome, Result, Ok, Err, IsErrAnd, IsOk, IsSomeAnd, is_some}
 use Rattle.std.specs.FinMap.{get}
 use Rattle.std.specs.Option.{option_map_or}
 use Rattle.keeper.specs.Keepers.{MayHaveMade, pairs_after}
@@ -25,7 +25,7 @@ use Rattle.lake_changes.specs.LakeChanges.{after_fault, after_stage, without_tic
 use Rattle.lake_standing.specs.Standing.{MayMake, Stands}
 use Rattle.lake_core.specs.Lakes.{LakeValue, state, versions}
 use Rattle.lake_keeping.specs.Views.{KeeperView}
-use Rattle.lake_core.specs.Steps.{IsMade, Leaves, Making}
+use Rattle.lake_core.specs.Steps.{IsAsBefore, IsMade, Leaves, Making}
 use Rattle.lake_keeping.specs.Keeping.{HasKept, Keeps, Parts}
 
 module _ {opened : LakeStateValue} {history : List HistoryEntry} {l : LakeStateValue} {by : By} {operation : Operation}
@@ -207,6 +207,35 @@ module _ {K X : Type 0} (view : KeeperView K) (by : By) (made : Operation) (puts
   unkept_found (Err e) fault same keeps =
       found_none e (subst (λ f. Keeps {X = Unit {0}} view by made puts (Err f) before after) (sym same) keeps)
   unkept_found (Ok x) fault same keeps = absurd same
+
+-- ---- answers where memory ran out
+
+pub starved_found : {X : Type 0} (state : State) (c : Causes) (value : Option X) (answer : Result (ℕ × X) StepFault)
+    → IsErrAnd answer (λ e. e ≡ NoMemory) → IsReplyOf state c value answer
+starved_found {X} state c value (Err e) same = subst (λ e. IsReplyOf {X = X} state c value (Err e)) (sym same) tt
+starved_found state c value (Ok x) same = absurd same
+
+module _ {K : Type 0} (view : KeeperView K) (old new : LakeValue K) where
+  -- a lake that says the same, over the same keeper, is as before
+  pub as_before : new.opened ≡ old.opened → new.history ≡ old.history → lake_value new.present ≡ lake_value old.present
+      → new.keeper ≡ old.keeper → IsAsBefore view old new
+  as_before opened history present keeper = record {
+    opened = opened;
+    history = history;
+    present = present;
+    kept = ap view.kept keeper;
+    calls = inl (ap view.calls keeper);
+    quiet = ap view.faults keeper;
+    keeper = record {
+      told = ap (λ k. is_some (view.kept k)) keeper;
+      later = subst (λ n. view.faults old.keeper ≤ n) (sym (ap view.faults keeper)) (omega arith);
+    };
+  }
+
+  pub starved_leaves : {X : Type 0} (by : By) (made : Option Making) (answer : Result X StepFault)
+      → IsErrAnd answer (λ e. e ≡ NoMemory) → IsAsBefore view old new → Leaves view by made answer old new
+  starved_leaves {X} by made (Err e) same left = subst (λ e. Leaves {X = X} view by made (Err e) old new) (sym same) left
+  starved_leaves by made (Ok x) same left = absurd same
 
 -- ---- what is left of the lake
 

@@ -1,14 +1,25 @@
 //! What stands at paths of a branch.
-ghost use Rattle.std.specs.Prelude.{◌≡◌, Some, IfOk, IfSome, OnOk};
+ghost use Rattle.std.specs.Prelude.{◌≡◌, ℕ, List, Option, Some, None, IfOk, IfSome, OnOk};
+ghost use Rattle.lake_base.specs.declared.digest.Digest.{Digest};
+ghost use Rattle.lake_values.specs.Entry.{EntryValue};
+ghost use Rattle.commit_graph.specs.Expressions.{RefExprValue};
+ghost use Rattle.lake_model.specs.declared.fault.StepFault.{StepFault};
+ghost use Rattle.lake_model.specs.declared.history.By.{By};
+ghost use Rattle.lake_model.specs.declared.history.HistoryEntry.{HistoryEntry};
+ghost use Rattle.lake_model.specs.Soundness.{IsSound};
+ghost use Rattle.lake_model.specs.State.{State};
+ghost use Rattle.lake_model.specs.Versions.{VersionsGiven};
 ghost use Rattle.lake_model.specs.declared.history.Operation.TheVariants as operation;
-ghost use Rattle.lake_model.specs.Refusals.{GivesOrFails};
-ghost use Rattle.lake_model.specs.Steps.{IsCopyReply, stage_reply};
+ghost use Rattle.lake_model.specs.Refusals.{GivesOrFails, IsRefusal, first_cause};
+ghost use Rattle.lake_model.specs.Steps.{IsCopyReply, copy_causes, stage_reply};
 ghost use Rattle.lake_model.specs.Uncommitted.{HasTicket, put_number};
 ghost use Rattle.lake_values.specs.declared.entry.Change.TheVariants.{Put as put};
-ghost use Rattle.lake_causes.specs.Finding.{source_of};
+ghost use Rattle.lake_causes.specs.Finding.{FindsCopy, source_of};
+ghost use Rattle.lake_changes.specs.LakeChanges.{after_copy};
+ghost use Rattle.lake_standing.specs.Standing.{MayMake, Stands, versions_since};
 ghost use Rattle.lake_changes.specs.LakeRoom.{HasRoomAt};
 ghost use Rattle.lake_changes.specs.declared.repository.Room.TheVariants as room;
-ghost use Rattle.lake_state.specs.Lakes.{lake_value};
+ghost use Rattle.lake_state.specs.Lakes.{LakeStateValue, lake_value, state_of};
 ghost use Rattle.lake_puts.specs.Puts.{stage_puts};
 ghost use Rattle.lake_core.specs.Lakes.{state, versions};
 ghost use Rattle.lake_core.specs.Makings.{copy, stage};
@@ -99,10 +110,8 @@ impl<K: Keeper> Lake<K> {
             (copy repo.now branch.now path e.now from.now (lake_value self.old.present)) result self.old self.new }
     {
         // Test.
-        laws_of_causes();
-        law_of_present();
+        law_of_copies();
         let copied = test_copy(&self.present, repo, branch, version, e, from)?;
-        laws_of_writes();
 
         // Take memory.
         let (operation, entry, answer) = copy_parts(
@@ -124,6 +133,27 @@ impl<K: Keeper> Lake<K> {
         change::copy(&mut self.present, repo, branch, path, entry);
         Ok((place(&self.present), answer))
     }
+}
+
+// Of a lake that stands for its history: its state is sound, a copy is refused for nothing else than its causes, and
+// one that is refused for none may be made. (A law: it does nothing.)
+fn law_of_copies()
+    ensures sound { (opened : LakeStateValue) (history : List HistoryEntry) (l : LakeStateValue)
+        → Stands opened history l → IsSound (state_of l) }
+    ensures refused { (state : State) (given : VersionsGiven) (repo branch : List ℕ) (version : ℕ)
+        (e : RefExprValue) (from : List ℕ) (fault : StepFault)
+        → first_cause (copy_causes state given repo branch version e from) ≡ Some fault → IsRefusal fault }
+    ensures may { (opened : LakeStateValue) (history : List HistoryEntry) (l : LakeStateValue) (by : By)
+        (repo branch : List ℕ) (version : ℕ) (path : List ℕ) (e : RefExprValue) (from : List ℕ)
+        (entry : EntryValue) (commit : Option Digest) → Stands opened history l
+        → first_cause (copy_causes (state_of l) (versions_since opened history) repo branch version e from) ≡ None
+        → FindsCopy (state_of l) repo e from entry commit
+        → MayMake opened history l by (operation.Copy repo branch path (source_of e.name commit) from entry)
+        (after_copy repo branch path entry) }
+{
+    laws_of_causes();
+    law_of_present();
+    laws_of_writes();
 }
 
 // A change that is to be staged. It changes nothing that the lake says.
