@@ -1,5 +1,8 @@
-//! Scripts over a keeper that fails, and scripts of steps that several causes refuse; `heads` has those of new heads.
+//! Scripts over a keeper that fails, and scripts of steps that several causes refuse; `heads` has those of new heads,
+//! `kept` the pairs that are left after a failure, and `openings` lakes that aren't opened.
 mod heads;
+mod kept;
+mod openings;
 
 use crate::run::run_lines;
 use keeper::{KeeperFail, MemoryKeeper};
@@ -160,7 +163,7 @@ static FAULTS: [Row; 12] = [
 ];
 
 // Of several causes the first in the order of the law is answered; and writes and settings are guarded by versions.
-static CAUSES: [Row; 3] = [
+static CAUSES: [Row; 5] = [
     // NoRepo before NoRef; NoRef, NoParent before Exists; NoRef before Protected; DefaultBranch before Protected;
     // Protected before Changed; Changed before NoPath.
     Row {
@@ -190,33 +193,41 @@ static CAUSES: [Row; 3] = [
 {"refused":"NoPath"}
 "#,
     },
-    // A write of seat 0 after seat 1 sealed.
+    // A write of seat 0 after seat 1 sealed, and then by the version now.
     Row {
         call: 0,
         steps: r#"["versions","quickstart","main"]
 ["seal",1,1,"quickstart","main","other"]
-["stage",0,1,"quickstart","main",1,"a","delete"]
-["stage",0,2,"quickstart","main",2,"a","delete"]
+["stage",0,1,"quickstart","main",1,"a","01000673333a2f2f7800000000000000000005000000000000000000000000"]
+["versions","quickstart","main"]
+["look","quickstart","main","a"]
+["stage",0,2,"quickstart","main",2,"a","01000673333a2f2f7800000000000000000005000000000000000000000000"]
+["look","quickstart","main","a"]
 "#,
         replies: r#"{"ok":{"at":0,"settings":0,"version":1}}
 {"ok":{"at":1,"settings":0,"version":2}}
 {"refused":"Changed","settings":0,"version":2}
+{"ok":{"at":1,"settings":0,"version":2}}
+{"ok":{"at":1,"found":null,"gone":false}}
 {"ok":2}
+{"ok":{"at":2,"found":"01000673333a2f2f7800000000000000000005000000000000000000000000","gone":false}}
 "#,
     },
     // Settings by their version; NoNote before Changed.
     Row {
         call: 0,
-        steps: r#"["set_note",1,1,"quickstart",0,"protection",[{"pattern":"ma*"}]]
+        steps: r#"["set_note",1,1,"quickstart",null,"protection",[{"pattern":"ma*"}]]
+["note","quickstart","protection"]
 ["versions","quickstart","main"]
 ["take_ticket",0,1,"quickstart","main"]
-["set_note",0,2,"quickstart",0,"protection",[]]
+["set_note",0,2,"quickstart",0,"protection",null]
 ["set_note",0,3,"quickstart",0,"hooks",null]
 ["set_note",0,4,"quickstart",2,"protection",null]
 ["note","quickstart","protection"]
 ["take_ticket",0,5,"quickstart","main"]
 "#,
         replies: r#"{"ok":1}
+{"ok":{"at":1,"note":[{"pattern":"ma*"}],"settings":2}}
 {"ok":{"at":1,"settings":2,"version":1}}
 {"refused":"Protected","rule":0}
 {"refused":"Changed","settings":2,"version":0}
@@ -224,6 +235,62 @@ static CAUSES: [Row; 3] = [
 {"ok":2}
 {"refused":"NoNote"}
 {"ok":{"at":3,"number":0}}
+"#,
+    },
+    // A tag and a branch of one name: each leads to its own commit.
+    Row {
+        call: 0,
+        steps: r#"["create_tag",0,1,"quickstart","main","main"]
+["stage",0,2,"quickstart","main",1,"a","01000673333a2f2f7800000000000000000005000000000000000000000000"]
+["seal",0,3,"quickstart","main","commit"]
+["commit",0,4,"quickstart","main",{"committer":"c","date":1700000000,"message":"C","metadata":{}}]
+["find","quickstart",true,"main"]
+["find","quickstart",false,"main"]
+"#,
+        replies: r#"{"ok":{"at":1,"commit":"a52d600cf8f59ab14da57bd6123a7d90026916379eec82cad90310c61423b7c1"}}
+{"ok":2}
+{"ok":{"at":3,"settings":0,"version":2}}
+{"ok":{"at":4,"commit":"7c9348fdf7fa8597f14dc665e837010f4720a2df7aee3f2da04f9c585d353bab","record":{"committer":"c","date":1700000000,"generation":2,"message":"C","meta_range":"ec7c4104ab601755278a893c44187ce524906252e92253505a7bdf715a12f116","metadata":{},"parents":["a52d600cf8f59ab14da57bd6123a7d90026916379eec82cad90310c61423b7c1"]}}}
+{"ok":{"at":4,"commit":"a52d600cf8f59ab14da57bd6123a7d90026916379eec82cad90310c61423b7c1"}}
+{"ok":{"at":4,"commit":"7c9348fdf7fa8597f14dc665e837010f4720a2df7aee3f2da04f9c585d353bab"}}
+"#,
+    },
+    // A page of a branch: staged changes over sealed ones over its head's map, whole, on from a path, and by a prefix.
+    Row {
+        call: 0,
+        steps: r#"["stage",0,1,"quickstart","main",1,"a","01000673333a2f2f7800000000000000000005000000000000000000000000"]
+["seal",0,2,"quickstart","main","commit"]
+["commit",0,3,"quickstart","main",{"committer":"c","date":1700000000,"message":"C","metadata":{}}]
+["stage",0,4,"quickstart","main",3,"b/1","01000673333a2f2f7800000000000000000001000000000000000000000000"]
+["stage",0,5,"quickstart","main",3,"b/3","01000673333a2f2f7800000000000000000001000000000000000000000000"]
+["seal",0,6,"quickstart","main","other"]
+["stage",0,7,"quickstart","main",4,"a","delete"]
+["stage",0,8,"quickstart","main",4,"b/2","01000673333a2f2f7800000000000000000002000000000000000000000000"]
+["stage",0,9,"quickstart","main",4,"b/3","delete"]
+["stage",0,10,"quickstart","main",4,"c","01000673333a2f2f7800000000000000000002000000000000000000000000"]
+["page","quickstart","main",{"after":"","amount":9,"delimiter":"/","prefix":""}]
+["page","quickstart","main",{"after":"b/1","amount":1,"delimiter":"","prefix":""}]
+["page","quickstart","main",{"after":"","amount":9,"delimiter":"","prefix":"b/"}]
+["page","quickstart","main@",{"after":"","amount":9,"delimiter":"/","prefix":""}]
+["reset",0,11,"quickstart","main",{"prefix":"b/"}]
+["page","quickstart","main",{"after":"","amount":9,"delimiter":"","prefix":""}]
+"#,
+        replies: r#"{"ok":1}
+{"ok":{"at":2,"settings":0,"version":2}}
+{"ok":{"at":3,"commit":"7c9348fdf7fa8597f14dc665e837010f4720a2df7aee3f2da04f9c585d353bab","record":{"committer":"c","date":1700000000,"generation":2,"message":"C","meta_range":"ec7c4104ab601755278a893c44187ce524906252e92253505a7bdf715a12f116","metadata":{},"parents":["a52d600cf8f59ab14da57bd6123a7d90026916379eec82cad90310c61423b7c1"]}}}
+{"ok":4}
+{"ok":5}
+{"ok":{"at":6,"settings":0,"version":4}}
+{"ok":7}
+{"ok":8}
+{"ok":9}
+{"ok":10}
+{"ok":{"at":10,"has_more":false,"items":[{"prefix":"b/"},{"entry":"01000673333a2f2f7800000000000000000002000000000000000000000000","path":"c"}]}}
+{"ok":{"at":10,"has_more":true,"items":[{"entry":"01000673333a2f2f7800000000000000000002000000000000000000000000","path":"b/2"}]}}
+{"ok":{"at":10,"has_more":false,"items":[{"entry":"01000673333a2f2f7800000000000000000001000000000000000000000000","path":"b/1"},{"entry":"01000673333a2f2f7800000000000000000002000000000000000000000000","path":"b/2"}]}}
+{"ok":{"at":10,"has_more":false,"items":[{"entry":"01000673333a2f2f7800000000000000000005000000000000000000000000","path":"a"}]}}
+{"ok":11}
+{"ok":{"at":11,"has_more":false,"items":[{"entry":"01000673333a2f2f7800000000000000000002000000000000000000000000","path":"c"}]}}
 "#,
     },
 ];
