@@ -7,14 +7,19 @@ over a keeper in memory. Steps are fed to one program a lake, and a figure is th
 a block of them; what a line itself costs, its JSON and its reply, is taken off by the same step in a repository that isn't
 there. Each is the least of three blocks.
 
+Where rustc is there, a program of it does the searches of a look and of a stage alone, over as many keys: in a `BTreeMap`
+of the staged ones, and in a sorted slice of the committed ones, with rows as long as a lake's.
+
 Then new heads on 1,000, 100,000 and 1,000,000 keys, of one changed path each: `commit` is what the lake hands out, the
 draft and the swap. The old form drafts twice, so a swap with what is handed out is twice `commit` less the old form.
 """
 import json
 import os
 import random
+import shutil
 import subprocess
 import sys
+import tempfile
 import time
 
 HERE = os.path.dirname(os.path.dirname(os.path.abspath(__file__)))
@@ -30,6 +35,71 @@ def entry(size):
 def path(number):
     """The path of a number. Two in a row lie far apart."""
     return f'{number * 11400714819323198485 % 10**18:018d}'
+
+
+PEER = r'''use std::collections::BTreeMap;
+
+extern "C" {
+    fn clock_gettime(clock: i32, time: *mut [i64; 2]) -> i32;
+}
+
+// The processor's time of the program, in nanoseconds.
+fn used() -> u64 {
+    let mut time = [0i64; 2];
+    unsafe { clock_gettime(2, &mut time) };
+    time[0] as u64 * 1_000_000_000 + time[1] as u64
+}
+
+fn path(number: u64) -> Vec<u8> {
+    format!("{:018}", number as u128 * 11400714819323198485 % 1_000_000_000_000_000_000).into_bytes()
+}
+
+fn main() {
+    let words: Vec<u64> = std::env::args().skip(1).map(|word| word.parse().unwrap()).collect();
+    let (keys, staged) = (words[0], words[1]);
+    let mut rows: Vec<(Vec<u8>, [u64; 16])> = (0..keys).map(|n| (path(n), [n; 16])).collect();
+    rows.sort();
+    let rows: Vec<(Vec<u8>, [u64; 16])> = rows.iter().cloned().collect();
+    let mut map: BTreeMap<Vec<u8>, [u64; 16]> = (0..staged).map(|n| (path(keys + n), [n; 16])).collect();
+    let mut seed = 1u64;
+    let mut draw = |most: u64| {
+        seed ^= seed << 13;
+        seed ^= seed >> 7;
+        seed ^= seed << 17;
+        seed % most
+    };
+    let count = 20000;
+    let old: Vec<Vec<u8>> = (0..count).map(|_| path(draw(keys))).collect();
+    let new: Vec<Vec<u8>> = (0..count).map(|_| path(keys + draw(staged))).collect();
+    let mut least = [u64::MAX; 3];
+    let mut met = 0;
+    for _ in 0..3 {
+        let before = used();
+        for path in &old {
+            if !map.contains_key(path) {
+                let at = rows.partition_point(|row| row.0 < *path);
+                met += rows[at].1[0] & 1;
+            }
+        }
+        let middle = used();
+        for path in &new {
+            met += map[path][0] & 1;
+        }
+        let last = used();
+        for path in &new {
+            map.insert(path.clone(), [7; 16]);
+        }
+        let times = [middle - before, last - middle, used() - last];
+        for (least, time) in least.iter_mut().zip(times) {
+            *least = (*least).min(time);
+        }
+    }
+    for time in least {
+        println!("{}", time as f64 / count as f64);
+    }
+    assert!(met > 0);
+}
+'''
 
 
 def line(*step):
@@ -94,11 +164,21 @@ def steps(repo, keys, staged, count):
     old = [path(draw.randrange(keys)) for _ in range(count)]
     new = [path(keys + draw.randrange(staged)) for _ in range(count)]
     fresh = [path(keys + staged + n) for n in range(count)]
+
+    def look(paths):
+        return [line('look', repo, 'main', p) for p in paths]
+
+    def stage(paths):
+        return [line('stage', 0, 0, repo, 'main', 3, p, entry(7)) for p in paths]
+
     return {
-        'look (committed)': [line('look', repo, 'main', p) for p in old],
-        'look (staged)': [line('look', repo, 'main', p) for p in new],
-        'stage (over a staged path)': [line('stage', 0, 0, repo, 'main', 3, p, entry(7)) for p in new],
-        'stage (a new path)': [line('stage', 0, 0, repo, 'main', 3, p, entry(7)) for p in fresh],
+        'look (committed)': look(old),
+        'look (of 1,000 committed)': look(old[n % 1000] for n in range(count)),
+        'look (staged)': look(new),
+        'look (of 100 staged)': look(new[n % 100] for n in range(count)),
+        'stage (over a staged path)': stage(new),
+        'stage (over one of 100 staged paths)': stage(new[n % 100] for n in range(count)),
+        'stage (a new path)': stage(fresh),
         'take_ticket': [line('take_ticket', 0, 0, repo, 'main')] * count,
         'versions': [line('versions', repo, 'main')] * count,
         'find': [line('find', repo, False, 'main')] * count,
@@ -129,6 +209,24 @@ def calls(program, count=20000):
         print(f'| `{call}` | {big:.2f} us | {small:.2f} us | {big / small:.1f} |', flush=True)
 
 
+def peer():
+    """The searches of these calls alone, by a program of Rust."""
+    if not shutil.which('rustc'):
+        return
+    with tempfile.TemporaryDirectory() as folder:
+        source = os.path.join(folder, 'peer.rs')
+        with open(source, 'w') as file:
+            file.write(PEER)
+        subprocess.run(['rustc', '-O', source, '-o', f'{folder}/peer'], check=True)
+        figures = []
+        for sizes in (('1000000', '100000'), ('1000', '100')):
+            said = subprocess.run([f'{folder}/peer', *sizes], check=True, stdout=subprocess.PIPE, text=True).stdout
+            figures.append([float(time) / 1e3 for time in said.split()])
+    names = ('searches of a committed key', 'search of a staged key', 'insert over a staged path')
+    for name, big, small in zip(names, *figures):
+        print(f'| Rust: {name} | {big:.2f} us | {small:.2f} us | {big / small:.1f} |', flush=True)
+
+
 def heads(program):
     print('\n| keys | `commit` | its draft | what is handed out, and the swap | the same a key |')
     print('|---|---|---|---|---|')
@@ -152,6 +250,7 @@ def heads(program):
 def main():
     program = sys.argv[1] if len(sys.argv) > 1 else os.path.join(HERE, 'crates/run_script/out/run_script')
     calls(program)
+    peer()
     heads(program)
 
 
