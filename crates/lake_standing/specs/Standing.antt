@@ -25,7 +25,7 @@ pub record HasNoHistory (l : LakeStateValue) : Type 0 where
 
 -- A lake in memory stands for the replay of a legal history from the sound state that it was opened as, in which nothing
 -- had happened and versions were below the next one. Its versions are those that were given over the history, its tokens
--- are fresh, its counts are small, its index tells of just what is kept, and the modulus of its cut is above 0.
+-- differ and are below the next one, its counts are small, its index tells of just what is kept, and the modulus of its cut is above 0.
 pub record Stands (opened : LakeStateValue) (history : List HistoryEntry) (present : LakeStateValue) : Type 0 where
   pub sound : IsSound (state_of opened)
   pub fresh_start : HasNoHistory opened
