@@ -135,8 +135,8 @@ impl<K: Keeper> Lake<K> {
     }
 }
 
-// Of a lake that stands for its history: its state is sound, a copy is refused for nothing else than its causes, and
-// one that is refused for none may be made. (A law: it does nothing.)
+// Of a lake that stands for its history the state is sound; each cause that refuses a copy is a refusal, no want of
+// memory and no fault of the store; and a copy that none refuses may be made. (A law: it does nothing.)
 fn law_of_copies()
     ensures sound { (opened : LakeStateValue) (history : List HistoryEntry) (l : LakeStateValue)
         → Stands opened history l → IsSound (state_of l) }
