@@ -24,7 +24,7 @@ use Rattle.lake_state.specs.NewHeads.{NewCommit, commit_of_draft}
 use Rattle.lake_state.specs.Repositories.{RepositoryStateValue, repository_of}
 use Rattle.lake_keeping.specs.Keeping.{Parts}
 use Rattle.lake_keeping.specs.Views.{KeeperView}
-use Rattle.lake_committing.specs.Keeping.{IsAsItWas, KeepsWith}
+use Rattle.lake_committing.specs.Keeping.{IsAsBefore, KeepsWith}
 use Rattle.lake_committing.specs.Making.{HeadMaking, LeavesHead, head_answer}
 use Rattle.lake_committing.specs.NewHeads.{draft_for}
 use Rattle.lake_committing.specs.Testing.{AsksForHead, drafted_in}
@@ -49,8 +49,8 @@ module _ {K : Type 0} (view : KeeperView K) (by : By) (repo : List ℕ) (made : 
   same_left X (Expired id) is = refl
   same_left X (NameClash name kept new) is = refl
 
-  as_it_was : IsAsItWas view parts parts
-  as_it_was = record {
+  as_before : IsAsBefore view parts parts
+  as_before = record {
     history = refl;
     present = refl;
     kept = refl;
@@ -62,7 +62,7 @@ module _ {K : Type 0} (view : KeeperView K) (by : By) (repo : List ℕ) (made : 
   pub refused_leaves : {X : Type 0} (answer : Result X StepFault) (fault : StepFault) → IsErrAnd answer (λ e. e ≡ fault)
       → (fault ≡ NoMemory) ⊎ IsRefusal fault → LeavesHead view by repo made answer parts parts
   refused_leaves {X} (Err e) fault same (inl memory) =
-      subst (λ f. LeavesHead {X = X} view by repo made (Err f) parts parts) (sym (same ∙ memory)) as_it_was
+      subst (λ f. LeavesHead {X = X} view by repo made (Err f) parts parts) (sym (same ∙ memory)) as_before
   refused_leaves {X} (Err e) fault same (inr refusal) = same_left X e (subst IsRefusal (sym same) refusal)
   refused_leaves (Ok x) fault same why = absurd same
 

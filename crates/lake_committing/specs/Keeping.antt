@@ -36,7 +36,7 @@ pub record HasKeptWith {K : Type 0} (view : KeeperView K) (by : By) (operation :
   pub keeper : IsLaterKeeper view before.keeper after.keeper
 
 -- memory ran out, which is no failure of the keeper, and nothing that is said changed
-pub record IsAsItWas {K : Type 0} (view : KeeperView K) (before after : Parts K) : Type 0 where
+pub record IsAsBefore {K : Type 0} (view : KeeperView K) (before after : Parts K) : Type 0 where
   pub history : after.history ≡ before.history
   pub present : lake_value after.present ≡ lake_value before.present
   pub kept : view.kept after.keeper ≡ view.kept before.keeper
@@ -48,7 +48,7 @@ pub record IsAsItWas {K : Type 0} (view : KeeperView K) (before after : Parts K)
 abbrev pub KeepsWith : {K X : Type 0} → KeeperView K → By → Operation → List Put → (LakeStateValue → LakeStateValue) → Result X StepFault → Parts K → Parts K → Type 0
 KeepsWith view by operation puts change (Ok x) before after = HasKeptWith view by operation puts change before after
 KeepsWith view by operation puts change (Err StoreFault) before after = HasFailed view by operation puts before after
-KeepsWith view by operation puts change (Err NoMemory) before after = IsAsItWas view before after
+KeepsWith view by operation puts change (Err NoMemory) before after = IsAsBefore view before after
 KeepsWith view by operation puts change (Err fault) before after = ⊥
 
 -- so it is where a commit was put in its repository

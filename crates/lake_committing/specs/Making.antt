@@ -16,7 +16,7 @@ use Rattle.lake_changes.specs.LakeChanges.{after_new_head}
 use Rattle.lake_puts.specs.Puts.{new_head_puts}
 use Rattle.lake_keeping.specs.Keeping.{HasFailed, Parts}
 use Rattle.lake_keeping.specs.Views.{KeeperView}
-use Rattle.lake_committing.specs.Keeping.{HasKeptWith, IsAsItWas, MayHaveIn}
+use Rattle.lake_committing.specs.Keeping.{HasKeptWith, IsAsBefore, MayHaveIn}
 use Rattle.lake_committing.specs.Testing.{drafted_in}
 
 -- a new head: its commit, its operation, what becomes of the lake in memory, and the puts by which that is kept
@@ -50,7 +50,7 @@ pub record IsHeadFaulted {K : Type 0} (view : KeeperView K) (by : By) (repo : Li
 abbrev pub LeavesHead : {K X : Type 0} → KeeperView K → By → List ℕ → Option HeadMaking → Result X StepFault → Parts K → Parts K → Type 0
 LeavesHead view by repo made (Ok x) before after = IsSomeAnd made (λ m. IsHeadMade view by repo m before after)
 LeavesHead view by repo made (Err StoreFault) before after = IsSomeAnd made (λ m. IsHeadFaulted view by repo m before after)
-LeavesHead view by repo made (Err NoMemory) before after = IsAsItWas view before after
+LeavesHead view by repo made (Err NoMemory) before after = IsAsBefore view before after
 LeavesHead view by repo made (Err fault) before after = after ≡ before
 
 -- the answer of a step, as a place with a reply
