@@ -9,28 +9,26 @@ use Rattle.byte_map.proofs.ValuesLemmas.{get_map_values}
 use Rattle.lake_base.specs.declared.digest.Digest.{Digest}
 use Rattle.lake_values.specs.Ancestry.{commit_of}
 use Rattle.lake_values.specs.Commit.{AboutValue, CommitRecordValue}
-use Rattle.lake_format.specs.Spelling.{commit_id}
 use Rattle.meta_range.specs.Ranges.{TreeValue}
 use Rattle.lake_model.specs.declared.fault.StepFault.{StepFault}
 use Rattle.lake_model.specs.declared.fault.StepFault.TheVariants.{Stopped, HistoryFull, NoRepo, NoRef, NoParent, NoNote, Exists, DefaultBranch, Protected, Changed, NoPath, Expired, NameClash, StoreFault, NoMemory}
 use Rattle.lake_model.specs.declared.history.By.{By}
 use Rattle.lake_model.specs.declared.history.HistoryEntry.{HistoryEntry}
-use Rattle.lake_model.specs.declared.history.Operation.{Operation}
 use Rattle.lake_model.specs.declared.reply.SwapKind.{SwapKind}
 use Rattle.lake_model.specs.History.{accepted_entry, faulted_entry}
-use Rattle.lake_model.specs.State.{Branch, Repository, map_of}
+use Rattle.lake_model.specs.State.{map_of}
 use Rattle.lake_model.specs.Commits.{Draft, record_of}
 use Rattle.lake_model.specs.Refusals.{Causes, Clash, cause_if, clash_fault, first_cause, first_of}
 use Rattle.lake_model.specs.Steps.{IsSwapClash, IsSwapReply, is_current, swap_causes, swap_operation, swap_rule}
 use Rattle.lake_model.specs.Versions.{VersionsGiven, branch_version, settings_version}
-use Rattle.step_laws.specs.Prepared.{IsPrepared, IsPreparedDraft, WhereThere}
+use Rattle.step_laws.specs.Prepared.{IsPrepared, WhereThere}
 use Rattle.lake_state.specs.Branches.{BranchStateValue, branch_of}
 use Rattle.lake_state.specs.Counts.{HasVersions}
 use Rattle.lake_state.specs.declared.lake.LakeState.{LakeState}
 use Rattle.lake_state.specs.Lakes.{LakeStateValue, lake_value, state_of}
 use Rattle.lake_state.specs.NewHeads.{NewCommit, commit_of_draft}
 use Rattle.lake_state.specs.Repositories.{RepositoryStateValue, repository_of}
-use Rattle.lake_changes.specs.LakeChanges.{after_fault, after_new_head}
+use Rattle.lake_changes.specs.LakeChanges.{after_new_head}
 use Rattle.lake_puts.specs.Puts.{new_head_puts}
 use Rattle.lake_standing.specs.Standing.{MayMake, Stands, versions_since}
 use Rattle.lake_keeping.specs.Keeping.{Parts}
@@ -38,12 +36,12 @@ use Rattle.lake_keeping.specs.Views.{KeeperView}
 use Rattle.lake_committing.specs.Keeping.{MayHave, MayHaveIn}
 use Rattle.lake_committing.specs.Making.{HeadMaking, IsHeadFaulted, IsHeadMade, LeavesHead, head_answer, head_making}
 use Rattle.lake_committing.specs.NewHeads.{draft_for}
-use Rattle.lake_committing.specs.Testing.{HasTreeFor, drafted_in}
+use Rattle.lake_committing.specs.Testing.{HasTreeFor}
 use Rattle.lake_committing.proofs.PlaceLemmas.{in_state, on_state, same_some, where_there}
 use Rattle.lake_core.specs.Heads.{IsReadyFor, IsReadyOn}
 use Rattle.lake_core.specs.Lakes.{LakeValue}
 use Rattle.lake_core.specs.Makings.{swap as swap_making}
-use Rattle.lake_core.specs.Steps.{IsFaulted, IsMade, Leaves, Making}
+use Rattle.lake_core.specs.Steps.{IsFaulted, IsMade, Leaves}
 
 -- ---- no cause
 

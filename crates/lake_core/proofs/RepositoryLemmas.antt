@@ -10,7 +10,7 @@ use Rattle.lake_model.specs.declared.history.Operation.{Operation}
 use Rattle.lake_model.specs.declared.history.Operation.TheVariants.{RepoCreate}
 use Rattle.lake_model.specs.State.{State}
 use Rattle.lake_model.specs.Commits.{bare_repository, first_draft}
-use Rattle.lake_model.specs.Refusals.{Clash, GivesOrFails, IsClashOrNone, IsRefusal, first_cause}
+use Rattle.lake_model.specs.Refusals.{Clash, IsClashOrNone, IsRefusal, first_cause}
 use Rattle.lake_model.specs.Steps.{IsCreateRepositoryReply, create_repository_causes, next_place}
 use Rattle.lake_causes.specs.Clashing.{AsksToCreate}
 use Rattle.lake_changes.specs.LakeChanges.{after_repository_create}
@@ -26,12 +26,7 @@ use Rattle.lake_core.specs.Lakes.{LakeValue}
 use Rattle.lake_core.specs.Ready.{IsReady}
 use Rattle.lake_core.specs.declared.ready.Ready.{Ready}
 use Rattle.lake_core.specs.Steps.{Leaves, Making}
-use Rattle.lake_core.proofs.StepLemmas.{accepted, refused_leaves, refused_reply, unkept_reply}
-
--- memory ran out
-memory_reply : {X : Type 0} (answer reply : Result X StepFault) → IsErrAnd answer (λ e. e ≡ NoMemory) → GivesOrFails answer reply
-memory_reply (Err e) reply is = subst (λ f. GivesOrFails (Err f) reply) (sym is) tt
-memory_reply (Ok x) reply is = absurd is
+use Rattle.lake_core.proofs.StepLemmas.{accepted, refused_leaves, refused_reply, starved_reply, unkept_reply}
 
 same_err : {X : Type 0} (answer : Result X StepFault) (fault other : StepFault) → IsErrAnd answer (λ e. e ≡ fault) → fault ≡ other
     → IsErrAnd answer (λ e. e ≡ other)
@@ -67,7 +62,7 @@ module _ (s : State) (repo branch : List ℕ) (date : ℕ) where
     asks.clash,
     asks.there,
     elim asks.tells [
-      | inl memory ↦ memory_reply answer (next_place s (create_repository_causes s repo asks.clash)) (same_err answer fault NoMemory same memory)
+      | inl memory ↦ starved_reply answer (next_place s (create_repository_causes s repo asks.clash)) (same_err answer fault NoMemory same memory)
       | inr first ↦ refused_reply (first_cause (create_repository_causes s repo asks.clash)) (s.entries + 1) (each asks.clash) answer fault same first
     ],
   )
@@ -82,7 +77,7 @@ module _ (s : State) (repo branch : List ℕ) (date : ℕ) where
   pub unready_creation : {X : Type 0} (x : X) → AsksToCreate {X = X} s repo branch date (Ok x)
       → (answer : Result ℕ StepFault) → IsErrAnd answer (λ e. e ≡ NoMemory) → IsCreateRepositoryReply s repo branch date answer
   unready_creation x asks answer is =
-      (asks.clash, asks.there, memory_reply answer (next_place s (create_repository_causes s repo asks.clash)) is)
+      (asks.clash, asks.there, starved_reply answer (next_place s (create_repository_causes s repo asks.clash)) is)
 
   -- or the keeper refused it
   pub unkept_creation : {K X : Type 0} (view : KeeperView K) (by : By) (made : Operation) (puts : List Put) (before after : Parts K)

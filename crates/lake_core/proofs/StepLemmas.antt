@@ -210,6 +210,10 @@ module _ {K X : Type 0} (view : KeeperView K) (by : By) (made : Operation) (puts
 
 -- ---- answers where memory ran out
 
+pub starved_reply : {X : Type 0} (answer reply : Result X StepFault) → IsErrAnd answer (λ e. e ≡ NoMemory) → GivesOrFails answer reply
+starved_reply (Err e) reply same = subst (λ e. GivesOrFails (Err e) reply) (sym same) tt
+starved_reply (Ok x) reply same = absurd same
+
 pub starved_found : {X : Type 0} (state : State) (c : Causes) (value : Option X) (answer : Result (ℕ × X) StepFault)
     → IsErrAnd answer (λ e. e ≡ NoMemory) → IsReplyOf state c value answer
 starved_found {X} state c value (Err e) same = subst (λ e. IsReplyOf {X = X} state c value (Err e)) (sym same) tt
@@ -236,6 +240,17 @@ module _ {K : Type 0} (view : KeeperView K) (old new : LakeValue K) where
       → IsErrAnd answer (λ e. e ≡ NoMemory) → IsAsBefore view old new → Leaves view by made answer old new
   starved_leaves {X} by made (Err e) same left = subst (λ e. Leaves {X = X} view by made (Err e) old new) (sym same) left
   starved_leaves by made (Ok x) same left = absurd same
+
+-- what was made ready says the same, so the lake is as before
+module _ {K : Type 0} (view : KeeperView K) (opened present ready : LakeState) (history : List HistoryEntry) (keeper : K) (lake : LakeValue K)
+    (was : record { opened = opened; history = history; present = present; keeper = keeper } ≡ lake)
+    (same : lake_value ready ≡ lake_value present) where
+  pub unready_leaves : {X : Type 0} (by : By) (made : Option Making) (answer : Result X StepFault) → IsErrAnd answer (λ e. e ≡ NoMemory)
+      → Leaves view by made answer lake (record { opened = opened; history = history; present = ready; keeper = keeper })
+  unready_leaves by made answer starved =
+      let now : LakeValue K = record { opened = opened; history = history; present = ready; keeper = keeper } in
+      starved_leaves view lake now by made answer starved (subst (λ old. IsAsBefore view old now) was
+      (as_before view (record { opened = opened; history = history; present = present; keeper = keeper }) now refl refl same refl))
 
 -- ---- what is left of the lake
 

@@ -11,9 +11,8 @@ use Rattle.lake_changes.specs.LakeChanges.{after_copy}
 use Rattle.lake_puts.specs.Puts.{stage_puts}
 use Rattle.lake_core.specs.Makings.{copy, copy_making}
 use Rattle.lake_keeping.specs.Views.{KeeperView}
-use Rattle.lake_core.specs.Lakes.{LakeValue, state, versions}
-use Rattle.lake_core.specs.Steps.{IsAsBefore}
-use Rattle.lake_core.proofs.StepLemmas.{holds_now, made_leaves, made_stands, refused_found, refused_leaves, refused_stands, as_before, starved_found, starved_leaves, unkept_found, unkept_leaves}
+use Rattle.lake_core.specs.Lakes.{state, versions}
+use Rattle.lake_core.proofs.StepLemmas.{holds_now, made_leaves, made_stands, refused_found, refused_leaves, refused_stands, as_before, starved_found, starved_leaves, unkept_found, unready_leaves, unkept_leaves}
 use Rattle.lake_core.proofs.lake.Lake.copy.Goals as goal
 
 pub test_copy-requires : goal.test_copy-requires
@@ -106,9 +105,5 @@ pub returns-in_err-puts-clause-leaves : goal.returns-in_err-puts-clause-leaves
 returns-in_err-puts-clause-leaves g c =
     let view : KeeperView _ = record { kept = g.K.Keeper.kept; faults = g.K.Keeper.faults; calls = g.K.Keeper.calls } in
     let inside = c.self.inside in
-    let new : LakeValue _ = record { opened = inside.opened.value; history = inside.history.items; present = c.ready_copy.new.lake; keeper = inside.keeper } in
-    starved_leaves view c.args.self.now new c.args.by
-    (copy c.args.repo.now c.args.branch.now c.args.path c.args.e.now c.args.from.now (lake_value c.args.self.now.present))
-    c.from_residual-in_err-puts.result c.from_residual-in_err-puts.ensures.1
-    (subst (λ old. IsAsBefore view old new) c.self.view_is
-    (as_before view (record { opened = inside.opened.value; history = inside.history.items; present = inside.present; keeper = inside.keeper }) new refl refl c.ready_copy.ensures.same refl))
+    unready_leaves view inside.opened.value inside.present c.ready_copy.new.lake inside.history.items inside.keeper c.args.self.now c.self.view_is c.ready_copy.ensures.same c.args.by
+    (copy c.args.repo.now c.args.branch.now c.args.path c.args.e.now c.args.from.now (lake_value c.args.self.now.present)) c.from_residual-in_err-puts.result c.from_residual-in_err-puts.ensures.1

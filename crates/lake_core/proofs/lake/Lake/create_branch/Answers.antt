@@ -4,8 +4,10 @@ use Rattle.lake_model.specs.Steps.{IsCreateBranchReply, create_branch_causes, in
 use Rattle.lake_state.specs.Counts.{AreFew}
 use Rattle.lake_state.specs.Lakes.{lake_value, state_of}
 use Rattle.lake_changes.specs.LakeChanges.{after_branch_create}
+use Rattle.lake_keeping.specs.Views.{KeeperView}
+use Rattle.lake_core.specs.Lakes.{state}
 use Rattle.lake_core.specs.Makings.{branch_making, create_branch}
-use Rattle.lake_core.proofs.StepLemmas.{holds_now, made_leaves, made_stands, refused_found, refused_stands, unkept_found, unkept_leaves}
+use Rattle.lake_core.proofs.StepLemmas.{holds_now, made_leaves, made_stands, refused_found, refused_leaves, refused_stands, starved_found, unkept_found, unkept_leaves, unready_leaves}
 use Rattle.lake_core.proofs.lake.Lake.create_branch.Goals as goal
 
 pub returns-in_err-commit-clause-reply : goal.returns-in_err-commit-clause-reply
@@ -67,3 +69,20 @@ create_branch-requires-clause-few g c =
     let none = c.in_ok-commit.ensures.0 in
     let may = c.laws_of_names.ensures.create_branch _ _ _ c.args.by c.args.repo.now c.args.name c.args.e.now c.in_ok-commit.commit c.self.invariant c.requires none c.in_ok-commit.ensures.1 in
     subst AreFew (sym (ap lake_value c.in_ok-keep.ensures.present ∙ c.in_ok-operation.ensures.same)) may.few
+
+pub returns-in_err-commit-clause-leaves : goal.returns-in_err-commit-clause-leaves
+returns-in_err-commit-clause-leaves g c =
+    refused_leaves _ _ (create_branch c.args.repo.now c.args.name c.args.e.now (lake_value c.args.self.now.present)) _ _ refl _ _ c.from_residual.ensures.1
+    (c.laws_of_causes.ensures.create_branch (state_of (lake_value c.self.inside.present)) c.args.repo.now c.args.name c.args.e.now _ c.in_err-commit.ensures)
+
+pub returns-in_err-operation-clause-reply : goal.returns-in_err-operation-clause-reply
+returns-in_err-operation-clause-reply g c =
+    starved_found (state c.args.self.now) (create_branch_causes (state c.args.self.now) c.args.repo.now c.args.name c.args.e.now) (in_it (state c.args.self.now) c.args.repo.now (λ r. target_in r c.args.e.now))
+    c.from_residual-in_err-operation.result c.from_residual-in_err-operation.ensures.1
+
+pub returns-in_err-operation-clause-leaves : goal.returns-in_err-operation-clause-leaves
+returns-in_err-operation-clause-leaves g c =
+    let view : KeeperView _ = record { kept = g.K.Keeper.kept; faults = g.K.Keeper.faults; calls = g.K.Keeper.calls } in
+    let inside = c.self.inside in
+    unready_leaves view inside.opened.value inside.present c.ready_create.new.lake inside.history.items inside.keeper c.args.self.now c.self.view_is c.ready_create.ensures.same c.args.by
+    (create_branch c.args.repo.now c.args.name c.args.e.now (lake_value c.args.self.now.present)) c.from_residual-in_err-operation.result c.from_residual-in_err-operation.ensures.1

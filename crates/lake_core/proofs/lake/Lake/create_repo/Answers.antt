@@ -4,9 +4,10 @@ use Rattle.lake_model.specs.Steps.{IsCreateRepositoryReply}
 use Rattle.lake_state.specs.Counts.{AreFew}
 use Rattle.lake_state.specs.Lakes.{lake_value, state_of}
 use Rattle.lake_founding.proofs.FoundingLemmas.{at_date, dated}
+use Rattle.lake_keeping.specs.Views.{KeeperView}
 use Rattle.lake_core.specs.Makings.{create_repo}
 use Rattle.lake_core.proofs.RepositoryLemmas.{creation_fault, made_creation, ready_at, refused_creation, repository_made, unkept_creation, unmade_leaves, unready_creation}
-use Rattle.lake_core.proofs.StepLemmas.{holds_now, made_leaves, made_stands, refused_stands, unkept_leaves}
+use Rattle.lake_core.proofs.StepLemmas.{holds_now, made_leaves, made_stands, refused_stands, unkept_leaves, unready_leaves}
 use Rattle.lake_core.proofs.lake.Lake.create_repo.Goals as goal
 
 pub returns-in_err-first-clause-reply : goal.returns-in_err-first-clause-reply
@@ -111,3 +112,10 @@ returns-clause-leaves g c =
     made_leaves _ _ (λ p. Some (create_repo c.args.repo c.args.branch c.args.date (lake_value p))) (create_repo c.args.repo c.args.branch c.args.date l) _ _ ready.operation ready.puts
     _ _ _ _ _ (record { keeper = c.keep.new.keeper; history = c.keep.new.history.items; present = c.keep.new.present }) c.in_ok-ready.ensures.same refl _ c.self.view_is _ c.in_ok-keep.ensures
     changed
+
+pub returns-in_err-ready-clause-leaves : goal.returns-in_err-ready-clause-leaves
+returns-in_err-ready-clause-leaves g c =
+    let view : KeeperView _ = record { kept = g.K.Keeper.kept; faults = g.K.Keeper.faults; calls = g.K.Keeper.calls } in
+    let inside = c.self.inside in
+    unready_leaves view inside.opened.value inside.present c.ready_repository.new.lake inside.history.items inside.keeper c.args.self.now c.self.view_is c.ready_repository.ensures.same c.args.by
+    (Some (create_repo c.args.repo c.args.branch c.args.date (lake_value c.args.self.now.present))) c.from_residual-in_err-ready.result c.from_residual-in_err-ready.ensures.1

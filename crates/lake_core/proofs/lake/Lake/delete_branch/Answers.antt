@@ -5,8 +5,10 @@ use Rattle.lake_model.specs.Steps.{delete_branch_reply, delete_branch_causes}
 use Rattle.lake_state.specs.Counts.{AreFew}
 use Rattle.lake_state.specs.Lakes.{lake_value, state_of}
 use Rattle.lake_changes.specs.LakeChanges.{after_branch_delete}
+use Rattle.lake_keeping.specs.Views.{KeeperView}
+use Rattle.lake_core.specs.Lakes.{state}
 use Rattle.lake_core.specs.Makings.{delete_branch}
-use Rattle.lake_core.proofs.StepLemmas.{accepted, at_present, holds_now, made_leaves, made_stands, refused_reply, refused_stands, unkept_leaves, unkept_reply}
+use Rattle.lake_core.proofs.StepLemmas.{accepted, as_before, at_present, holds_now, made_leaves, made_stands, refused_leaves, refused_reply, refused_stands, starved_leaves, starved_reply, unkept_leaves, unkept_reply}
 use Rattle.lake_core.proofs.lake.Lake.delete_branch.Goals as goal
 
 pub returns-in_err-test_delete_branch-clause-reply : goal.returns-in_err-test_delete_branch-clause-reply
@@ -68,3 +70,18 @@ delete_branch-requires g c =
     let none = c.in_ok-test_delete_branch.ensures in
     let may = c.laws_of_names.ensures.delete_branch _ _ _ c.args.by c.args.repo.now c.args.name.now c.self.invariant none in
     record { few = subst AreFew (sym (ap lake_value c.in_ok-keep.ensures.present)) may.few }
+
+pub returns-in_err-test_delete_branch-clause-leaves : goal.returns-in_err-test_delete_branch-clause-leaves
+returns-in_err-test_delete_branch-clause-leaves g c =
+    refused_leaves _ _ (Some (delete_branch c.args.repo.now c.args.name.now (lake_value c.args.self.now.present))) _ _ refl _ _ c.from_residual.ensures.1
+    (c.laws_of_causes.ensures.delete_branch (state_of (lake_value c.self.inside.present)) c.args.repo.now c.args.name.now _ c.in_err-test_delete_branch.ensures)
+
+pub returns-in_err-operation-clause-reply : goal.returns-in_err-operation-clause-reply
+returns-in_err-operation-clause-reply g c =
+    starved_reply c.from_residual-in_err-operation.result (delete_branch_reply (state c.args.self.now) c.args.repo.now c.args.name.now) c.from_residual-in_err-operation.ensures.1
+
+pub returns-in_err-operation-clause-leaves : goal.returns-in_err-operation-clause-leaves
+returns-in_err-operation-clause-leaves g c =
+    let view : KeeperView _ = record { kept = g.K.Keeper.kept; faults = g.K.Keeper.faults; calls = g.K.Keeper.calls } in
+    starved_leaves view c.args.self.now c.args.self.now c.args.by (Some (delete_branch c.args.repo.now c.args.name.now (lake_value c.args.self.now.present)))
+    c.from_residual-in_err-operation.result c.from_residual-in_err-operation.ensures.1 (as_before view c.args.self.now c.args.self.now refl refl refl refl)

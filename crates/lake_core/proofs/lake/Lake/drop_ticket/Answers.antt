@@ -6,7 +6,7 @@ use Rattle.lake_state.specs.Counts.{AreFew}
 use Rattle.lake_state.specs.Lakes.{lake_value, state_of}
 use Rattle.lake_changes.specs.LakeChanges.{after_ticket_drop}
 use Rattle.lake_core.specs.Makings.{drop_ticket}
-use Rattle.lake_core.proofs.StepLemmas.{accepted, at_present, held_then, holds_now, made_leaves, made_stands, refused_reply, refused_stands, unkept_leaves, unkept_reply}
+use Rattle.lake_core.proofs.StepLemmas.{accepted, at_present, held_then, holds_now, made_leaves, made_stands, refused_leaves, refused_reply, refused_stands, unkept_leaves, unkept_reply}
 use Rattle.lake_model.specs.Uncommitted.{HasTicket}
 use Rattle.lake_core.proofs.lake.Lake.drop_ticket.Goals as goal
 
@@ -67,3 +67,8 @@ drop_ticket-requires g c =
     let ticket = held_then (λ s given. HasTicket s c.args.by.seat c.args.number) c.self.view_is c.self.invariant.replayed c.requires in
     let may = c.laws_of_tickets.ensures.drop _ _ _ c.args.by c.args.number c.self.invariant none ticket in
     record { few = subst AreFew (sym (ap lake_value c.in_ok-keep.ensures.present)) may.few }
+
+pub returns-in_err-test_change-clause-leaves : goal.returns-in_err-test_change-clause-leaves
+returns-in_err-test_change-clause-leaves g c =
+    refused_leaves _ _ (Some (drop_ticket c.args.number)) _ _ refl _ _ c.from_residual.ensures.1
+    (c.laws_of_causes.ensures.change (state_of (lake_value c.self.inside.present)) _ c.in_err-test_change.ensures)

@@ -5,8 +5,10 @@ use Rattle.lake_model.specs.Steps.{reset_reply, write_causes}
 use Rattle.lake_state.specs.Counts.{AreFew}
 use Rattle.lake_state.specs.Lakes.{lake_value, state_of}
 use Rattle.lake_changes.specs.LakeChanges.{after_reset}
+use Rattle.lake_keeping.specs.Views.{KeeperView}
+use Rattle.lake_core.specs.Lakes.{state}
 use Rattle.lake_core.specs.Makings.{reset}
-use Rattle.lake_core.proofs.StepLemmas.{accepted, at_present, holds_now, made_leaves, made_stands, refused_reply, refused_stands, unkept_leaves, unkept_reply}
+use Rattle.lake_core.proofs.StepLemmas.{accepted, at_present, holds_now, made_leaves, made_stands, refused_leaves, refused_reply, refused_stands, starved_reply, unkept_leaves, unkept_reply, unready_leaves}
 use Rattle.lake_core.proofs.lake.Lake.reset.Goals as goal
 
 pub returns-in_err-test_write-clause-reply : goal.returns-in_err-test_write-clause-reply
@@ -68,3 +70,19 @@ reset-requires-clause-few g c =
     let none = c.in_ok-test_write.ensures in
     let may = c.laws_of_writes.ensures.reset _ _ _ c.args.by c.args.repo.now c.args.branch.now c.args.what c.self.invariant none in
     subst AreFew (sym (ap lake_value c.in_ok-keep.ensures.present ∙ c.in_ok-operation.ensures.same)) may.few
+
+pub returns-in_err-test_write-clause-leaves : goal.returns-in_err-test_write-clause-leaves
+returns-in_err-test_write-clause-leaves g c =
+    refused_leaves _ _ (Some (reset c.args.repo.now c.args.branch.now c.args.what (lake_value c.args.self.now.present))) _ _ refl _ _ c.from_residual.ensures.1
+    (c.laws_of_causes.ensures.write (state_of (lake_value c.self.inside.present)) c.args.repo.now c.args.branch.now _ c.in_err-test_write.ensures)
+
+pub returns-in_err-operation-clause-reply : goal.returns-in_err-operation-clause-reply
+returns-in_err-operation-clause-reply g c =
+    starved_reply c.from_residual-in_err-operation.result (reset_reply (state c.args.self.now) c.args.repo.now c.args.branch.now) c.from_residual-in_err-operation.ensures.1
+
+pub returns-in_err-operation-clause-leaves : goal.returns-in_err-operation-clause-leaves
+returns-in_err-operation-clause-leaves g c =
+    let view : KeeperView _ = record { kept = g.K.Keeper.kept; faults = g.K.Keeper.faults; calls = g.K.Keeper.calls } in
+    let inside = c.self.inside in
+    unready_leaves view inside.opened.value inside.present c.ready_reset.new.lake inside.history.items inside.keeper c.args.self.now c.self.view_is c.ready_reset.ensures.same c.args.by
+    (Some (reset c.args.repo.now c.args.branch.now c.args.what (lake_value c.args.self.now.present))) c.from_residual-in_err-operation.result c.from_residual-in_err-operation.ensures.1

@@ -6,8 +6,10 @@ use Rattle.lake_state.specs.Counts.{AreFew}
 use Rattle.lake_state.specs.Lakes.{lake_value, state_of}
 use Rattle.lake_standing.specs.Standing.{versions_since}
 use Rattle.lake_changes.specs.LakeChanges.{after_seal}
+use Rattle.lake_keeping.specs.Views.{KeeperView}
+use Rattle.lake_core.specs.Lakes.{state, versions}
 use Rattle.lake_core.specs.Makings.{seal}
-use Rattle.lake_core.proofs.StepLemmas.{accepted, at_present, holds_now, made_leaves, made_stands, refused_reply, refused_stands, settings_at, unkept_leaves, unkept_reply}
+use Rattle.lake_core.proofs.StepLemmas.{accepted, at_present, holds_now, made_leaves, made_stands, refused_leaves, refused_reply, refused_stands, settings_at, starved_reply, unkept_leaves, unkept_reply, unready_leaves}
 use Rattle.lake_changes.specs.FreshTokens.{AreTokensBelow}
 use Rattle.lake_model.specs.declared.reply.Versions.{Versions}
 use Rattle.lake_model.specs.Versions.{settings_version}
@@ -81,3 +83,19 @@ seal-requires-clause-tokens g c =
     let none = c.in_ok-test_seal.ensures in
     let may = c.laws_of_writes.ensures.seal _ _ _ c.args.by c.args.repo.now c.args.branch.now c.args.why c.self.invariant none in
     subst AreTokensBelow (sym (ap lake_value c.in_ok-keep.ensures.present ∙ c.in_ok-operation.ensures.same)) c.self.invariant.tokens
+
+pub returns-in_err-test_seal-clause-leaves : goal.returns-in_err-test_seal-clause-leaves
+returns-in_err-test_seal-clause-leaves g c =
+    refused_leaves _ _ (Some (seal c.args.repo.now c.args.branch.now c.args.why (lake_value c.args.self.now.present))) _ _ refl _ _ c.from_residual.ensures.1
+    (c.laws_of_causes.ensures.seal c.args.why (state_of (lake_value c.self.inside.present)) c.args.repo.now c.args.branch.now _ c.in_err-test_seal.ensures)
+
+pub returns-in_err-operation-clause-reply : goal.returns-in_err-operation-clause-reply
+returns-in_err-operation-clause-reply g c =
+    starved_reply c.from_residual-in_err-operation.result (seal_reply c.args.why (state c.args.self.now) (versions c.args.self.now) c.args.repo.now c.args.branch.now) c.from_residual-in_err-operation.ensures.1
+
+pub returns-in_err-operation-clause-leaves : goal.returns-in_err-operation-clause-leaves
+returns-in_err-operation-clause-leaves g c =
+    let view : KeeperView _ = record { kept = g.K.Keeper.kept; faults = g.K.Keeper.faults; calls = g.K.Keeper.calls } in
+    let inside = c.self.inside in
+    unready_leaves view inside.opened.value inside.present c.ready_seal.new.lake inside.history.items inside.keeper c.args.self.now c.self.view_is c.ready_seal.ensures.same c.args.by
+    (Some (seal c.args.repo.now c.args.branch.now c.args.why (lake_value c.args.self.now.present))) c.from_residual-in_err-operation.result c.from_residual-in_err-operation.ensures.1

@@ -6,8 +6,10 @@ use Rattle.lake_state.specs.Counts.{AreFew}
 use Rattle.lake_state.specs.Lakes.{lake_value, state_of}
 use Rattle.lake_standing.specs.Standing.{versions_since}
 use Rattle.lake_changes.specs.LakeChanges.{after_note_set}
+use Rattle.lake_keeping.specs.Views.{KeeperView}
+use Rattle.lake_core.specs.Lakes.{state, versions}
 use Rattle.lake_core.specs.Makings.{set_note}
-use Rattle.lake_core.proofs.StepLemmas.{accepted, at_present, holds_now, made_leaves, made_stands, refused_reply, refused_stands, unkept_leaves, unkept_reply}
+use Rattle.lake_core.proofs.StepLemmas.{accepted, as_before, at_present, holds_now, made_leaves, made_stands, refused_leaves, refused_reply, refused_stands, starved_leaves, starved_reply, unkept_leaves, unkept_reply}
 use Rattle.lake_core.proofs.lake.Lake.set_note.Goals as goal
 
 pub returns-in_err-test_set_note-clause-reply : goal.returns-in_err-test_set_note-clause-reply
@@ -69,3 +71,18 @@ set_note-requires g c =
     let none = c.in_ok-test_set_note.ensures _ c.self.invariant.versions in
     let may = c.law_of_settings.ensures _ _ _ c.args.by c.args.repo.now c.args.expected c.args.name c.args.note c.self.invariant none c.requires.name in
     record { few = subst AreFew (sym (ap lake_value c.in_ok-keep.ensures.present)) may.few }
+
+pub returns-in_err-test_set_note-clause-leaves : goal.returns-in_err-test_set_note-clause-leaves
+returns-in_err-test_set_note-clause-leaves g c =
+    refused_leaves _ _ (Some (set_note c.args.repo.now c.args.name c.args.note (lake_value c.args.self.now.present))) _ _ refl _ _ c.from_residual.ensures.1
+    (c.laws_of_causes.ensures.set_note (state_of (lake_value c.self.inside.present)) (versions_since (lake_value c.self.inside.opened.value) c.self.inside.history.items) c.args.repo.now c.args.expected c.args.name c.args.note _ (c.in_err-test_set_note.ensures _ c.self.invariant.versions))
+
+pub returns-in_err-operation-clause-reply : goal.returns-in_err-operation-clause-reply
+returns-in_err-operation-clause-reply g c =
+    starved_reply c.from_residual-in_err-operation.result (set_note_reply (state c.args.self.now) (versions c.args.self.now) c.args.repo.now c.args.expected c.args.name c.args.note) c.from_residual-in_err-operation.ensures.1
+
+pub returns-in_err-operation-clause-leaves : goal.returns-in_err-operation-clause-leaves
+returns-in_err-operation-clause-leaves g c =
+    let view : KeeperView _ = record { kept = g.K.Keeper.kept; faults = g.K.Keeper.faults; calls = g.K.Keeper.calls } in
+    starved_leaves view c.args.self.now c.args.self.now c.args.by (Some (set_note c.args.repo.now c.args.name c.args.note (lake_value c.args.self.now.present)))
+    c.from_residual-in_err-operation.result c.from_residual-in_err-operation.ensures.1 (as_before view c.args.self.now c.args.self.now refl refl refl refl)

@@ -7,8 +7,10 @@ use Rattle.lake_state.specs.Counts.{AreFew}
 use Rattle.lake_state.specs.Lakes.{lake_value, state_of}
 use Rattle.lake_standing.specs.Standing.{versions_since}
 use Rattle.lake_changes.specs.LakeChanges.{after_stage}
+use Rattle.lake_keeping.specs.Views.{KeeperView}
+use Rattle.lake_core.specs.Lakes.{state, versions}
 use Rattle.lake_core.specs.Makings.{stage}
-use Rattle.lake_core.proofs.StepLemmas.{accepted, at_present, held_then, holds_now, made_leaves, made_stands, refused_reply, refused_stands, staged_entries, unkept_leaves, unkept_reply}
+use Rattle.lake_core.proofs.StepLemmas.{accepted, at_present, held_then, holds_now, made_leaves, made_stands, refused_leaves, refused_reply, refused_stands, staged_entries, starved_reply, unkept_leaves, unkept_reply, unready_leaves}
 use Rattle.lake_core.proofs.lake.Lake.stage.Goals as goal
 
 pub returns-in_err-test_stage-clause-reply : goal.returns-in_err-test_stage-clause-reply
@@ -72,3 +74,19 @@ returns-clause-leaves g c =
     made_leaves _ _ (λ p. Some (stage c.args.repo.now c.args.branch.now c.args.path c.args.change (lake_value p))) (stage c.args.repo.now c.args.branch.now c.args.path c.args.change (lake_value c.self.inside.present)) _ _ ready.ready.operation ready.ready.puts
     _ _ _ _ _ (record { keeper = c.keep.new.keeper; history = c.keep.new.history.items; present = c.keep.new.present }) ready.same refl _ c.self.view_is _ c.in_ok-keep.ensures
     (c.stage.ensures ∙ ap (after_stage c.args.repo.now c.args.branch.now c.args.path c.args.change) (ap lake_value c.in_ok-keep.ensures.present ∙ ready.same))
+
+pub returns-in_err-test_stage-clause-leaves : goal.returns-in_err-test_stage-clause-leaves
+returns-in_err-test_stage-clause-leaves g c =
+    refused_leaves _ _ (Some (stage c.args.repo.now c.args.branch.now c.args.path c.args.change (lake_value c.args.self.now.present))) _ _ refl _ _ c.from_residual.ensures.1
+    (c.laws_of_causes.ensures.stage (state_of (lake_value c.self.inside.present)) (versions_since (lake_value c.self.inside.opened.value) c.self.inside.history.items) c.args.repo.now c.args.branch.now c.args.version _ (c.in_err-test_stage.ensures _ c.self.invariant.versions))
+
+pub returns-in_err-operation-clause-reply : goal.returns-in_err-operation-clause-reply
+returns-in_err-operation-clause-reply g c =
+    starved_reply c.from_residual-in_err-operation.result (stage_reply (state c.args.self.now) (versions c.args.self.now) c.args.repo.now c.args.branch.now c.args.version) c.from_residual-in_err-operation.ensures.1
+
+pub returns-in_err-operation-clause-leaves : goal.returns-in_err-operation-clause-leaves
+returns-in_err-operation-clause-leaves g c =
+    let view : KeeperView _ = record { kept = g.K.Keeper.kept; faults = g.K.Keeper.faults; calls = g.K.Keeper.calls } in
+    let inside = c.self.inside in
+    unready_leaves view inside.opened.value inside.present c.ready_stage.new.lake inside.history.items inside.keeper c.args.self.now c.self.view_is c.ready_stage.ensures.same c.args.by
+    (Some (stage c.args.repo.now c.args.branch.now c.args.path c.args.change (lake_value c.args.self.now.present))) c.from_residual-in_err-operation.result c.from_residual-in_err-operation.ensures.1
