@@ -1,5 +1,5 @@
 -- A lake that is opened over a keeper.
-use Rattle.std.proofs.Common.{arith, inl, inr, ◌≡◌, ◌≤◌, ◌<◌, ℕ, zero, suc, List, [], ◌∷◌, length, refl, sym, ap, ◌∙◌, subst}
+use Rattle.std.proofs.Common.{inl, inr, ◌≡◌, ◌≤◌, ℕ, zero, suc, List, [], ◌∷◌, length, refl, sym, ap, ◌∙◌, subst}
 use Rattle.std.specs.Prelude.{◌⊎◌, Option, Some, None, IfSome, Result, Ok, Err, IsErrAnd, MatchResult, is_some, option_map}
 use Rattle.std.specs.FinMap.{empty, empty_of_len, entries, len, len-empty, len-entries}
 use Rattle.keeper.specs.Keepers.{IsQuietUnlessFailed, KeptPairs, MayHaveMade, entries_of, pairs_after}
@@ -17,8 +17,8 @@ use Rattle.lake_state.specs.declared.lake.LakeState.{LakeState}
 use Rattle.lake_state.specs.Lakes.{LakeStateValue}
 use Rattle.lake_core.specs.declared.open_fault.OpenFault.{OpenFault}
 use Rattle.lake_core.specs.OpenFaults.{open_fault_of}
-use Rattle.lake_core.specs.Opening.{IsUnopened}
-use Rattle.lake_keeping.specs.Views.{IsCalledOnce, IsLaterKeeper, KeeperView}
+use Rattle.lake_core.specs.Opening.{IsTried, IsUnopened}
+use Rattle.lake_keeping.specs.Views.{IsLaterKeeper, KeeperView}
 use Rattle.lake_standing.specs.Standing.{Stands}
 
 -- a number that isn't 0
@@ -64,21 +64,21 @@ quiet_out_of_memory before now Failed quiet is = absurd cc
 module _ {K : Type 0} (view : KeeperView K) (cut : Cut) (old mid new : K) (made : List Put) (are : made ≡ fresh_puts cut)
     (same : view.kept mid ≡ view.kept old) (none : IfSome (view.kept old) (λ before. before ≡ empty))
     (calm : view.faults mid ≡ view.faults old) (called : view.calls mid ≡ view.calls old) where
-  which : (b : KeptPairs) → b ≡ empty → (after : Option KeptPairs) → IfSome after (MayHaveMade made b)
-      → IfSome after (λ a. (a ≡ b) ⊎ ((b ≡ empty) × (a ≡ pairs_after (fresh_puts cut) b)))
-  which b had None may = tt
-  which b had (Some a) (inl is) = inl is
-  which b had (Some a) (inr is) = inr (had, is ∙ ap (λ ps. pairs_after ps b) are)
+  which : (b : KeptPairs) → IsTried view old new → (after : Option KeptPairs) → IfSome after (MayHaveMade made b)
+      → IfSome after (λ a. (a ≡ b) ⊎ (IsTried view old new × (a ≡ pairs_after (fresh_puts cut) b)))
+  which b tried None may = tt
+  which b tried (Some a) (inl is) = inl is
+  which b tried (Some a) (inr is) = inr (tried, is ∙ ap (λ ps. pairs_after ps b) are)
 
-  landed : (before : Option KeptPairs) → IfSome before (λ b. b ≡ empty)
+  landed : (before : Option KeptPairs) → IsTried view old new
       → IfSome before (λ b. IfSome (view.kept new) (MayHaveMade made b))
-      → IfSome before (λ b. IfSome (view.kept new) (λ after. (after ≡ b) ⊎ ((b ≡ empty) × (after ≡ pairs_after (fresh_puts cut) b))))
-  landed None had may = tt
-  landed (Some b) had may = which b had (view.kept new) may
+      → IfSome before (λ b. IfSome (view.kept new) (λ after. (after ≡ b) ⊎ (IsTried view old new × (after ≡ pairs_after (fresh_puts cut) b))))
+  landed None tried may = tt
+  landed (Some b) tried may = which b tried (view.kept new) may
 
   -- it was called once
-  put_called : view.calls new ≡ option_map next_count (view.calls mid) → IsCalledOnce view old new
-  put_called once = once ∙ ap (option_map next_count) called
+  put_tried : view.calls new ≡ option_map next_count (view.calls mid) → IsTried view old new
+  put_tried once = record { empty = none; once = once ∙ ap (option_map next_count) called }
 
   pub put_failed : (P : LakeState → Type 0) (answer : Result LakeState OpenFault) (trouble : Trouble)
       → IsErrAnd answer (λ e. e ≡ open_fault_of trouble)
@@ -92,14 +92,14 @@ module _ {K : Type 0} (view : KeeperView K) (cut : Cut) (old mid new : K) (made 
   put_failed P (Err e) Failed is failed no_memory rose quiet once last =
       subst (λ fault. IsUnopened view cut old fault new) (sym is) (record {
         cause = subst (λ n. Rose n (view.faults new)) calm (rose refl);
-        kept = landed (view.kept old) none (subst (λ o. IfSome o (λ b. IfSome (view.kept new) (MayHaveMade made b))) same (failed refl));
-        calls = inr (put_called once);
+        kept = landed (view.kept old) (put_tried once) (subst (λ o. IfSome o (λ b. IfSome (view.kept new) (MayHaveMade made b))) same (failed refl));
+        calls = inr (put_tried once);
         keeper = record { told = last.told ∙ ap is_some same; later = subst (λ n. n ≤ view.faults new) calm last.later };
       })
   put_failed P (Err e) NoMemory is failed no_memory rose quiet once last =
       subst (λ fault. IsUnopened view cut old fault new) (sym is) (record {
         cause = quiet refl ∙ calm;
         kept = no_memory refl ∙ same;
-        calls = inr (put_called once);
+        calls = inr (put_tried once);
         keeper = record { told = last.told ∙ ap is_some same; later = subst (λ n. n ≤ view.faults new) calm last.later };
       })

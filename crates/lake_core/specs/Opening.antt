@@ -10,7 +10,7 @@ use Rattle.lake_state.specs.Lakes.{lake_value}
 use Rattle.lake_core.specs.declared.open_fault.OpenFault.{OpenFault}
 use Rattle.lake_core.specs.declared.open_fault.OpenFault.TheVariants.{BadPair, NoMemory, StoreFault}
 use Rattle.lake_core.specs.Lakes.{LakeValue}
-use Rattle.lake_keeping.specs.Views.{IsCalledAtMostOnce, IsCalledOnce, IsLaterKeeper, IsNotCalled, KeeperView}
+use Rattle.lake_keeping.specs.Views.{IsCalledOnce, IsLaterKeeper, IsNotCalled, KeeperView}
 
 -- a keeper had no pairs, where it tells, and made the fresh lake's puts by one call
 pub record IsFilled {K : Type 0} (view : KeeperView K) (cut : Cut) (old new : K) : Type 0 where
@@ -27,12 +27,17 @@ pub record IsOpened {K : Type 0} (view : KeeperView K) (cut : Cut) (keeper : K) 
   pub present : lake.present ≡ lake.opened
   pub filled : IsFilled view cut keeper lake.keeper
 
--- what a keeper keeps after an opening that came to this fault: its pairs are as they were, but that a keeper without
--- pairs may have made the fresh lake's puts where the store failed
+-- a keeper was called to put once, which had no pairs, where it tells
+pub record IsTried {K : Type 0} (view : KeeperView K) (old new : K) : Type 0 where
+  pub empty : IfSome (view.kept old) (λ before. before ≡ empty)
+  pub once : IsCalledOnce view old new
+
+-- what a keeper keeps after an opening that came to this fault: its pairs are as they were, but that one that was called
+-- to put may have made the fresh lake's puts where the store failed
 abbrev pub KeptBy : {K : Type 0} → KeeperView K → Cut → K → OpenFault → K → Type 0
 KeptBy view cut keeper StoreFault back =
     IfSome (view.kept keeper) (λ before. IfSome (view.kept back)
-    (λ after. (after ≡ before) ⊎ ((before ≡ empty) × (after ≡ pairs_after (fresh_puts cut) before))))
+    (λ after. (after ≡ before) ⊎ (IsTried view keeper back × (after ≡ pairs_after (fresh_puts cut) before))))
 KeptBy view cut keeper (BadPair number) back = view.kept back ≡ view.kept keeper
 KeptBy view cut keeper NoMemory back = view.kept back ≡ view.kept keeper
 
@@ -43,9 +48,9 @@ HasOpenCause view old (BadPair number) back =
     (number ≡ 0) × (IfSome (view.kept old) (λ before. before ≡ empty → ⊥) × IsNotCalled view old back)
 HasOpenCause view old NoMemory back = view.faults back ≡ view.faults old
 
--- It wasn't, for this fault, and the keeper is handed back, called to put at most once.
+-- It wasn't, for this fault, and the keeper is handed back, called to put not at all, or once where it had no pairs.
 pub record IsUnopened {K : Type 0} (view : KeeperView K) (cut : Cut) (old : K) (fault : OpenFault) (back : K) : Type 0 where
   pub cause : HasOpenCause view old fault back
   pub kept : KeptBy view cut old fault back
-  pub calls : IsCalledAtMostOnce view old back
+  pub calls : (view.calls back ≡ view.calls old) ⊎ IsTried view old back
   pub keeper : IsLaterKeeper view old back
