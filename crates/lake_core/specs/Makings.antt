@@ -49,7 +49,7 @@ copy_making repo branch path source from entry l = record {
   puts = stage_puts repo branch path (Put entry) l;
 }
 
--- so is the entry that an expression has at a path, from what the expression leads to, where both are there
+-- the entry that an expression has at a path is copied, from what the expression leads to, where both are there
 abbrev pub copy : List ℕ → List ℕ → List ℕ → RefExprValue → List ℕ → LakeStateValue → Option Making
 copy repo branch path e from l =
     option_and_then (λ source. option_map (λ entry. copy_making repo branch path source from entry l)
@@ -87,7 +87,7 @@ branch_making repo name commit l = record {
   puts = create_branch_puts repo name commit l;
 }
 
--- it is that of an expression, where it leads to one
+-- a branch is made at the commit of an expression, where it leads to one
 abbrev pub create_branch : List ℕ → List ℕ → RefExprValue → LakeStateValue → Option Making
 create_branch repo name e l =
     option_map (λ commit. branch_making repo name commit l) (in_it (state_of l) repo (λ r. target_in r e))
@@ -108,7 +108,7 @@ tag_making repo name commit = record {
   puts = create_tag_puts repo name commit;
 }
 
--- it is that of an expression, where it leads to one
+-- a tag names the commit of an expression, where it leads to one
 abbrev pub create_tag : List ℕ → List ℕ → RefExprValue → LakeStateValue → Option Making
 create_tag repo name e l =
     option_map (tag_making repo name) (in_it (state_of l) repo (λ r. target_in r e))

@@ -9,7 +9,7 @@ use Rattle.lake_model.specs.declared.history.By.{By}
 use Rattle.lake_model.specs.declared.history.Operation.{Operation}
 use Rattle.lake_model.specs.History.{accepted_entry, faulted_entry}
 use Rattle.lake_state.specs.Lakes.{LakeStateValue, lake_value}
-use Rattle.lake_changes.specs.LakeChanges.{after_fault}
+use Rattle.lake_changes.specs.LakeChanges as memory
 use Rattle.lake_keeping.specs.Views.{IsCalledAtMostOnce, IsCalledOnce, IsLaterKeeper, KeeperView}
 use Rattle.lake_core.specs.Lakes.{LakeValue}
 
@@ -19,7 +19,8 @@ pub record Making : Type 0 where
   pub after : LakeStateValue → LakeStateValue
   pub puts : List Put
 
--- It was made: the history has its one entry more, and the keeper made its puts by one call that didn't fail.
+-- It was made: the history has its one entry more, and with it the state, which is the history's replay; what is in memory
+-- changed; and the keeper made its puts by one call that didn't fail.
 pub record IsMade {K : Type 0} (view : KeeperView K) (by : By) (made : Making) (old new : LakeValue K) : Type 0 where
   pub opened : new.opened ≡ old.opened
   pub history : new.history ≡ old.history ++ accepted_entry by made.operation ∷ []
@@ -29,12 +30,12 @@ pub record IsMade {K : Type 0} (view : KeeperView K) (by : By) (made : Making) (
   pub quiet : view.faults new.keeper ≡ view.faults old.keeper
   pub keeper : IsLaterKeeper view old.keeper new.keeper
 
--- The store failed at the one call: the history has its fault, the lake is stopped, the keeper made all of the puts or
--- none, and its count of faults rose.
+-- The store failed at the one call: the history has its fault, so the lake is stopped, in memory too; the keeper made all of
+-- the puts or none, and its count of faults rose.
 pub record IsFaulted {K : Type 0} (view : KeeperView K) (by : By) (made : Making) (old new : LakeValue K) : Type 0 where
   pub opened : new.opened ≡ old.opened
   pub history : new.history ≡ old.history ++ faulted_entry by made.operation ∷ []
-  pub present : lake_value new.present ≡ after_fault (lake_value old.present)
+  pub present : lake_value new.present ≡ memory.after_fault (lake_value old.present)
   pub kept : IfSome (view.kept old.keeper) (λ before. IfSome (view.kept new.keeper) (MayHaveMade made.puts before))
   pub once : IsCalledOnce view old.keeper new.keeper
   pub rose : Rose (view.faults old.keeper) (view.faults new.keeper)
