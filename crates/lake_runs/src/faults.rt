@@ -1,7 +1,11 @@
 //! Faults of the store that stand in a history.
+ghost use Rattle.std.specs.Prelude.{◌≡◌, ◌↔◌, true, List};
 ghost use Rattle.lake_base.specs.Outside.{Quiet, Rose};
 ghost use Rattle.lake_format.specs.declared.cut.Cut.{Cut};
 ghost use Rattle.keeper.specs.Keepers.{KeptPairs};
+ghost use Rattle.lake_model.specs.declared.history.HistoryEntry.{HistoryEntry};
+ghost use Rattle.lake_state.specs.Lakes.{LakeStateValue};
+ghost use Rattle.lake_standing.specs.Standing.{Stands};
 ghost use Rattle.lake_keeping.specs.Views.{KeeperView};
 ghost use Rattle.lake_core.specs.Lakes.{LakeValue};
 ghost use Rattle.lake_core.specs.Opening.{IsOpened};
@@ -19,6 +23,12 @@ pub fn law_of_store_faults<K>()
     ensures quiet { (view : KeeperView K) (cut : Cut) (keeper : K) (first last : LakeValue K)
         → IsOpened view cut keeper first → IsRun view first last
         → Quiet (view.faults first.keeper) (view.faults last.keeper) → HasFault last.history → ⊥ }
+{}
+
+/// A lake that stands for its history is stopped exactly where that has a fault of the store.
+pub fn law_of_stops()
+    ensures { (opened : LakeStateValue) (history : List HistoryEntry) (present : LakeStateValue)
+        → Stands opened history present → (present.stopped ≡ true) ↔ HasFault history }
 {}
 
 /// Over a keeper in memory that never fails a history has no fault of the store.
