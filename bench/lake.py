@@ -164,6 +164,8 @@ def steps(repo, keys, staged, count):
     old = [path(draw.randrange(keys)) for _ in range(count)]
     new = [path(keys + draw.randrange(staged)) for _ in range(count)]
     fresh = [path(keys + staged + n) for n in range(count)]
+    old_in_order = sorted(path(n) for n in range(keys))[:count]
+    new_in_order = sorted(path(keys + n) for n in range(staged))[:count]
 
     def look(paths):
         return [line('look', repo, 'main', p) for p in paths]
@@ -174,10 +176,13 @@ def steps(repo, keys, staged, count):
     return {
         'look (committed)': look(old),
         'look (of 1,000 committed)': look(old[n % 1000] for n in range(count)),
+        'look (committed, in the order of paths)': look(old_in_order[n % len(old_in_order)] for n in range(count)),
         'look (staged)': look(new),
         'look (of 100 staged)': look(new[n % 100] for n in range(count)),
+        'look (staged, in the order of paths)': look(new_in_order[n % len(new_in_order)] for n in range(count)),
         'stage (over a staged path)': stage(new),
         'stage (over one of 100 staged paths)': stage(new[n % 100] for n in range(count)),
+        'stage (over staged paths in their order)': stage(new_in_order[n % len(new_in_order)] for n in range(count)),
         'stage (a new path)': stage(fresh),
         'take_ticket': [line('take_ticket', 0, 0, repo, 'main')] * count,
         'versions': [line('versions', repo, 'main')] * count,
