@@ -1,5 +1,5 @@
 -- What the step of a new repository answers, and what it leaves where it is refused.
-use Rattle.std.proofs.Common.{◌≡◌, ◌+◌, ℕ, List, ◌⊎◌, inl, inr, refl, sym, ap, subst, ◌∙◌, arith}
+use Rattle.std.proofs.Common.{◌≡◌, ◌+◌, ℕ, List, ◌⊎◌, inl, inr, sym, ap, subst, ◌∙◌}
 use Rattle.std.specs.Prelude.{Option, Some, Result, Ok, Err, IsErrAnd}
 use Rattle.keeper.specs.declared.put.Put.{Put}
 use Rattle.lake_base.specs.declared.digest.Digest.{Digest}
@@ -22,16 +22,9 @@ use Rattle.lake_state.specs.Lakes.{LakeStateValue}
 use Rattle.lake_state.specs.declared.lake.LakeState.{LakeState}
 use Rattle.lake_keeping.specs.Keeping.{Keeps, Parts}
 use Rattle.lake_keeping.specs.Views.{KeeperView}
-use Rattle.lake_core.specs.Lakes.{LakeValue}
 use Rattle.lake_core.specs.Ready.{IsReady}
 use Rattle.lake_core.specs.declared.ready.Ready.{Ready}
-use Rattle.lake_core.specs.Steps.{Leaves, Making}
-use Rattle.lake_core.proofs.StepLemmas.{accepted, refused_leaves, refused_reply, starved_reply, unkept_reply}
-
-same_err : {X : Type 0} (answer : Result X StepFault) (fault other : StepFault) → IsErrAnd answer (λ e. e ≡ fault) → fault ≡ other
-    → IsErrAnd answer (λ e. e ≡ other)
-same_err (Err e) fault other same is = same ∙ is
-same_err (Ok x) fault other same is = absurd same
+use Rattle.lake_core.proofs.StepLemmas.{accepted, refused_reply, same_err, starved_reply, unkept_reply}
 
 module _ (s : State) (repo branch : List ℕ) (date : ℕ) where
   -- no memory was there for a first commit, which clashes or doesn't
@@ -94,24 +87,6 @@ module _ (s : State) (repo branch : List ℕ) (date : ℕ) where
   pub made_creation : {X : Type 0} (x : X) → AsksToCreate {X = X} s repo branch date (Ok x) → (place : ℕ) → place ≡ s.entries + 1
       → IsCreateRepositoryReply s repo branch date (Ok place)
   made_creation x asks place is = (asks.clash, asks.there, accepted asks.tells is)
-
--- where a test refused or memory ran out the lake is the same
-pub unmade_leaves : {K X : Type 0} (view : KeeperView K) (by : By) (made : Option Making) (old new : LakeValue K) → new ≡ old
-    → (answer : Result X StepFault) (fault : StepFault) → IsErrAnd answer (λ e. e ≡ fault) → (fault ≡ NoMemory) ⊎ IsRefusal fault
-    → Leaves view by made answer old new
-unmade_leaves view by made old new same answer fault is (inr refusal) = refused_leaves view by made old new same answer fault is refusal
-unmade_leaves view by made old new same (Ok x) fault is (inl memory) = absurd is
-unmade_leaves {K} {X} view by made old new same (Err e) fault is (inl memory) =
-    subst (λ f. Leaves {X = X} view by made (Err f) old new) (sym (is ∙ memory))
-    (subst (λ n. Leaves {X = X} view by made (Err NoMemory) old n) (sym same) (record {
-      opened = refl;
-      history = refl;
-      present = refl;
-      kept = refl;
-      calls = inl refl;
-      quiet = refl;
-      keeper = record { told = refl; later = omega arith };
-    }))
 
 -- ---- what is made ready
 

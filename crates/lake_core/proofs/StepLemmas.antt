@@ -1,6 +1,6 @@
 -- What each change leaves: the lake stands for its history, and the answer is the reply.
-use Rattle.std.proofs.Common.{◌≡◌, ◌++◌, ◌∷◌, [], ◌+◌, ◌≤◌, ℕ, List, refl, sym, ap, ◌∙◌, subst, inl, arith}
-use Rattle.std.specs.Prelude.{Option, Some, None, IfSome, Result, Ok, Err, IsErrAnd, IsOk, IsSomeAnd, is_some}
+use Rattle.std.proofs.Common.{◌≡◌, ◌++◌, ◌∷◌, [], ◌+◌, ◌≤◌, ℕ, List, refl, sym, ap, ◌∙◌, subst, inl, inr, arith}
+use Rattle.std.specs.Prelude.{◌⊎◌, Option, Some, None, IfSome, Result, Ok, Err, IsErrAnd, IsOk, IsSomeAnd, MatchResult, is_some}
 use Rattle.std.specs.FinMap.{get}
 use Rattle.std.specs.Option.{option_map_or}
 use Rattle.keeper.specs.Keepers.{MayHaveMade, pairs_after}
@@ -241,16 +241,26 @@ module _ {K : Type 0} (view : KeeperView K) (old new : LakeValue K) where
   starved_leaves {X} by made (Err e) same left = subst (λ e. Leaves {X = X} view by made (Err e) old new) (sym same) left
   starved_leaves by made (Ok x) same left = absurd same
 
--- what was made ready says the same, so the lake is as before
-module _ {K : Type 0} (view : KeeperView K) (opened present ready : LakeState) (history : List HistoryEntry) (keeper : K) (lake : LakeValue K)
-    (was : record { opened = opened; history = history; present = present; keeper = keeper } ≡ lake)
-    (same : lake_value ready ≡ lake_value present) where
-  pub unready_leaves : {X : Type 0} (by : By) (made : Option Making) (answer : Result X StepFault) → IsErrAnd answer (λ e. e ≡ NoMemory)
-      → Leaves view by made answer lake (record { opened = opened; history = history; present = ready; keeper = keeper })
-  unready_leaves by made answer starved =
-      let now : LakeValue K = record { opened = opened; history = history; present = ready; keeper = keeper } in
-      starved_leaves view lake now by made answer starved (subst (λ old. IsAsBefore view old now) was
-      (as_before view (record { opened = opened; history = history; present = present; keeper = keeper }) now refl refl same refl))
+-- ---- answers of tests that take memory
+
+pub same_err : {X : Type 0} (answer : Result X StepFault) (fault other : StepFault) → IsErrAnd answer (λ e. e ≡ fault) → fault ≡ other
+    → IsErrAnd answer (λ e. e ≡ other)
+same_err (Err e) fault other same is = same ∙ is
+same_err (Ok x) fault other same is = absurd same
+
+-- what such a test answered is answered again
+pub told_again : {X : Type 0} (P : X → Type 0) (Q : StepFault → Type 0) (answer : Result X StepFault) (fault : StepFault)
+    → IsErrAnd answer (λ e. e ≡ fault) → Q fault → MatchResult answer P Q
+told_again P Q (Err e) fault same is = subst Q (sym same) is
+told_again P Q (Ok x) fault same is = absurd same
+
+-- a cause refused it, or memory ran out
+pub untested_found : {X : Type 0} (state : State) (c : Causes) (value : Option X)
+    → ((fault : StepFault) → first_cause c ≡ Some fault → IsRefusal fault)
+    → (answer : Result (ℕ × X) StepFault) (fault : StepFault) → IsErrAnd answer (λ e. e ≡ fault)
+    → (fault ≡ NoMemory) ⊎ (first_cause c ≡ Some fault) → IsReplyOf state c value answer
+untested_found state c value each answer fault same (inl memory) = starved_found state c value answer (same_err answer fault NoMemory same memory)
+untested_found state c value each answer fault same (inr is) = refused_found state c value each answer fault same is
 
 -- ---- what is left of the lake
 
@@ -277,6 +287,35 @@ module _ {K : Type 0} (view : KeeperView K) (by : By) (made : Option Making) (ol
       → IsRefusal fault → Leaves view by made answer old new
   refused_leaves {X} (Err e) fault eq is = same_left X e (subst IsRefusal (sym eq) is)
   refused_leaves (Ok x) fault eq is = absurd eq
+
+-- of one whose test a cause refused, or memory
+pub untested_leaves : {K X : Type 0} (view : KeeperView K) (by : By) (made : Option Making) (old new : LakeValue K) → new ≡ old
+    → (answer : Result X StepFault) (fault : StepFault) → IsErrAnd answer (λ e. e ≡ fault) → (fault ≡ NoMemory) ⊎ IsRefusal fault
+    → Leaves view by made answer old new
+untested_leaves view by made old new same answer fault is (inr refusal) = refused_leaves view by made old new same answer fault is refusal
+untested_leaves view by made old new same answer fault is (inl memory) =
+    starved_leaves view old new by made answer (same_err answer fault NoMemory is memory)
+    (as_before view old new (ap (λ l. l.opened) same) (ap (λ l. l.history) same) (ap (λ l. lake_value l.present) same) (ap (λ l. l.keeper) same))
+
+-- what was made ready says the same, so the lake is as before
+module _ {K : Type 0} (view : KeeperView K) (opened present ready : LakeState) (history : List HistoryEntry) (keeper : K) (lake : LakeValue K)
+    (was : record { opened = opened; history = history; present = present; keeper = keeper } ≡ lake)
+    (same : lake_value ready ≡ lake_value present) where
+  pub unready_leaves : {X : Type 0} (by : By) (made : Option Making) (answer : Result X StepFault) → IsErrAnd answer (λ e. e ≡ NoMemory)
+      → Leaves view by made answer lake (record { opened = opened; history = history; present = ready; keeper = keeper })
+  unready_leaves by made answer starved =
+      let now : LakeValue K = record { opened = opened; history = history; present = ready; keeper = keeper } in
+      starved_leaves view lake now by made answer starved (subst (λ old. IsAsBefore view old now) was
+      (as_before view (record { opened = opened; history = history; present = present; keeper = keeper }) now refl refl same refl))
+
+  -- and where a cause refused it, it is the same
+  pub unprepared_leaves : {X : Type 0} (by : By) (made : Option Making) (answer : Result X StepFault) (fault : StepFault)
+      → IsErrAnd answer (λ e. e ≡ fault) → (fault ≡ NoMemory) ⊎ (IsRefusal fault × (ready ≡ present))
+      → Leaves view by made answer lake (record { opened = opened; history = history; present = ready; keeper = keeper })
+  unprepared_leaves by made answer fault is (inl memory) = unready_leaves by made answer (same_err answer fault NoMemory is memory)
+  unprepared_leaves by made answer fault is (inr refusal) =
+      refused_leaves view by made lake (record { opened = opened; history = history; present = ready; keeper = keeper })
+      (ap (λ p. record { opened = opened; history = history; present = p; keeper = keeper }) refusal.1 ∙ was) answer fault is refusal.0
 
 module _ {K : Type 0} (view : KeeperView K) (by : By) (make : LakeState → Option Making) (making : Making) (made : Operation) (puts : List Put)
     (is : made ≡ making.operation) (are : puts ≡ making.puts)

@@ -1,9 +1,10 @@
 //! What stands at paths of a branch.
-ghost use Rattle.std.specs.Prelude.{◌≡◌, ℕ, List, Option, Some, None, IfOk, IfSome, OnOk};
+ghost use Rattle.std.specs.Prelude.{◌≡◌, ◌⊎◌, ℕ, List, Option, Some, None, IfOk, IfSome, MatchResult, OnOk};
 ghost use Rattle.lake_base.specs.declared.digest.Digest.{Digest};
 ghost use Rattle.lake_values.specs.Entry.{EntryValue};
 ghost use Rattle.commit_graph.specs.Expressions.{RefExprValue};
 ghost use Rattle.lake_model.specs.declared.fault.StepFault.{StepFault};
+ghost use Rattle.lake_model.specs.declared.fault.StepFault.TheVariants as fault;
 ghost use Rattle.lake_model.specs.declared.history.By.{By};
 ghost use Rattle.lake_model.specs.declared.history.HistoryEntry.{HistoryEntry};
 ghost use Rattle.lake_model.specs.Soundness.{IsSound};
@@ -19,15 +20,16 @@ ghost use Rattle.lake_changes.specs.LakeChanges.{after_copy};
 ghost use Rattle.lake_standing.specs.Standing.{MayMake, Stands, versions_since};
 ghost use Rattle.lake_changes.specs.LakeRoom.{HasRoomAt};
 ghost use Rattle.lake_changes.specs.declared.repository.Room.TheVariants as room;
+ghost use Rattle.lake_state.specs.Counts.{HasVersions};
 ghost use Rattle.lake_state.specs.Lakes.{LakeStateValue, lake_value, state_of};
 ghost use Rattle.lake_puts.specs.Puts.{stage_puts};
 ghost use Rattle.lake_core.specs.Lakes.{state, versions};
 ghost use Rattle.lake_core.specs.Makings.{copy, stage};
-ghost use Rattle.lake_core.specs.Ready.{IsReady};
+ghost use Rattle.lake_core.specs.Ready.{IsReady, IsReadyCopy, IsTestedCopy};
 ghost use Rattle.lake_core.specs.Steps.{Leaves};
 
 use crate::lake::Lake;
-use crate::ready::Ready;
+use crate::ready::{Ready, ReadyCopy, TestedCopy};
 use commit_graph::RefExpr;
 use keeper::{Keeper, Put};
 use lake_base::{NoMemory, Path, RefName, RepoName, TryCopy};
@@ -109,15 +111,18 @@ impl<K: Keeper> Lake<K> {
         ensures leaves { Leaves (record { kept = K.kept; faults = K.faults; calls = K.calls }) by
             (copy repo.now branch.now path e.now from.now (lake_value self.old.present)) result self.old self.new }
     {
-        // Test.
+        // Test, and take memory.
         law_of_copies();
-        let copied = test_copy(&self.present, repo, branch, version, e, from)?;
-
-        // Take memory.
-        let (operation, entry, answer) = copy_parts(
-            self.alloc, repo, branch, &path, &e.name, from, copied,
+        let ready = ready_copy(
+            self.alloc,
+            &mut self.present,
+            repo,
+            branch,
+            version,
+            &path,
+            e,
+            from,
         )?;
-        let puts = ready_copy(self.alloc, &mut self.present, repo, branch, &path, &entry)?;
 
         // Keep.
         keep(
@@ -125,13 +130,13 @@ impl<K: Keeper> Lake<K> {
             &mut self.history,
             &mut self.present,
             by,
-            operation,
-            puts,
+            ready.operation,
+            ready.puts,
         )?;
 
         // Change.
-        change::copy(&mut self.present, repo, branch, path, entry);
-        Ok((place(&self.present), answer))
+        change::copy(&mut self.present, repo, branch, path, ready.entry);
+        Ok((place(&self.present), ready.answer))
     }
 }
 
@@ -181,8 +186,41 @@ fn ready_stage(
     Ok(Ready { operation, puts })
 }
 
-// The puts of an entry that is to be copied, and room for it. It changes nothing that the lake says.
+// A copy that nothing refuses, and that is to be kept. It changes nothing that the lake says, and nothing at all where a
+// cause refuses it. Stopped, HistoryFull, NoRepo, NoRef, NoParent, Protected, Changed, NoPath, Expired, NoMemory.
 fn ready_copy(
+    alloc: Global,
+    lake: &mut LakeState,
+    repo: &RepoName,
+    branch: &RefName,
+    version: u64,
+    path: &Path,
+    e: &RefExpr,
+    from: &Path,
+) -> Result<ReadyCopy, StepFault>
+    requires { IsSound (state_of (lake_value lake.old)) }
+    ensures same { lake_value lake.new ≡ lake_value lake.old }
+    ensures room { OnOk result (HasRoomAt (room.Change branch.entry) repo.now lake.new) }
+    ensures tells { (given : VersionsGiven) → HasVersions given (lake_value lake.old) → MatchResult result
+        (λ ready. (first_cause
+        (copy_causes (state_of (lake_value lake.old)) given repo.now branch.now version e.now from.now) ≡ None)
+        × IsReadyCopy (lake_value lake.old) repo.now branch.now path.now e.now from.now ready)
+        (λ f. (f ≡ fault.NoMemory) ⊎ ((first_cause
+        (copy_causes (state_of (lake_value lake.old)) given repo.now branch.now version e.now from.now) ≡ Some f)
+        × (lake.new ≡ lake.old))) }
+{
+    let tested = tested_copy(alloc, lake, repo, branch, version, path, e, from)?;
+    let puts = puts_of_copy(alloc, lake, repo, branch, path, &tested.entry)?;
+    Ok(ReadyCopy {
+        operation: tested.operation,
+        puts,
+        entry: tested.entry,
+        answer: tested.answer,
+    })
+}
+
+// The puts of an entry that is to be copied, and room for it. It changes nothing that the lake says.
+fn puts_of_copy(
     alloc: Global,
     lake: &mut LakeState,
     repo: &RepoName,
@@ -214,8 +252,33 @@ fn copy_source(
     }
 }
 
-// The operation of a copy, and its entry twice: for the lake, and for the answer.
-fn copy_parts(
+// A copy that nothing refuses: its operation, and its entry twice, for the lake and for the answer. Stopped, HistoryFull,
+// NoRepo, NoRef, NoParent, Protected, Changed, NoPath, Expired, NoMemory.
+fn tested_copy(
+    alloc: Global,
+    lake: &LakeState,
+    repo: &RepoName,
+    branch: &RefName,
+    version: u64,
+    path: &Path,
+    e: &RefExpr,
+    from: &Path,
+) -> Result<TestedCopy, StepFault>
+    requires { IsSound (state_of (lake_value lake.now)) }
+    ensures { (given : VersionsGiven) → HasVersions given (lake_value lake.now) → MatchResult result
+        (λ tested. (first_cause
+        (copy_causes (state_of (lake_value lake.now)) given repo.now branch.now version e.now from.now) ≡ None)
+        × IsTestedCopy (state_of (lake_value lake.now)) repo.now branch.now path.now e.now from.now tested)
+        (λ f. (f ≡ fault.NoMemory) ⊎ (first_cause
+        (copy_causes (state_of (lake_value lake.now)) given repo.now branch.now version e.now from.now) ≡ Some f)) }
+{
+    let copied = test_copy(lake, repo, branch, version, e, from)?;
+    let tested = copied_parts(alloc, repo, branch, path, &e.name, from, copied)?;
+    Ok(tested)
+}
+
+// The operation of a copy, and its entry twice.
+fn copied_parts(
     alloc: Global,
     repo: &RepoName,
     branch: &RefName,
@@ -223,11 +286,11 @@ fn copy_parts(
     name: &RefName,
     from: &Path,
     copied: Copied<'_>,
-) -> Result<(Operation, Entry, Entry), NoMemory>
-    ensures operation { IfOk result (λ parts. parts.0 ≡ operation.Copy repo.now branch.now path.now
+) -> Result<TestedCopy, NoMemory>
+    ensures operation { IfOk result (λ parts. parts.operation ≡ operation.Copy repo.now branch.now path.now
         (source_of name.now copied.entry.commit) from.now copied.entry.entry.now) }
-    ensures entry { IfOk result (λ parts. parts.1 ≡ copied.entry.entry.now) }
-    ensures answer { IfOk result (λ parts. parts.2 ≡ copied.entry.entry.now) }
+    ensures entry { IfOk result (λ parts. parts.entry ≡ copied.entry.entry.now) }
+    ensures answer { IfOk result (λ parts. parts.answer ≡ copied.entry.entry.now) }
 {
     let operation = Operation::Copy {
         repo: repo.copy(alloc)?,
@@ -237,9 +300,9 @@ fn copy_parts(
         from_path: from.copy(alloc)?,
         entry: copied.entry.copy(alloc)?,
     };
-    Ok((
+    Ok(TestedCopy {
         operation,
-        copied.entry.copy(alloc)?,
-        copied.entry.copy(alloc)?,
-    ))
+        entry: copied.entry.copy(alloc)?,
+        answer: copied.entry.copy(alloc)?,
+    })
 }

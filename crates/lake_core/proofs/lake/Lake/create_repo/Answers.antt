@@ -6,8 +6,8 @@ use Rattle.lake_state.specs.Lakes.{lake_value, state_of}
 use Rattle.lake_founding.proofs.FoundingLemmas.{at_date, dated}
 use Rattle.lake_keeping.specs.Views.{KeeperView}
 use Rattle.lake_core.specs.Makings.{create_repo}
-use Rattle.lake_core.proofs.RepositoryLemmas.{creation_fault, made_creation, ready_at, refused_creation, repository_made, unkept_creation, unmade_leaves, unready_creation}
-use Rattle.lake_core.proofs.StepLemmas.{holds_now, made_leaves, made_stands, refused_stands, unkept_leaves, unready_leaves}
+use Rattle.lake_core.proofs.RepositoryLemmas.{creation_fault, made_creation, ready_at, refused_creation, repository_made, unkept_creation, unready_creation}
+use Rattle.lake_core.proofs.StepLemmas.{holds_now, made_leaves, made_stands, refused_stands, unkept_leaves, unready_leaves, untested_leaves}
 use Rattle.lake_core.proofs.lake.Lake.create_repo.Goals as goal
 
 pub returns-in_err-first-clause-reply : goal.returns-in_err-first-clause-reply
@@ -19,7 +19,7 @@ returns-in_err-first-clause-reply g c =
 pub returns-in_err-first-clause-leaves : goal.returns-in_err-first-clause-leaves
 returns-in_err-first-clause-leaves g c =
     let l = lake_value c.self.inside.present in
-    unmade_leaves (record { kept = g.K.Keeper.kept; faults = g.K.Keeper.faults; calls = g.K.Keeper.calls }) c.args.by
+    untested_leaves (record { kept = g.K.Keeper.kept; faults = g.K.Keeper.faults; calls = g.K.Keeper.calls }) c.args.by
     (Some (create_repo c.args.repo c.args.branch c.args.date (lake_value c.args.self.now.present))) c.args.self.now c.args.self.now refl
     c.from_residual.result _ c.from_residual.ensures.1
     (creation_fault (state_of l) c.args.repo c.args.branch c.args.date _ (c.in_err-first.ensures.asks c.args.branch) (λ clash. c.laws_of_causes.ensures.create_repository (state_of l) c.args.repo clash))
