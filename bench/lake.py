@@ -195,7 +195,7 @@ def cost(lake, repeated, rounds=3):
     return min(lake.seconds(repeated) for _ in range(rounds)) / len(repeated)
 
 
-def calls(program, count=20000):
+def calls(program, count=60000):
     print('| call | large | small | ratio |')
     print('|---|---|---|---|')
     sizes = {'large': (1000000, 100000, 1000), 'small': (1000, 100, 10)}
