@@ -43,6 +43,12 @@ module _ (s : State) (repo branch : List ℕ) (date : ℕ) where
   }
   asked_again fault asks (Ok x) same = absurd same
 
+  -- it passed, and memory ran out later
+  pub unready_asks : {X Y : Type 0} (y : Y) → AsksToCreate {X = Y} s repo branch date (Ok y)
+      → (answer : Result X StepFault) → IsErrAnd answer (λ e. e ≡ NoMemory) → AsksToCreate s repo branch date answer
+  unready_asks y asks (Err e) is = record { clash = asks.clash; there = asks.there; tells = inl is }
+  unready_asks y asks (Ok x) is = absurd is
+
   -- nothing refuses it
   pub asked_well : {X Y : Type 0} (y : Y) → AsksToCreate {X = Y} s repo branch date (Ok y) → (x : X) → AsksToCreate s repo branch date (Ok x)
   asked_well y asks x = record { clash = asks.clash; there = asks.there; tells = asks.tells }
@@ -65,12 +71,6 @@ module _ (s : State) (repo branch : List ℕ) (date : ℕ) where
       → ((clash : Option Clash) (fault : StepFault) → first_cause (create_repository_causes s repo clash) ≡ Some fault → IsRefusal fault)
       → (fault ≡ NoMemory) ⊎ IsRefusal fault
   creation_fault fault asks each = elim asks.tells [ inl memory ↦ inl memory | inr first ↦ inr (each asks.clash fault first) ]
-
-  -- it passed, and memory ran out later
-  pub unready_creation : {X : Type 0} (x : X) → AsksToCreate {X = X} s repo branch date (Ok x)
-      → (answer : Result ℕ StepFault) → IsErrAnd answer (λ e. e ≡ NoMemory) → IsCreateRepositoryReply s repo branch date answer
-  unready_creation x asks answer is =
-      (asks.clash, asks.there, starved_reply answer (next_place s (create_repository_causes s repo asks.clash)) is)
 
   -- or the keeper refused it
   pub unkept_creation : {K X : Type 0} (view : KeeperView K) (by : By) (made : Operation) (puts : List Put) (before after : Parts K)

@@ -262,6 +262,13 @@ pub untested_found : {X : Type 0} (state : State) (c : Causes) (value : Option X
 untested_found state c value each answer fault same (inl memory) = starved_found state c value answer (same_err answer fault NoMemory same memory)
 untested_found state c value each answer fault same (inr is) = refused_found state c value each answer fault same is
 
+pub untested_reply : {X : Type 0} (cause : Option StepFault) (reply : X) → ((fault : StepFault) → cause ≡ Some fault → IsRefusal fault)
+    → (answer : Result X StepFault) (fault : StepFault) → IsErrAnd answer (λ e. e ≡ fault)
+    → (fault ≡ NoMemory) ⊎ (cause ≡ Some fault) → GivesOrFails answer (unless_refused cause reply)
+untested_reply cause reply each answer fault same (inl memory) =
+    starved_reply answer (unless_refused cause reply) (same_err answer fault NoMemory same memory)
+untested_reply cause reply each answer fault same (inr is) = refused_reply cause reply each answer fault same is
+
 -- ---- what is left of the lake
 
 -- of a change that a test refused
@@ -288,15 +295,6 @@ module _ {K : Type 0} (view : KeeperView K) (by : By) (made : Option Making) (ol
   refused_leaves {X} (Err e) fault eq is = same_left X e (subst IsRefusal (sym eq) is)
   refused_leaves (Ok x) fault eq is = absurd eq
 
--- of one whose test a cause refused, or memory
-pub untested_leaves : {K X : Type 0} (view : KeeperView K) (by : By) (made : Option Making) (old new : LakeValue K) → new ≡ old
-    → (answer : Result X StepFault) (fault : StepFault) → IsErrAnd answer (λ e. e ≡ fault) → (fault ≡ NoMemory) ⊎ IsRefusal fault
-    → Leaves view by made answer old new
-untested_leaves view by made old new same answer fault is (inr refusal) = refused_leaves view by made old new same answer fault is refusal
-untested_leaves view by made old new same answer fault is (inl memory) =
-    starved_leaves view old new by made answer (same_err answer fault NoMemory is memory)
-    (as_before view old new (ap (λ l. l.opened) same) (ap (λ l. l.history) same) (ap (λ l. lake_value l.present) same) (ap (λ l. l.keeper) same))
-
 -- what was made ready says the same, so the lake is as before
 module _ {K : Type 0} (view : KeeperView K) (opened present ready : LakeState) (history : List HistoryEntry) (keeper : K) (lake : LakeValue K)
     (was : record { opened = opened; history = history; present = present; keeper = keeper } ≡ lake)
@@ -308,12 +306,12 @@ module _ {K : Type 0} (view : KeeperView K) (opened present ready : LakeState) (
       starved_leaves view lake now by made answer starved (subst (λ old. IsAsBefore view old now) was
       (as_before view (record { opened = opened; history = history; present = present; keeper = keeper }) now refl refl same refl))
 
-  -- and where a cause refused it, it is the same
-  pub unprepared_leaves : {X : Type 0} (by : By) (made : Option Making) (answer : Result X StepFault) (fault : StepFault)
+  -- of one that a cause refused, or memory: where a cause did, it is the same
+  pub untested_leaves : {X : Type 0} (by : By) (made : Option Making) (answer : Result X StepFault) (fault : StepFault)
       → IsErrAnd answer (λ e. e ≡ fault) → (fault ≡ NoMemory) ⊎ (IsRefusal fault × (ready ≡ present))
       → Leaves view by made answer lake (record { opened = opened; history = history; present = ready; keeper = keeper })
-  unprepared_leaves by made answer fault is (inl memory) = unready_leaves by made answer (same_err answer fault NoMemory is memory)
-  unprepared_leaves by made answer fault is (inr refusal) =
+  untested_leaves by made answer fault is (inl memory) = unready_leaves by made answer (same_err answer fault NoMemory is memory)
+  untested_leaves by made answer fault is (inr refusal) =
       refused_leaves view by made lake (record { opened = opened; history = history; present = ready; keeper = keeper })
       (ap (λ p. record { opened = opened; history = history; present = p; keeper = keeper }) refusal.1 ∙ was) answer fault is refusal.0
 

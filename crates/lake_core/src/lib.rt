@@ -7,8 +7,8 @@
 //!
 //! Each change but `swap` has four blocks: it tests what may refuse it, in the one order; takes its memory; keeps its puts
 //! and its entry by one call of the keeper; and changes the lake in memory, which can't be refused any more. A swap has a
-//! commit put in before the keeper is called, and taken out where that refuses. It, `copy` and `create_repo` take memory in
-//! their test too.
+//! commit put in before the keeper is called, and taken out where that refuses. Of `stage`, `copy` and `create_repo` the
+//! first two blocks are one call, of two; a copy, a new repository and a swap take memory in their test too.
 //!
 //! The promise to the layer above: each step answers what the one-thread lake answers at the state that the history
 //! leads to; an accepted change adds exactly its entry and makes its puts; a refusal leaves the lake as it was; and after

@@ -12,7 +12,7 @@ ghost use Rattle.lake_model.specs.State.{State};
 ghost use Rattle.lake_model.specs.Versions.{VersionsGiven};
 ghost use Rattle.lake_model.specs.declared.history.Operation.TheVariants as operation;
 ghost use Rattle.lake_model.specs.Refusals.{GivesOrFails, IsRefusal, first_cause};
-ghost use Rattle.lake_model.specs.Steps.{IsCopyReply, copy_causes, stage_reply};
+ghost use Rattle.lake_model.specs.Steps.{IsCopyReply, copy_causes, stage_causes, stage_reply};
 ghost use Rattle.lake_model.specs.Uncommitted.{HasTicket, put_number};
 ghost use Rattle.lake_values.specs.declared.entry.Change.TheVariants.{Put as put};
 ghost use Rattle.lake_causes.specs.Finding.{FindsCopy, source_of};
@@ -63,20 +63,18 @@ impl<K: Keeper> Lake<K> {
         ensures leaves { Leaves (record { kept = K.kept; faults = K.faults; calls = K.calls }) by
             (Some (stage repo.now branch.now path change (lake_value self.old.present))) result self.old self.new }
     {
-        // Test.
+        // Test, and take memory.
         laws_of_causes();
-        test_stage(&self.present, repo, branch, version)?;
-        laws_of_writes();
-
-        // Take memory.
         let Ready { operation, puts } = ready_stage(
             self.alloc,
             &mut self.present,
             repo,
             branch,
+            version,
             &path,
             &change,
         )?;
+        laws_of_writes();
 
         // Keep.
         keep(
@@ -161,8 +159,35 @@ fn law_of_copies()
     laws_of_writes();
 }
 
-// A change that is to be staged. It changes nothing that the lake says.
+// A change that nothing refuses, and that is to be staged. It changes nothing that the lake says, and nothing at all where
+// a cause refuses it. Stopped, HistoryFull, NoRepo, NoRef, Protected, Changed, NoMemory.
 fn ready_stage(
+    alloc: Global,
+    lake: &mut LakeState,
+    repo: &RepoName,
+    branch: &RefName,
+    version: u64,
+    path: &Path,
+    change: &Change,
+) -> Result<Ready, StepFault>
+    ensures same { lake_value lake.new ≡ lake_value lake.old }
+    ensures room { OnOk result (HasRoomAt (room.Change branch.entry) repo.now lake.new) }
+    ensures tells { (given : VersionsGiven) → HasVersions given (lake_value lake.old) → MatchResult result
+        (λ ready. (first_cause
+        (stage_causes (state_of (lake_value lake.old)) given repo.now branch.now version) ≡ None)
+        × IsReady (operation.Stage repo.now branch.now path.now change.now)
+        (stage_puts repo.now branch.now path.now change.now (lake_value lake.old)) ready)
+        (λ f. (f ≡ fault.NoMemory) ⊎ ((first_cause
+        (stage_causes (state_of (lake_value lake.old)) given repo.now branch.now version) ≡ Some f)
+        × (lake.new ≡ lake.old))) }
+{
+    test_stage(lake, repo, branch, version)?;
+    let ready = parts_of_stage(alloc, lake, repo, branch, path, change)?;
+    Ok(ready)
+}
+
+// What a change that is to be staged takes of memory, and room for it. It changes nothing that the lake says.
+fn parts_of_stage(
     alloc: Global,
     lake: &mut LakeState,
     repo: &RepoName,

@@ -1,9 +1,12 @@
 //! Repositories that are made.
-ghost use Rattle.std.specs.Prelude.{◌≡◌, ℕ, List, Some, IfOk, false};
+ghost use Rattle.std.specs.Prelude.{◌≡◌, ◌⊎◌, ℕ, List, Option, Some, None, IfOk, MatchResult, false};
 ghost use Rattle.lake_base.specs.Names.{is_like_id};
+ghost use Rattle.lake_model.specs.declared.fault.StepFault.TheVariants as fault;
 ghost use Rattle.lake_model.specs.declared.history.Operation.TheVariants as operation;
+ghost use Rattle.lake_model.specs.Commits.{bare_repository, first_draft};
+ghost use Rattle.lake_model.specs.Refusals.{Clash, IsClashOrNone, first_cause};
 ghost use Rattle.lake_model.specs.Soundness.{IsSound};
-ghost use Rattle.lake_model.specs.Steps.{IsCreateRepositoryReply};
+ghost use Rattle.lake_model.specs.Steps.{IsCreateRepositoryReply, create_repository_causes};
 ghost use Rattle.lake_causes.specs.Clashing.{AsksToCreate};
 ghost use Rattle.lake_changes.specs.LakeRoom.{HasRepositoryRoom};
 ghost use Rattle.lake_changes.specs.NewRepositories.{IsNew};
@@ -48,14 +51,11 @@ impl<K: Keeper> Lake<K> {
         ensures leaves { Leaves (record { kept = K.kept; faults = K.faults; calls = K.calls }) by
             (Some (create_repo repo branch date (lake_value self.old.present))) result self.old self.new }
     {
-        // Test.
+        // Test, and take memory.
         laws_of_causes();
         law_of_present();
-        let first = tested_commit(self.alloc, &self.present, &repo, date)?;
         law_of_repository();
-
-        // Take memory.
-        let (ready, new) = ready_repository(self.alloc, &mut self.present, &repo, branch, first)?;
+        let (ready, new) = ready_repository(self.alloc, &mut self.present, &repo, branch, date)?;
 
         // Keep.
         keep(
@@ -71,6 +71,35 @@ impl<K: Keeper> Lake<K> {
         change::create_repository(&mut self.present, &repo, new);
         Ok(place(&self.present))
     }
+}
+
+// A repository that nothing refuses, and that is to be made. It changes nothing that the lake says, and nothing at all where
+// a cause refuses it. Stopped, HistoryFull, Exists, NameClash, NoMemory.
+fn ready_repository(
+    alloc: Global,
+    lake: &mut LakeState,
+    repo: &RepoName,
+    branch: RefName,
+    date: u64,
+) -> Result<(Ready, NewRepository), StepFault>
+    requires plain { is_like_id branch ≡ false }
+    requires sound { IsSound (state_of (lake_value lake.old)) }
+    requires index { HasIndex (lake_value lake.old) }
+    requires few { (clash : Option Clash)
+        → IsClashOrNone (state_of (lake_value lake.old)) (bare_repository date branch) (first_draft date) clash
+        → first_cause (create_repository_causes (state_of (lake_value lake.old)) repo.now clash) ≡ None
+        → AreFew (lake_value lake.old) }
+    ensures same { lake_value lake.new ≡ lake_value lake.old }
+    ensures asks { AsksToCreate (state_of (lake_value lake.old)) repo.now branch date result }
+    ensures refused { MatchResult result (λ made. Unit {0}) (λ f. (f ≡ fault.NoMemory) ⊎ (lake.new ≡ lake.old)) }
+    ensures room { IfOk result (λ made. HasRepositoryRoom repo.now made.1.commit made.1.file lake.new) }
+    ensures ready { IfOk result (λ made. IsReady (operation.RepoCreate repo.now branch date)
+        (puts.create_repository_puts repo.now branch date (lake_value lake.old)) made.0) }
+    ensures new { IfOk result (λ made. IsNew repo.now branch date (lake_value lake.old) made.1) }
+{
+    let first = tested_commit(alloc, lake, repo, date)?;
+    let made = parts_of_repository(alloc, lake, repo, branch, first)?;
+    Ok(made)
 }
 
 // The first commit of a repository that may be made. Stopped, HistoryFull, Exists, NameClash, NoMemory.
@@ -90,8 +119,8 @@ fn tested_commit(
     Ok(first)
 }
 
-// A repository that is to be made. It changes nothing that the lake says.
-fn ready_repository(
+// What a repository that is to be made takes of memory, and room for it. It changes nothing that the lake says.
+fn parts_of_repository(
     alloc: Global,
     lake: &mut LakeState,
     repo: &RepoName,

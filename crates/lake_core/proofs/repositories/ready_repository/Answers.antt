@@ -1,17 +1,53 @@
-use Rattle.std.proofs.Common.{ap, sym, subst, ◌∙◌}
-use Rattle.lake_changes.proofs.FoundingLemmas.{file_named}
-use Rattle.lake_founding.proofs.FoundingLemmas.{is_first_commit}
-use Rattle.lake_founding.specs.Founding.{IsFirst}
-use Rattle.lake_state.specs.Lakes.{LakeStateValue, lake_value}
-use Rattle.lake_core.proofs.RepositoryLemmas.{room_again}
+use Rattle.std.proofs.Common.{◌≡◌, ◌⊎◌, inl, inr, refl, subst}
+use Rattle.lake_model.specs.declared.fault.StepFault.TheVariants.{NoMemory}
+use Rattle.lake_changes.specs.NewRepositories.{IsNew}
+use Rattle.lake_founding.proofs.FoundingLemmas.{at_date, dated}
+use Rattle.lake_state.specs.Lakes.{lake_value, state_of}
+use Rattle.lake_core.proofs.RepositoryLemmas.{asked_again, asked_well, ready_at, unready_asks}
+use Rattle.lake_core.proofs.StepLemmas.{told_again}
 use Rattle.lake_core.proofs.repositories.ready_repository.Goals as goal
 
-pub returns-clause-room : goal.returns-clause-room
-returns-clause-room c =
-    let first = c.args.first in
-    let l = lake_value c.make_repository_room.new.lake in
-    let is = subst (λ (l : LakeStateValue). IsFirst l.cut first.commit.date first) (sym c.in_ok-make_repository_room.ensures.same) c.requires.first in
-    room_again c.args.repo.now first.content.name first.metarange.name c.in_ok-new.new.commit c.in_ok-new.new.file c.make_repository_room.new.lake
-    c.in_ok-make_repository_room.ensures.room
-    (c.in_ok-new.ensures.commit ∙ sym (is_first_commit l.cut first.commit.date first is).name)
-    (c.in_ok-new.ensures.file ∙ sym (ap (λ file. file.name) is.metarange ∙ file_named l.cut))
+pub tested_commit-requires : goal.tested_commit-requires
+tested_commit-requires c = record { sound = c.requires.sound; index = c.requires.index }
+
+pub returns-in_err-first-clause-asks : goal.returns-in_err-first-clause-asks
+returns-in_err-first-clause-asks c =
+    asked_again (state_of (lake_value c.args.lake.now)) c.args.repo.now c.args.branch c.args.date _ (c.in_err-first.ensures.asks c.args.branch)
+    c.from_residual.result c.from_residual.ensures.1
+
+pub returns-in_err-first-clause-refused : goal.returns-in_err-first-clause-refused
+returns-in_err-first-clause-refused c =
+    told_again (λ made. Unit {0}) (λ f. (f ≡ NoMemory) ⊎ (c.args.lake.now ≡ c.args.lake.now)) c.from_residual.result _ c.from_residual.ensures.1 (inr refl)
+
+pub parts_of_repository-requires-clause-few : goal.parts_of_repository-requires-clause-few
+parts_of_repository-requires-clause-few c =
+    let asks = c.in_ok-first.ensures.asks c.args.branch in
+    c.requires.few asks.clash asks.there asks.tells
+
+pub parts_of_repository-requires-clause-first : goal.parts_of_repository-requires-clause-first
+parts_of_repository-requires-clause-first c =
+    at_date (lake_value c.args.lake.now).cut c.args.date c.in_ok-first.first c.in_ok-first.ensures.first
+
+pub returns-in_err-made-clause-asks : goal.returns-in_err-made-clause-asks
+returns-in_err-made-clause-asks c =
+    unready_asks (state_of (lake_value c.args.lake.now)) c.args.repo.now c.args.branch c.args.date c.in_ok-first.first (c.in_ok-first.ensures.asks c.args.branch)
+    c.from_residual-in_err-made.result c.from_residual-in_err-made.ensures.1
+
+pub returns-in_err-made-clause-refused : goal.returns-in_err-made-clause-refused
+returns-in_err-made-clause-refused c =
+    told_again (λ made. Unit {0}) (λ f. (f ≡ NoMemory) ⊎ (c.parts_of_repository.new.lake ≡ c.args.lake.now)) c.from_residual-in_err-made.result NoMemory
+    c.from_residual-in_err-made.ensures.1 (inl refl)
+
+pub returns-clause-asks : goal.returns-clause-asks
+returns-clause-asks c =
+    asked_well (state_of (lake_value c.args.lake.now)) c.args.repo.now c.args.branch c.args.date c.in_ok-first.first (c.in_ok-first.ensures.asks c.args.branch) _
+
+pub returns-clause-ready : goal.returns-clause-ready
+returns-clause-ready c =
+    ready_at c.args.repo.now c.args.branch c.in_ok-first.first.commit.date c.args.date (lake_value c.args.lake.now) _
+    (dated (lake_value c.args.lake.now).cut c.args.date c.in_ok-first.first c.in_ok-first.ensures.first) c.in_ok-made.ensures.ready
+
+pub returns-clause-new : goal.returns-clause-new
+returns-clause-new c =
+    subst (λ d. IsNew c.args.repo.now c.args.branch d (lake_value c.args.lake.now) c.in_ok-made.made.1)
+    (dated (lake_value c.args.lake.now).cut c.args.date c.in_ok-first.first c.in_ok-first.ensures.first) c.in_ok-made.ensures.new

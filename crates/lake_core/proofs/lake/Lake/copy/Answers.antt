@@ -8,7 +8,7 @@ use Rattle.lake_standing.specs.Standing.{versions_since}
 use Rattle.lake_changes.specs.LakeChanges.{after_copy}
 use Rattle.lake_core.specs.Makings.{copy, copy_making}
 use Rattle.lake_keeping.specs.Views.{KeeperView}
-use Rattle.lake_core.proofs.StepLemmas.{holds_now, made_leaves, made_stands, refused_stands, unkept_found, unkept_leaves, unprepared_leaves, untested_found}
+use Rattle.lake_core.proofs.StepLemmas.{holds_now, made_leaves, made_stands, refused_stands, unkept_found, unkept_leaves, untested_leaves, untested_found}
 use Rattle.lake_core.proofs.lake.Lake.copy.Goals as goal
 
 pub ready_copy-requires : goal.ready_copy-requires
@@ -25,7 +25,7 @@ pub returns-in_err-ready-clause-leaves : goal.returns-in_err-ready-clause-leaves
 returns-in_err-ready-clause-leaves g c =
     let view : KeeperView _ = record { kept = g.K.Keeper.kept; faults = g.K.Keeper.faults; calls = g.K.Keeper.calls } in
     let inside = c.self.inside in
-    unprepared_leaves view inside.opened.value inside.present c.ready_copy.new.lake inside.history.items inside.keeper c.args.self.now c.self.view_is c.in_err-ready.ensures.same c.args.by
+    untested_leaves view inside.opened.value inside.present c.ready_copy.new.lake inside.history.items inside.keeper c.args.self.now c.self.view_is c.in_err-ready.ensures.same c.args.by
     (copy c.args.repo.now c.args.branch.now c.args.path c.args.e.now c.args.from.now (lake_value c.args.self.now.present)) c.from_residual.result _ c.from_residual.ensures.1
     (elim (c.in_err-ready.ensures.tells (versions_since (lake_value c.self.inside.opened.value) c.self.inside.history.items) c.self.invariant.versions) [
       | inl memory ↦ inl memory
