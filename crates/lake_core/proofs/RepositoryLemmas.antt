@@ -7,7 +7,6 @@ use Rattle.lake_model.specs.declared.fault.StepFault.{StepFault}
 use Rattle.lake_model.specs.declared.fault.StepFault.TheVariants.{NoMemory}
 use Rattle.lake_model.specs.declared.history.By.{By}
 use Rattle.lake_model.specs.declared.history.Operation.{Operation}
-use Rattle.lake_model.specs.declared.history.Operation.TheVariants.{RepoCreate}
 use Rattle.lake_model.specs.State.{State}
 use Rattle.lake_model.specs.Commits.{bare_repository, first_draft}
 use Rattle.lake_model.specs.Refusals.{Clash, IsClashOrNone, IsRefusal, first_cause}
@@ -16,14 +15,12 @@ use Rattle.lake_causes.specs.Clashing.{AsksToCreate}
 use Rattle.lake_changes.specs.LakeChanges.{after_repository_create}
 use Rattle.lake_changes.specs.LakeRoom.{HasRepositoryRoom}
 use Rattle.lake_changes.specs.NewRepositories.{IsNew}
-use Rattle.lake_changes.specs.declared.founding.NewRepository.{NewRepository}
-use Rattle.lake_puts.specs.Puts.{create_repository_puts}
 use Rattle.lake_state.specs.Lakes.{LakeStateValue}
 use Rattle.lake_state.specs.declared.lake.LakeState.{LakeState}
 use Rattle.lake_keeping.specs.Keeping.{Keeps, Parts}
 use Rattle.lake_keeping.specs.Views.{KeeperView}
-use Rattle.lake_core.specs.Ready.{IsReady}
-use Rattle.lake_core.specs.declared.ready.Ready.{Ready}
+use Rattle.lake_core.specs.Ready.{IsReadyRepository}
+use Rattle.lake_core.specs.declared.ready.ReadyRepository.{ReadyRepository}
 use Rattle.lake_core.proofs.StepLemmas.{accepted, refused_reply, same_err, starved_reply, unkept_reply}
 
 module _ (s : State) (repo branch : List ℕ) (date : ℕ) where
@@ -97,17 +94,16 @@ room_again repo commit file id name l room same_commit same_file =
     subst (λ i. HasRepositoryRoom repo i name l) (sym same_commit) (subst (λ n. HasRepositoryRoom repo commit n l) (sym same_file) room)
 
 -- it is put in a lake that says what it said before
-pub repository_made : (repo branch : List ℕ) (given date : ℕ) (l m n : LakeStateValue) (new : NewRepository) → given ≡ date → m ≡ l
-    → IsNew repo branch given l new
-    → ((branch : List ℕ) (date : ℕ) → IsNew repo branch date m new → n ≡ after_repository_create repo branch date m)
+pub repository_made : (repo branch : List ℕ) (date : ℕ) (l m n : LakeStateValue) (ready : ReadyRepository) → m ≡ l
+    → IsReadyRepository repo branch date l ready
+    → ((branch : List ℕ) (date : ℕ) → IsNew ready.name branch date m ready.new → n ≡ after_repository_create ready.name branch date m)
     → n ≡ after_repository_create repo branch date l
-repository_made repo branch given date l m n new dated same is made =
-    made branch date (subst (λ d. IsNew repo branch d m new) dated (subst (λ x. IsNew repo branch given x new) (sym same) is))
+repository_made repo branch date l m n ready same is made =
+    subst (λ name. IsNew name branch date m ready.new → n ≡ after_repository_create name branch date m) is.name (made branch date)
+    (subst (λ x. IsNew repo branch date x ready.new) (sym same) is.new)
     ∙ ap (after_repository_create repo branch date) same
 
 -- what is ready is that of the date
-pub ready_at : (repo branch : List ℕ) (given date : ℕ) (l : LakeStateValue) (ready : Ready) → given ≡ date
-    → IsReady (RepoCreate repo branch given) (create_repository_puts repo branch given l) ready
-    → IsReady (RepoCreate repo branch date) (create_repository_puts repo branch date l) ready
-ready_at repo branch given date l ready dated is =
-    subst (λ d. IsReady (RepoCreate repo branch d) (create_repository_puts repo branch d l) ready) dated is
+pub ready_at : (repo branch : List ℕ) (given date : ℕ) (l : LakeStateValue) (ready : ReadyRepository) → given ≡ date
+    → IsReadyRepository repo branch given l ready → IsReadyRepository repo branch date l ready
+ready_at repo branch given date l ready dated is = subst (λ d. IsReadyRepository repo branch d l ready) dated is

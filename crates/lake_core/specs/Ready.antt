@@ -4,14 +4,16 @@ use Rattle.keeper.specs.declared.put.Put.{Put}
 use Rattle.lake_base.specs.declared.digest.Digest.{Digest}
 use Rattle.commit_graph.specs.Expressions.{RefExprValue}
 use Rattle.lake_model.specs.declared.history.Operation.{Operation}
-use Rattle.lake_model.specs.declared.history.Operation.TheVariants.{Copy}
+use Rattle.lake_model.specs.declared.history.Operation.TheVariants.{Copy, RepoCreate}
 use Rattle.lake_values.specs.declared.entry.Change.TheVariants.{Put as put}
 use Rattle.lake_model.specs.State.{State}
 use Rattle.lake_causes.specs.Finding.{FindsCopy, source_of}
-use Rattle.lake_puts.specs.Puts.{stage_puts}
+use Rattle.lake_changes.specs.NewRepositories.{IsNew}
+use Rattle.lake_puts.specs.Puts.{create_repository_puts, stage_puts}
 use Rattle.lake_state.specs.Lakes.{LakeStateValue, state_of}
 use Rattle.lake_core.specs.declared.ready.Ready.{Ready}
 use Rattle.lake_core.specs.declared.ready.ReadyCopy.{ReadyCopy}
+use Rattle.lake_core.specs.declared.ready.ReadyRepository.{ReadyRepository}
 use Rattle.lake_core.specs.declared.ready.TestedCopy.{TestedCopy}
 
 -- it is made ready by this operation, and these puts
@@ -31,3 +33,10 @@ pub record IsTestedCopy (state : State) (repo branch path : List ℕ) (e : RefEx
 pub record IsReadyCopy (l : LakeStateValue) (repo branch path : List ℕ) (e : RefExprValue) (from : List ℕ) (ready : ReadyCopy) : Type 0 where
   pub tested : IsTestedCopy (state_of l) repo branch path e from (record { operation = ready.operation; entry = ready.entry; answer = ready.answer })
   pub puts : ready.puts.items ≡ stage_puts repo branch path (put ready.entry) l
+
+-- a repository is to be made in a lake, of this name and default branch, at a date
+pub record IsReadyRepository (repo branch : List ℕ) (date : ℕ) (l : LakeStateValue) (ready : ReadyRepository) : Type 0 where
+  pub name : ready.name ≡ repo
+  pub operation : ready.operation ≡ RepoCreate repo branch date
+  pub puts : ready.puts.items ≡ create_repository_puts repo branch date l
+  pub new : IsNew repo branch date l ready.new

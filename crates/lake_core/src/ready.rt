@@ -1,6 +1,8 @@
 //! What a change has ready before it is kept.
 
 use keeper::Put;
+use lake_base::RepoName;
+use lake_changes::founding::NewRepository;
 use lake_model::Operation;
 use lake_values::Entry;
 
@@ -26,4 +28,13 @@ pub(crate) struct TestedCopy {
     pub(crate) operation: Operation,
     pub(crate) entry: Entry,
     pub(crate) answer: Entry,
+}
+
+// What a new repository takes: its name, its operation, its puts, and what is put in the lake under the name.
+#[derive(Debug, Drop)]
+pub(crate) struct ReadyRepository {
+    pub(crate) name: RepoName,
+    pub(crate) operation: Operation,
+    pub(crate) puts: Vec<Put>,
+    pub(crate) new: NewRepository,
 }

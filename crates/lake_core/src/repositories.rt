@@ -9,7 +9,6 @@ ghost use Rattle.lake_model.specs.Soundness.{IsSound};
 ghost use Rattle.lake_model.specs.Steps.{IsCreateRepositoryReply, create_repository_causes};
 ghost use Rattle.lake_causes.specs.Clashing.{AsksToCreate};
 ghost use Rattle.lake_changes.specs.LakeRoom.{HasRepositoryRoom};
-ghost use Rattle.lake_changes.specs.NewRepositories.{IsNew};
 ghost use Rattle.lake_founding.specs.Founding.{IsFirst};
 ghost use Rattle.lake_state.specs.Counts.{AreFew};
 ghost use Rattle.lake_state.specs.Index.{HasIndex};
@@ -17,16 +16,15 @@ ghost use Rattle.lake_state.specs.Lakes.{lake_value, state_of};
 ghost use Rattle.lake_puts.specs.Puts as puts;
 ghost use Rattle.lake_core.specs.Lakes.{state};
 ghost use Rattle.lake_core.specs.Makings.{create_repo};
-ghost use Rattle.lake_core.specs.Ready.{IsReady};
+ghost use Rattle.lake_core.specs.Ready.{IsReady, IsReadyRepository};
 ghost use Rattle.lake_core.specs.Steps.{Leaves};
 
 use crate::lake::Lake;
-use crate::ready::Ready;
+use crate::ready::{Ready, ReadyRepository};
 use keeper::{Keeper, Put};
 use lake_base::{NoMemory, RefName, RepoName, TryCopy};
 use lake_causes::test_create_repository;
 use lake_changes::founding as change;
-use lake_changes::founding::NewRepository;
 use lake_founding::{FirstCommit, first_commit, new_repository};
 use lake_keeping::{keep, place};
 use lake_model::{By, Operation, StepFault};
@@ -55,7 +53,7 @@ impl<K: Keeper> Lake<K> {
         laws_of_causes();
         law_of_present();
         law_of_repository();
-        let (ready, new) = ready_repository(self.alloc, &mut self.present, &repo, branch, date)?;
+        let ready = ready_repository(self.alloc, &mut self.present, repo, branch, date)?;
 
         // Keep.
         keep(
@@ -68,7 +66,8 @@ impl<K: Keeper> Lake<K> {
         )?;
 
         // Change.
-        change::create_repository(&mut self.present, &repo, new);
+        let new = ready.new;
+        change::create_repository(&mut self.present, &ready.name, new);
         Ok(place(&self.present))
     }
 }
@@ -78,28 +77,26 @@ impl<K: Keeper> Lake<K> {
 fn ready_repository(
     alloc: Global,
     lake: &mut LakeState,
-    repo: &RepoName,
+    repo: RepoName,
     branch: RefName,
     date: u64,
-) -> Result<(Ready, NewRepository), StepFault>
+) -> Result<ReadyRepository, StepFault>
     requires plain { is_like_id branch ≡ false }
     requires sound { IsSound (state_of (lake_value lake.old)) }
     requires index { HasIndex (lake_value lake.old) }
     requires few { (clash : Option Clash)
         → IsClashOrNone (state_of (lake_value lake.old)) (bare_repository date branch) (first_draft date) clash
-        → first_cause (create_repository_causes (state_of (lake_value lake.old)) repo.now clash) ≡ None
+        → first_cause (create_repository_causes (state_of (lake_value lake.old)) repo clash) ≡ None
         → AreFew (lake_value lake.old) }
     ensures same { lake_value lake.new ≡ lake_value lake.old }
-    ensures asks { AsksToCreate (state_of (lake_value lake.old)) repo.now branch date result }
-    ensures refused { MatchResult result (λ made. Unit {0}) (λ f. (f ≡ fault.NoMemory) ⊎ (lake.new ≡ lake.old)) }
-    ensures room { IfOk result (λ made. HasRepositoryRoom repo.now made.1.commit made.1.file lake.new) }
-    ensures ready { IfOk result (λ made. IsReady (operation.RepoCreate repo.now branch date)
-        (puts.create_repository_puts repo.now branch date (lake_value lake.old)) made.0) }
-    ensures new { IfOk result (λ made. IsNew repo.now branch date (lake_value lake.old) made.1) }
+    ensures asks { AsksToCreate (state_of (lake_value lake.old)) repo branch date result }
+    ensures refused { MatchResult result (λ ready. Unit {0}) (λ f. (f ≡ fault.NoMemory) ⊎ (lake.new ≡ lake.old)) }
+    ensures room { IfOk result (λ ready. HasRepositoryRoom ready.name ready.new.commit ready.new.file lake.new) }
+    ensures ready { IfOk result (IsReadyRepository repo branch date (lake_value lake.old)) }
 {
-    let first = tested_commit(alloc, lake, repo, date)?;
-    let made = parts_of_repository(alloc, lake, repo, branch, first)?;
-    Ok(made)
+    let first = tested_commit(alloc, lake, &repo, date)?;
+    let ready = parts_of_repository(alloc, lake, repo, branch, first)?;
+    Ok(ready)
 }
 
 // The first commit of a repository that may be made. Stopped, HistoryFull, Exists, NameClash, NoMemory.
@@ -123,29 +120,32 @@ fn tested_commit(
 fn parts_of_repository(
     alloc: Global,
     lake: &mut LakeState,
-    repo: &RepoName,
+    repo: RepoName,
     branch: RefName,
     first: FirstCommit,
-) -> Result<(Ready, NewRepository), NoMemory>
+) -> Result<ReadyRepository, NoMemory>
     requires plain { is_like_id branch ≡ false }
     requires few { AreFew (lake_value lake.old) }
     requires first { IsFirst (lake_value lake.old).cut first.commit.date first }
     ensures same { lake_value lake.new ≡ lake_value lake.old }
-    ensures room { IfOk result (λ made. HasRepositoryRoom repo.now made.1.commit made.1.file lake.new) }
-    ensures ready { IfOk result (λ made. IsReady (operation.RepoCreate repo.now branch first.commit.date)
-        (puts.create_repository_puts repo.now branch first.commit.date (lake_value lake.old)) made.0) }
-    ensures new { IfOk result (λ made. IsNew repo.now branch first.commit.date (lake_value lake.old) made.1) }
+    ensures room { IfOk result (λ ready. HasRepositoryRoom ready.name ready.new.commit ready.new.file lake.new) }
+    ensures ready { IfOk result (IsReadyRepository repo branch first.commit.date (lake_value lake.old)) }
 {
     change::make_repository_room(
         alloc,
         lake,
-        repo,
+        &repo,
         &first.content.name,
         &first.metarange.name,
     )?;
-    let ready = ready_entry(alloc, lake, repo, &branch, &first)?;
-    let new = new_repository(alloc, lake, repo, branch, first)?;
-    Ok((ready, new))
+    let Ready { operation, puts } = ready_entry(alloc, lake, &repo, &branch, &first)?;
+    let new = new_repository(alloc, lake, &repo, branch, first)?;
+    Ok(ReadyRepository {
+        name: repo,
+        operation,
+        puts,
+        new,
+    })
 }
 
 // The entry of a repository that is to be made, and its puts.

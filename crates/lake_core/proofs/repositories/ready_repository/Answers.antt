@@ -1,6 +1,5 @@
-use Rattle.std.proofs.Common.{◌≡◌, ◌⊎◌, inl, inr, refl, subst}
+use Rattle.std.proofs.Common.{◌≡◌, ◌⊎◌, inl, inr, refl}
 use Rattle.lake_model.specs.declared.fault.StepFault.TheVariants.{NoMemory}
-use Rattle.lake_changes.specs.NewRepositories.{IsNew}
 use Rattle.lake_founding.proofs.FoundingLemmas.{at_date, dated}
 use Rattle.lake_state.specs.Lakes.{lake_value, state_of}
 use Rattle.lake_core.proofs.RepositoryLemmas.{asked_again, asked_well, ready_at, unready_asks}
@@ -12,12 +11,12 @@ tested_commit-requires c = record { sound = c.requires.sound; index = c.requires
 
 pub returns-in_err-first-clause-asks : goal.returns-in_err-first-clause-asks
 returns-in_err-first-clause-asks c =
-    asked_again (state_of (lake_value c.args.lake.now)) c.args.repo.now c.args.branch c.args.date _ (c.in_err-first.ensures.asks c.args.branch)
+    asked_again (state_of (lake_value c.args.lake.now)) c.args.repo c.args.branch c.args.date _ (c.in_err-first.ensures.asks c.args.branch)
     c.from_residual.result c.from_residual.ensures.1
 
 pub returns-in_err-first-clause-refused : goal.returns-in_err-first-clause-refused
 returns-in_err-first-clause-refused c =
-    told_again (λ made. Unit {0}) (λ f. (f ≡ NoMemory) ⊎ (c.args.lake.now ≡ c.args.lake.now)) c.from_residual.result _ c.from_residual.ensures.1 (inr refl)
+    told_again (λ ready. Unit {0}) (λ f. (f ≡ NoMemory) ⊎ (c.args.lake.now ≡ c.args.lake.now)) c.from_residual.result _ c.from_residual.ensures.1 (inr refl)
 
 pub parts_of_repository-requires-clause-few : goal.parts_of_repository-requires-clause-few
 parts_of_repository-requires-clause-few c =
@@ -28,26 +27,21 @@ pub parts_of_repository-requires-clause-first : goal.parts_of_repository-require
 parts_of_repository-requires-clause-first c =
     at_date (lake_value c.args.lake.now).cut c.args.date c.in_ok-first.first c.in_ok-first.ensures.first
 
-pub returns-in_err-made-clause-asks : goal.returns-in_err-made-clause-asks
-returns-in_err-made-clause-asks c =
-    unready_asks (state_of (lake_value c.args.lake.now)) c.args.repo.now c.args.branch c.args.date c.in_ok-first.first (c.in_ok-first.ensures.asks c.args.branch)
-    c.from_residual-in_err-made.result c.from_residual-in_err-made.ensures.1
+pub returns-in_err-ready-clause-asks : goal.returns-in_err-ready-clause-asks
+returns-in_err-ready-clause-asks c =
+    unready_asks (state_of (lake_value c.args.lake.now)) c.args.repo c.args.branch c.args.date c.in_ok-first.first (c.in_ok-first.ensures.asks c.args.branch)
+    c.from_residual-in_err-ready.result c.from_residual-in_err-ready.ensures.1
 
-pub returns-in_err-made-clause-refused : goal.returns-in_err-made-clause-refused
-returns-in_err-made-clause-refused c =
-    told_again (λ made. Unit {0}) (λ f. (f ≡ NoMemory) ⊎ (c.parts_of_repository.new.lake ≡ c.args.lake.now)) c.from_residual-in_err-made.result NoMemory
-    c.from_residual-in_err-made.ensures.1 (inl refl)
+pub returns-in_err-ready-clause-refused : goal.returns-in_err-ready-clause-refused
+returns-in_err-ready-clause-refused c =
+    told_again (λ ready. Unit {0}) (λ f. (f ≡ NoMemory) ⊎ (c.parts_of_repository.new.lake ≡ c.args.lake.now)) c.from_residual-in_err-ready.result NoMemory
+    c.from_residual-in_err-ready.ensures.1 (inl refl)
 
 pub returns-clause-asks : goal.returns-clause-asks
 returns-clause-asks c =
-    asked_well (state_of (lake_value c.args.lake.now)) c.args.repo.now c.args.branch c.args.date c.in_ok-first.first (c.in_ok-first.ensures.asks c.args.branch) _
+    asked_well (state_of (lake_value c.args.lake.now)) c.args.repo c.args.branch c.args.date c.in_ok-first.first (c.in_ok-first.ensures.asks c.args.branch) _
 
 pub returns-clause-ready : goal.returns-clause-ready
 returns-clause-ready c =
-    ready_at c.args.repo.now c.args.branch c.in_ok-first.first.commit.date c.args.date (lake_value c.args.lake.now) _
-    (dated (lake_value c.args.lake.now).cut c.args.date c.in_ok-first.first c.in_ok-first.ensures.first) c.in_ok-made.ensures.ready
-
-pub returns-clause-new : goal.returns-clause-new
-returns-clause-new c =
-    subst (λ d. IsNew c.args.repo.now c.args.branch d (lake_value c.args.lake.now) c.in_ok-made.made.1)
-    (dated (lake_value c.args.lake.now).cut c.args.date c.in_ok-first.first c.in_ok-first.ensures.first) c.in_ok-made.ensures.new
+    ready_at c.args.repo c.args.branch c.in_ok-first.first.commit.date c.args.date (lake_value c.args.lake.now) _
+    (dated (lake_value c.args.lake.now).cut c.args.date c.in_ok-first.first c.in_ok-first.ensures.first) c.in_ok-ready.ensures.ready

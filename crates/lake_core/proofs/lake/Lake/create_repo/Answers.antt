@@ -57,7 +57,7 @@ returns-in_err-keep-clause-reply g c =
     let l = lake_value c.self.inside.present in
     let asks = c.in_ok-ready.ensures.asks in
     holds_now (λ s given. IsCreateRepositoryReply s c.args.repo c.args.branch c.args.date c.from_residual-in_err-keep.result) c.self.view_is c.self.invariant.replayed
-    (unkept_creation (state_of l) c.args.repo c.args.branch c.args.date _ _ _ _ _ _ (c.in_ok-ready.ready, c.in_ok-ready.new) asks c.from_residual-in_err-keep.result _
+    (unkept_creation (state_of l) c.args.repo c.args.branch c.args.date _ _ _ _ _ _ c.in_ok-ready.ready asks c.from_residual-in_err-keep.result _
     c.from_residual-in_err-keep.ensures.1 c.in_err-keep.ensures)
 
 pub returns-in_err-keep-clause-leaves : goal.returns-in_err-keep-clause-leaves
@@ -82,7 +82,7 @@ invariant_of-self-2 g c =
     let may = c.law_of_repository.ensures _ _ _ c.args.by c.args.repo c.args.branch c.args.date asks.clash c.self.invariant asks.tells asks.there c.requires in
     let ready = c.in_ok-ready.ensures.ready in
     let now = ap lake_value c.in_ok-keep.ensures.present ∙ c.in_ok-ready.ensures.same in
-    let changed = repository_made c.args.repo c.args.branch c.args.date c.args.date l _ _ c.in_ok-ready.new refl now c.in_ok-ready.ensures.new c.create_repository.ensures in
+    let changed = repository_made c.args.repo c.args.branch c.args.date l _ _ c.in_ok-ready.ready now c.in_ok-ready.ensures.ready c.create_repository.ensures in
     made_stands may _ _ _ ready.operation c.in_ok-keep.ensures.history changed
 
 pub returns-clause-reply : goal.returns-clause-reply
@@ -90,16 +90,16 @@ returns-clause-reply g c =
     let l = lake_value c.self.inside.present in
     let asks = c.in_ok-ready.ensures.asks in
     let now = ap lake_value c.in_ok-keep.ensures.present ∙ c.in_ok-ready.ensures.same in
-    let changed = repository_made c.args.repo c.args.branch c.args.date c.args.date l _ _ c.in_ok-ready.new refl now c.in_ok-ready.ensures.new c.create_repository.ensures in
+    let changed = repository_made c.args.repo c.args.branch c.args.date l _ _ c.in_ok-ready.ready now c.in_ok-ready.ensures.ready c.create_repository.ensures in
     holds_now (λ s given. IsCreateRepositoryReply s c.args.repo c.args.branch c.args.date (Ok c.place.result)) c.self.view_is c.self.invariant.replayed
-    (made_creation (state_of l) c.args.repo c.args.branch c.args.date (c.in_ok-ready.ready, c.in_ok-ready.new) asks c.place.result (c.place.ensures ∙ ap (λ m. m.entries) changed))
+    (made_creation (state_of l) c.args.repo c.args.branch c.args.date c.in_ok-ready.ready asks c.place.result (c.place.ensures ∙ ap (λ m. m.entries) changed))
 
 pub returns-clause-leaves : goal.returns-clause-leaves
 returns-clause-leaves g c =
     let l = lake_value c.self.inside.present in
     let ready = c.in_ok-ready.ensures.ready in
     let now = ap lake_value c.in_ok-keep.ensures.present ∙ c.in_ok-ready.ensures.same in
-    let changed = repository_made c.args.repo c.args.branch c.args.date c.args.date l _ _ c.in_ok-ready.new refl now c.in_ok-ready.ensures.new c.create_repository.ensures in
+    let changed = repository_made c.args.repo c.args.branch c.args.date l _ _ c.in_ok-ready.ready now c.in_ok-ready.ensures.ready c.create_repository.ensures in
     made_leaves _ _ (λ p. Some (create_repo c.args.repo c.args.branch c.args.date (lake_value p))) (create_repo c.args.repo c.args.branch c.args.date l) _ _ ready.operation ready.puts
     _ _ _ _ _ (record { keeper = c.keep.new.keeper; history = c.keep.new.history.items; present = c.keep.new.present }) c.in_ok-ready.ensures.same refl _ c.self.view_is _ c.in_ok-keep.ensures
     changed
