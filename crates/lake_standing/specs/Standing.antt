@@ -17,15 +17,18 @@ use Rattle.lake_changes.specs.LakeChanges.{after_fault}
 abbrev pub versions_since : LakeStateValue → List HistoryEntry → VersionsGiven
 versions_since opened history = count_versions (versions_of opened) history
 
--- nothing has happened in a lake: it has no entries and no unfinished uploads, and the store hasn't failed
+-- nothing has happened in a lake: it has no entries and no unfinished uploads, no change of references was counted, and the
+-- store hasn't failed
 pub record HasNoHistory (l : LakeStateValue) : Type 0 where
   pub entries : l.entries ≡ 0
+  pub references : l.references ≡ 0
   pub tickets : l.tickets ≡ empty
   pub stopped : l.stopped ≡ false
 
 -- A lake in memory stands for the replay of a legal history from the sound state that it was opened as, in which nothing
 -- had happened and versions were below the next one. Its versions are those that were given over the history, its tokens
--- differ and are below the next one, its counts are small, its index tells of just what is kept, and the modulus of its cut is above 0.
+-- differ and are below the next one, its counts are small, its index tells of just what is kept, and the modulus of its cut
+-- is above 0.
 pub record Stands (opened : LakeStateValue) (history : List HistoryEntry) (present : LakeStateValue) : Type 0 where
   pub sound : IsSound (state_of opened)
   pub fresh_start : HasNoHistory opened

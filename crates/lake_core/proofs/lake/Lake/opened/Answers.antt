@@ -12,6 +12,6 @@ invariant_of-result g c =
     let founding = c.laws_of_founding.ensures in
     let sound = subst IsSound (sym (founding.state cut)) (c.law_of_soundness.ensures.fresh cut) in
     let below = c.law_of_versions_below.ensures fresh_versions (fresh_lake cut) (founding.versions cut) c.law_of_next_versions.ensures.fresh in
-    let stands = c.law_of_opening.ensures (fresh_lake cut) sound (record { entries = refl; tickets = refl; stopped = refl }) below
+    let stands = c.law_of_opening.ensures (fresh_lake cut) sound (record { entries = refl; references = refl; tickets = refl; stopped = refl }) below
     (founding.tokens cut) (founding.counted cut) (founding.index cut) c.requires in
     stands_opened (fresh_lake cut) _ _ _ stands (ap lake_value c.of.ensures ∙ c.in-Ok.ensures.0) c.new.ensures.items c.in-Ok.ensures.0
