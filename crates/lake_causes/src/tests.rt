@@ -151,7 +151,7 @@ static ROWS: [(Like, Ask, &str, &str, &str); 31] = [
     ),
     (Like::Open, Ask::DeleteBranch, "repo", "side", "Ok"),
     (Like::Open, Ask::CreateTag("gone"), "repo", "v1", "NoRef"),
-    (Like::Open, Ask::CreateTag("main"), "repo", "v1", "Exists"),
+    (Like::Open, Ask::CreateTag("main~1"), "repo", "v1", "Exists"),
     (
         Like::Open,
         Ask::CreateTag("main~1"),

@@ -43,16 +43,20 @@ static FAULTS: [Row; 12] = [
 "#,
     },
     Row {
-        call: 3,
+        call: 4,
         steps: r#"["create_branch",1,1,"quickstart","dev","main"]
-["delete_branch",1,2,"quickstart","dev"]
-["take_ticket",1,3,"quickstart","main"]
+["stage",1,2,"quickstart","dev",2,"a","01000673333a2f2f7800000000000000000005000000000000000000000000"]
+["delete_branch",1,3,"quickstart","dev"]
+["take_ticket",1,4,"quickstart","main"]
 ["versions","quickstart","dev"]
+["look","quickstart","dev","a"]
 "#,
         replies: r#"{"ok":{"at":1,"commit":"a52d600cf8f59ab14da57bd6123a7d90026916379eec82cad90310c61423b7c1"}}
+{"ok":2}
 {"refused":"StoreFault"}
 {"refused":"Stopped"}
-{"ok":{"at":2,"settings":0,"version":2}}
+{"ok":{"at":3,"settings":0,"version":2}}
+{"ok":{"at":3,"found":"01000673333a2f2f7800000000000000000005000000000000000000000000","gone":false}}
 "#,
     },
     Row {
@@ -128,25 +132,31 @@ static FAULTS: [Row; 12] = [
 "#,
     },
     Row {
-        call: 2,
-        steps: r#"["seal",1,1,"quickstart","main","other"]
+        call: 3,
+        steps: r#"["stage",1,1,"quickstart","main",1,"a","01000673333a2f2f7800000000000000000005000000000000000000000000"]
 ["seal",1,2,"quickstart","main","other"]
+["seal",1,3,"quickstart","main","other"]
 ["versions","quickstart","main"]
 "#,
-        replies: r#"{"refused":"StoreFault"}
+        replies: r#"{"ok":1}
+{"refused":"StoreFault"}
 {"refused":"Stopped"}
-{"ok":{"at":1,"settings":0,"version":1}}
+{"ok":{"at":2,"settings":0,"version":1}}
 "#,
     },
     Row {
-        call: 2,
-        steps: r#"["reset",1,1,"quickstart","main","all"]
+        call: 3,
+        steps: r#"["stage",1,1,"quickstart","main",1,"a","01000673333a2f2f7800000000000000000005000000000000000000000000"]
 ["reset",1,2,"quickstart","main","all"]
+["reset",1,3,"quickstart","main","all"]
 ["versions","quickstart","main"]
+["look","quickstart","main","a"]
 "#,
-        replies: r#"{"refused":"StoreFault"}
+        replies: r#"{"ok":1}
+{"refused":"StoreFault"}
 {"refused":"Stopped"}
-{"ok":{"at":1,"settings":0,"version":1}}
+{"ok":{"at":2,"settings":0,"version":1}}
+{"ok":{"at":2,"found":"01000673333a2f2f7800000000000000000005000000000000000000000000","gone":false}}
 "#,
     },
     Row {
@@ -164,12 +174,14 @@ static FAULTS: [Row; 12] = [
 
 // Of several causes the first in the order of the law is answered; and writes and settings are guarded by versions.
 static CAUSES: [Row; 5] = [
-    // NoRepo before NoRef; NoRef, NoParent before Exists; NoRef before Protected; DefaultBranch before Protected;
+    // NoRepo before NoRef and NoNote; NoRef, NoParent before Exists; NoRef before Protected; DefaultBranch before Protected;
     // Protected before Changed; Changed before NoPath.
     Row {
         call: 0,
         steps: r#"["set_note",1,1,"quickstart",null,"protection",[{"pattern":"ma*"}]]
 ["look","none","none","a"]
+["set_note",1,2,"none",9,"hooks",null]
+["create_repo",1,2,"quickstart","main",0]
 ["create_branch",1,2,"quickstart","main","none"]
 ["create_branch",1,3,"quickstart","main","main~5"]
 ["create_branch",1,4,"quickstart","main","main"]
@@ -182,6 +194,8 @@ static CAUSES: [Row; 5] = [
 "#,
         replies: r#"{"ok":1}
 {"refused":"NoRepo"}
+{"refused":"NoRepo"}
+{"refused":"Exists"}
 {"refused":"NoRef"}
 {"move":0,"refused":"NoParent"}
 {"refused":"Exists"}
