@@ -1,7 +1,6 @@
 -- The history of a batch is legal.
-use Rattle.std.proofs.Common.{◌≡◌, ◌⊎◌, inl, inr, ◌++◌, ◌∷◌, [], ◌+◌, ℕ, Bool, true, false, List, refl, sym, ap, ◌∙◌, subst}
+use Rattle.std.proofs.Common.{◌≡◌, inl, inr, ◌++◌, ◌∷◌, [], ◌+◌, ℕ, Bool, true, false, List, refl, sym, ◌∙◌, subst}
 use Rattle.std.specs.Prelude.{Option, Some, None, IfSome, is_none, if◌then◌else◌}
-use Rattle.std.specs.Option.{option_or}
 use Rattle.lake_values.specs.declared.entry.Change.{Change}
 use Rattle.lake_values.specs.declared.entry.Change.TheVariants.{Put}
 use Rattle.lake_model.specs.declared.fault.StepFault.{StepFault}
@@ -17,10 +16,10 @@ use Rattle.lake_model.specs.Uncommitted.{HasTicket, put_number}
 use Rattle.lake_model.specs.Versions.{VersionsGiven, branch_version, fresh_versions}
 use Rattle.lake_calls.specs.Calls.{Call, Object, Request, Upload, UploadCall}
 use Rattle.lake_calls.specs.Courses.{upload_entry}
-use Rattle.lake_calls.specs.Effects.{drop_entries, drop_entry, effect, upload_effect}
-use Rattle.lake_calls.specs.Replies.{guarded_refusal, stage_refusal, ticket_entry, ticket_refusal}
+use Rattle.lake_calls.specs.Effects.{drop_entry, effect, upload_effect}
+use Rattle.lake_calls.specs.Replies.{stage_refusal, ticket_entry, ticket_refusal}
 use Rattle.lake_calls.proofs.EffectLemmas.{both_none}
-use Rattle.batch_lines.specs.Batch.{AreServed, CutShort, IsCallServed, IsValueServed, Lake, LineEffect, Served, Unread, first_lake, lake_left, next_request, state_of, usual_cut}
+use Rattle.batch_lines.specs.Batch.{AreServed, CutShort, IsCallServed, IsValueServed, Lake, LineEffect, Served, Unread, first_lake, lake_left, state_of, usual_cut}
 use Rattle.batch_lines.specs.Command.{LineValue, Skipped, NotBuilt, Asks, line_value}
 use Rattle.batch_lines.proofs.GuardLemmas.{current_causes}
 use Rattle.batch_lines.proofs.TicketLemmas.{ticket_tied}

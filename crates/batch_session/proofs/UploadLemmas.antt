@@ -1,10 +1,8 @@
 -- What an upload shows and leaves, by how far it came.
-use Rattle.std.proofs.Common.{inl, inr, ◌≡◌, ◌≢◌, ◌++◌, ◌∷◌, [], ◌+◌, ℕ, true, false, List, length, append_assoc, cond, eq-eqb, lit<, refl, sym, ap, ◌∙◌, subst}
+use Rattle.std.proofs.Common.{inl, inr, ◌≡◌, ◌≢◌, ◌++◌, ◌∷◌, [], ◌+◌, ℕ, true, false, List, length, append_assoc, cond, lit<, refl, sym, ap, ◌∙◌, subst}
 use Rattle.std.proofs.lemmas.List.{append-nil}
-use Rattle.std.specs.Prelude.{◌⊎◌, Option, Some, None, IfOk, IsErrAnd, is_none, Result, Ok, Err, codes, if◌then◌else◌}
-use Rattle.std.proofs.lemmas.Cmp.{nat_cmp_total}
-use Rattle.std.specs.Cmp.{unsigned_tied}
-use Rattle.std.specs.FinMap.{get, insert, get-insert}
+use Rattle.std.specs.Prelude.{◌⊎◌, Option, Some, None, IfOk, IsErrAnd, Result, Ok, Err, codes, if◌then◌else◌}
+use Rattle.std.specs.FinMap.{get, insert}
 use Rattle.std.specs.Option.{option_or}
 use Rattle.block_store.specs.Blocks.{HeldObjects}
 use Rattle.lake_base.specs.Digest.{sha256, encode_lower}
@@ -18,7 +16,6 @@ use Rattle.lake_model.specs.declared.history.HistoryEntry.{HistoryEntry}
 use Rattle.lake_model.specs.declared.history.Operation.TheVariants.{Stage, TicketTake}
 use Rattle.lake_model.specs.State.{State}
 use Rattle.lake_model.specs.History.{accepted_entry, after}
-use Rattle.lake_model.specs.Refusals.{causes_of_change, first_cause}
 use Rattle.lake_model.specs.Soundness.{fresh}
 use Rattle.lake_model.specs.Uncommitted.{HasTicket}
 use Rattle.lake_laws.proofs.HistoryLemmas.{replay-append}

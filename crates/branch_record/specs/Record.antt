@@ -5,7 +5,8 @@ use Rattle.std.specs.FinMap.{contains_key}
 use Rattle.lake_base.specs.declared.digest.Digest.{Digest}
 use Rattle.branch_record.specs.Tokens.{TokenMap}
 
--- a record as contracts see it: its version, its head, the token under which changes are staged, the sealed tokens, newest first, and for how many sealed tokens more there is room
+-- a record as contracts see it: its version, its head, the token under which changes are staged, the sealed tokens, newest
+-- first, and for how many sealed tokens more there is room
 pub record BranchRecordValue : Type 0 where
   pub version : ℕ
   pub head : Digest
@@ -25,7 +26,8 @@ is_among tokens token = list_any (λ named. nat_eq named token) tokens
 abbrev pub AreDistinct : List ℕ → Type 0
 AreDistinct tokens = IsDistinct nat_eq tokens
 
--- The record after a seal: a fresh staging token, and the old one first of the sealed ones. One that has no changes stays in place.
+-- The record after a seal: a fresh staging token, and the old one first of the sealed ones. One that has no changes stays
+-- in place.
 unfoldable pub record_after_seal : BranchRecordValue → TokenMap → ℕ → BranchRecordValue
 record_after_seal r tokens fresh =
     if contains_key tokens r.staging then record r { staging = fresh; sealed = r.staging ∷ r.sealed } else r

@@ -1,7 +1,8 @@
 //! The uncommitted changes of a branch, under tokens.
 //!
 //! - `record`: a branch's version and head, the token under which its changes are staged, and the sealed tokens.
-//! - `tokens`: the changes under each token; `cursor`: those under one, in order of path; `ordered` and `placed`: how they are kept.
+//! - `tokens`: the changes under each token; `cursor`: those under one, in order of path; `ordered` and `placed`: how they
+//!   are kept.
 //! - `looking`: what a branch's changes say of a path.
 //! - `changing`: staging, sealing, resetting, and the room that is made for a change before it is made.
 //! - `overlaying`: the changes of a branch as one.

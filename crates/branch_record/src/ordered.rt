@@ -108,7 +108,8 @@ fn drop_path(rows: &mut BTreeMap<Path, Change>, path: &Path)
     let _change = rows.remove(path);
 }
 
-// Drops the changes of the paths that begin with a prefix. Where no memory is left for a search, it goes over all.
+// Drops the changes of the paths that begin with a prefix. Where that is no path, or no memory is left for a search, it goes
+// over all.
 fn drop_under(alloc: Global, rows: &mut BTreeMap<Path, Change>, prefix: &Text)
     ensures { map.from_entries rows.new.entries ≡ changes_after_reset (Prefix prefix.now) (map.from_entries rows.old.entries) }
 {

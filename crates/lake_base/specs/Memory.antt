@@ -15,7 +15,8 @@ faults_after result faults = if is_ok result then faults else next_count faults
 abbrev pub is_to_fail : List ℕ → ℕ → Bool
 is_to_fail fails calls = list_any (λ k. k == next_count calls) fails
 
--- a source in memory: the bytes that are left, the most that one read gives, the reads that are to fail, and what was counted
+-- a source in memory: the bytes that are left, the most that one read gives, the reads that are to fail, and what was
+-- counted
 pub record MemorySourceValue : Type 0 where
   pub left : List ℕ
   pub piece : ℕ
@@ -23,7 +24,8 @@ pub record MemorySourceValue : Type 0 where
   pub reads : ℕ
   pub faults : ℕ
 
--- a sink in memory: what was written, the most that one write takes, the writes that are to fail, what was counted, and whether one found no memory
+-- a sink in memory: what was written, the most that one write takes, the writes that are to fail, what was counted, and
+-- whether one found no memory
 pub record MemorySinkValue : Type 0 where
   pub written : List ℕ
   pub piece : ℕ

@@ -86,7 +86,8 @@ fn test_file(
 }
 
 // Whether nothing is found under the name of the file of a tree at a place, or a file that is the same. A range that is
-// known to be one of the trees' that the map was made from is kept; another is compared with a range by its rows, and isn't written.
+// known to be one of the trees' that the map was made from is kept; another is compared with a range by its rows, and isn't
+// written.
 fn is_free(
     alloc: Global,
     lake: &LakeState,

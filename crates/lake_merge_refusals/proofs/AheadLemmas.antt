@@ -16,7 +16,6 @@ use Rattle.lake_merge_refusals.specs.Merges.{Fork, IsMergeAdmissible, ahead_lake
 use Rattle.lake_histories.proofs.EntriesLemmas.{apply_nothing}
 use Rattle.lake_histories.proofs.BranchesLemmas.{spread}
 use Rattle.lake_merge_refusals.proofs.DivergedLemmas as forks
-use Rattle.lake_merge_refusals.proofs.DivergedLemmas.{ForkLake, HasFork}
 use Rattle.lake_merge_refusals.proofs.ForksLemmas.{base_ahead}
 use Rattle.lake_merge_refusals.proofs.MergesLemmas as merges
 use Rattle.lake_merge_refusals.proofs.MergesLemmas.{moved}

@@ -1,5 +1,5 @@
 -- A new commit in memory, which becomes the head of a branch, with its names.
-use Rattle.std.specs.Prelude.{◌≡◌, ℕ, List, [], ◌∷◌}
+use Rattle.std.specs.Prelude.{ℕ, List, [], ◌∷◌}
 use Rattle.std.specs.FinMap.{empty, insert}
 use Rattle.lake_base.specs.Maps.{ByteMap}
 use Rattle.lake_base.specs.declared.digest.Digest.{Digest}

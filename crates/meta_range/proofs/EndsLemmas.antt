@@ -1,6 +1,6 @@
 -- A range of a tree is what its map has from the first to the last of its paths.
 use Rattle.std.proofs.Common.{T, ◌≡◌, ℕ, zero, suc, ◌-◌, ◌<◌, ◌&&◌, Bool, true, false, cond, not, List, [], ◌∷◌, ◌++◌, length, get_or, Option, Some, None, refl, sym, ap, subst, ◌∙◌, arith}
-use Rattle.std.specs.List.{AllByRecursion, slice_get}
+use Rattle.std.specs.List.{AllByRecursion}
 use Rattle.std.specs.Ordering.{is_lt, is_eq}
 use Rattle.std.specs.FinMap.{find, get, from_sorted, entries, get-from_sorted, entries-from_sorted, same_map, slice_cmp-IsAntisymmetric, nat_cmp-IsAntisymmetric}
 use Rattle.std.specs.FinMap.Entries.{below_all}
@@ -16,8 +16,7 @@ use Rattle.range_file.specs.Rows.{RowValue}
 use Rattle.range_file.proofs.ReadingLemmas.{apart}
 use Rattle.meta_range.specs.Ends.{AgreeBetween, HasEnds, IsRangeAt, is_between}
 use Rattle.meta_range.specs.Files.{file_at}
-use Rattle.meta_range.specs.Ranges.{AreRanges, TreeValue, rows_of, tree_of}
-use Rattle.meta_range.proofs.CursorLemmas.{ends_low}
+use Rattle.meta_range.specs.Ranges.{TreeValue, rows_of, tree_of}
 use Rattle.meta_range.proofs.FileLemmas.{file_behind, is_range_at}
 use Rattle.meta_range.proofs.RangesLemmas.{ascend_back, last_below, last_of_more, length_map}
 

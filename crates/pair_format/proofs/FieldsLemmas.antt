@@ -12,16 +12,16 @@ use Rattle.lake_base.specs.declared.digest.Digest.{Digest}
 use Rattle.lake_values.specs.declared.entry.Change.{Change}
 use Rattle.lake_values.specs.declared.entry.Change.TheVariants.{Put, Delete}
 use Rattle.lake_format.specs.Reading.{◌>>=◌, Fails, read_number, read_bytes, read_entry}
-use Rattle.lake_format.specs.Spelling.{short_text, entry_spelling, AreBytes, IsDigest}
+use Rattle.lake_format.specs.Spelling.{short_text, AreBytes, IsDigest}
 use Rattle.lake_format.specs.declared.fields.FieldFault.{FieldFault}
 use Rattle.lake_format.specs.declared.fields.FieldFault.TheVariants.{Short, Bad, NoMemory}
-use Rattle.lake_format.proofs.FieldsLemmas.{bind_ok, guard_ok, test_ok, ok_is, Takes, takes_then, wide16, wide32, wide64, number_takes, number_again, bytes_take, bytes_takes, bytes_again}
+use Rattle.lake_format.proofs.FieldsLemmas.{bind_ok, test_ok, ok_is, Takes, takes_then, wide16, wide32, wide64, number_takes, number_again, bytes_take, bytes_takes, bytes_again}
 use Rattle.lake_format.proofs.EncodingLemmas.{entry_takes, entry_again}
 use Rattle.lake_values.specs.declared.settings.NoteName.{NoteName}
 use Rattle.lake_values.specs.declared.settings.NoteName.TheVariants.{Retention, Protection, Hooks}
 use Rattle.pair_format.specs.Keys.{note_number, note_of}
 use Rattle.pair_format.specs.Spelling.{tokens_spelling, flag, change_spelling, IsRefName, AreTokens, IsSpelledChange}
-use Rattle.pair_format.specs.Reading.{Reader, both, map_reader, read_u64, read_digest, read_short, read_name, is_repo, is_ref, read_repo, read_ref, read_note, read_more_tokens, read_tokens, read_flag, read_change}
+use Rattle.pair_format.specs.Reading.{Reader, both, read_u64, read_digest, read_short, read_name, is_repo, is_ref, read_repo, read_ref, read_note, read_more_tokens, read_tokens, read_flag, read_change}
 
 -- ---- a loop that reads tokens
 

@@ -1,19 +1,17 @@
 -- A pair that is read is the pair that was written, and what was written is read again.
-use Rattle.std.proofs.Common.{◌≡◌, ℕ, suc, ◌^◌, ◌<◌, Bool, true, false, cond, eqb, is_none, List, [], ◌∷◌, ◌++◌, length, Option, Some, None, Result, Ok, Err, refl, sym, ap, subst, ◌∙◌, append_assoc, arith}
+use Rattle.std.proofs.Common.{◌≡◌, ℕ, suc, Bool, true, false, cond, eqb, is_none, List, [], ◌∷◌, ◌++◌, length, Option, Some, None, Result, Ok, Err, refl, sym, ap, subst, ◌∙◌, arith}
 use Rattle.std.proofs.lemmas.Bool.{eqb-true}
 use Rattle.std.proofs.lemmas.List.{append-nil, nil_from_length}
 use Rattle.std.specs.Option.{option_map_or}
 use Rattle.std.specs.Int.{w64, to_be_bytes}
-use Rattle.lake_base.specs.declared.digest.Digest.{Digest}
 use Rattle.lake_base.specs.Names.{path_fault}
 use Rattle.lake_values.specs.Commit.{CommitRecordValue}
 use Rattle.lake_format.specs.Reading.{◌>>=◌}
 use Rattle.lake_format.specs.Spelling.{short_text, commit_spelling, AreBytes, IsSpelledCommit}
 use Rattle.lake_format.specs.declared.fields.FieldFault.{FieldFault}
-use Rattle.lake_format.specs.declared.fields.FieldFault.TheVariants.{Short, Bad, NoMemory as FieldNoMemory}
-use Rattle.lake_format.proofs.FieldsLemmas.{bind_ok, test_ok, ok_is, Takes}
+use Rattle.lake_format.specs.declared.fields.FieldFault.TheVariants.{Bad}
+use Rattle.lake_format.proofs.FieldsLemmas.{bind_ok, test_ok, ok_is}
 use Rattle.commit_graph.specs.Reading.{read_commit, whole, commit_from}
-use Rattle.commit_graph.specs.declared.fault.CommitFault.{CommitFault}
 use Rattle.commit_graph.specs.declared.fault.CommitFault.TheVariants.{Version, Trailing}
 use Rattle.commit_graph.proofs.ReadingLemmas.{found as commit_found, again as commit_again}
 use Rattle.pair_format.specs.declared.fault.PairFault.{PairFault}
@@ -25,9 +23,9 @@ use Rattle.pair_format.specs.declared.key.OwnedKey.TheVariants as key
 use Rattle.pair_format.specs.declared.stored.Stored.{Stored}
 use Rattle.pair_format.specs.declared.stored.Stored.TheVariants.{Repository, Branch, Tag, Commit, MetaRange, Range, Staged, Note, Gone, Counts}
 use Rattle.pair_format.specs.Keys.{kind_of, note_number}
-use Rattle.pair_format.specs.Spelling.{key_of, key_spelling, value_spelling, pair_spelling, flag, IsSpelledKey, IsSpelledValue, IsSpelledStored}
-use Rattle.pair_format.specs.Reading.{Reader, both, map_reader, read_u64, read_digest, read_repo, read_ref, read_rest, read_path, read_note, read_tokens, read_flag, read_versioned, read_change, key_fields, value_fields, alone, read_key, read_value, with_place, value_from, pair_from}
-use Rattle.pair_format.proofs.FieldsLemmas.{IsReader, both_reader, u64_reader, digest_reader, repo_reader, ref_reader, note_reader, flag_reader, change_reader, tokens_reader}
+use Rattle.pair_format.specs.Spelling.{key_of, key_spelling, value_spelling, pair_spelling, IsSpelledKey, IsSpelledValue, IsSpelledStored}
+use Rattle.pair_format.specs.Reading.{Reader, both, map_reader, read_rest, read_path, read_versioned, key_fields, value_fields, alone, read_key, read_value, with_place, value_from, pair_from}
+use Rattle.pair_format.proofs.FieldsLemmas.{IsReader, u64_reader, digest_reader, repo_reader, ref_reader, note_reader, flag_reader, change_reader, tokens_reader}
 
 -- ---- readers that take all that is left
 

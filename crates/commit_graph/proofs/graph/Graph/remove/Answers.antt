@@ -1,6 +1,5 @@
-use Rattle.std.proofs.Common.{◌≡◌, sym, ap, subst, ◌∙◌}
+use Rattle.std.proofs.Common.{sym, ap, subst, ◌∙◌}
 use Rattle.std.specs.FinMap.{remove}
-use Rattle.lake_values.specs.Ancestry.{graph_of}
 use Rattle.commit_graph.specs.Graphs.{IsSound}
 use Rattle.commit_graph.proofs.GraphLemmas.{remove_from}
 use Rattle.commit_graph.proofs.graph.Graph.remove.Goals as goal

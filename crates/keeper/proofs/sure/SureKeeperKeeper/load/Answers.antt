@@ -1,7 +1,6 @@
-use Rattle.std.proofs.Common.{ap, sym, subst, ◌∙◌, ◌≡◌}
+use Rattle.std.proofs.Common.{ap, sym, subst, ◌∙◌}
 use Rattle.std.specs.FinMap.{entries, entries_sorted}
 use Rattle.lake_base.specs.Maps.{HasAscendingKeys}
-use Rattle.keeper.specs.Keepers.{entries_of}
 use Rattle.keeper.proofs.SureLemmas.{settled}
 use Rattle.keeper.proofs.sure.SureKeeperKeeper.load.Goals as goal
 

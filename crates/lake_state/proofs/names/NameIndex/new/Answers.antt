@@ -2,7 +2,7 @@ use Rattle.std.proofs.Common.{ap, ◌∙◌}
 use Rattle.std.specs.FinMap.{empty}
 use Rattle.byte_map.specs.Values.{some_values}
 use Rattle.byte_map.proofs.ValuesLemmas.{some_values_empty}
-use Rattle.lake_state.specs.Names.{NameIndexValue, bytes_in}
+use Rattle.lake_state.specs.Names.{bytes_in}
 use Rattle.lake_state.proofs.names.NameIndex.new.Goals as goal
 
 pub returns : goal.returns

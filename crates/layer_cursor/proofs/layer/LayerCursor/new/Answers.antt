@@ -1,7 +1,7 @@
-use Rattle.std.proofs.Common.{sym, subst, ap, ◌∙◌}
+use Rattle.std.proofs.Common.{sym, subst, ◌∙◌}
 use Rattle.std.specs.FinMap.{from_sorted, entries-from_sorted}
 use Rattle.lake_base.specs.Maps.{byte_order, HasAscendingKeys}
-use Rattle.layer_cursor.specs.Layers.{rows_ahead, rows_over}
+use Rattle.layer_cursor.specs.Layers.{rows_ahead}
 use Rattle.layer_cursor.proofs.LayersLemmas.{ahead_of, over_slices}
 use Rattle.layer_cursor.proofs.layer.LayerCursor.new.Goals as goal
 
