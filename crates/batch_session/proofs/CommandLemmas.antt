@@ -4,7 +4,7 @@ use Rattle.std.specs.List.{starts_with}
 use Rattle.lake_base.specs.Names.{ReadsName, path_fault}
 use Rattle.lake_base.specs.declared.names.NameFault.{NameFault}
 use Rattle.lake_base.specs.declared.names.NameFault.TheVariants.{Empty, TooShort, TooLong, NotUtf8, BadByte, NoMemory}
-use Rattle.batch_lines.specs.Command.{branch_uri, valid_path, path_of}
+use Rattle.batch_session.specs.Command.{branch_uri, valid_path, path_of}
 
 pub path_of_by : (uri : List ℕ) → starts_with nat_eq uri branch_uri ≡ true → (found : Option NameFault) → path_fault (drop (length branch_uri) uri) ≡ found
     → path_of uri ≡ valid_path (drop (length branch_uri) uri) found

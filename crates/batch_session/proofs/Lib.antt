@@ -1,9 +1,16 @@
+pub mod AskedLemmas
 pub mod CommandLemmas
+pub mod GuardLemmas
+pub mod LastUploadLemmas
+pub mod LegalLemmas
+pub mod LineBodyLemmas
 pub mod MomentsLemmas
+pub mod OwnEntriesLemmas
 pub mod PathlessLemmas
 pub mod ServedLemmas
 pub mod SessionLemmas
 pub mod StepsLemmas
 pub mod TextLemmas
+pub mod TicketLemmas
 pub mod UploadLemmas
 pub mod WordLemmas

@@ -18,18 +18,18 @@ use Rattle.std.specs.FinMap.{empty}
 use Rattle.keeper.specs.Keepers.{KeptPairs}
 use Rattle.lake_format.specs.declared.cut.Cut.{Cut}
 use Rattle.lake_model.specs.Soundness.{fresh}
-use Rattle.lake_state.specs.Founding as founding
-use Rattle.lake_state.specs.Lakes.{state_of}
+use Rattle.core_state.specs.FirstStates as founding
+use Rattle.core_state.specs.LakeStates.{state_of}
 use Rattle.lake_core.specs.declared.open_fault.OpenFault.{OpenFault}
 use Rattle.lake_core.specs.declared.open_fault.OpenFault.TheVariants as opening
 use Rattle.lake_core.specs.Lakes.{LakeValue, state}
 use Rattle.lake_core.specs.Opening.{IsUnopened}
-use Rattle.lake_core.specs.Steps.{IsFaulted, Leaves, Making}
-use Rattle.lake_keeping.specs.Views.{KeeperView}
+use Rattle.lake_core.specs.Leaving.{IsFaulted, Leaves, Making}
+use Rattle.core_puts.specs.KeeperViews.{KeeperView}
 use Rattle.lake_calls.specs.Replies.{guarded_refusal, reading_causes}
-use Rattle.batch_lines.specs.Batch.{usual_cut}
-use Rattle.batch_session.specs.Steps.{IsFromFresh, IsStep, state_at}
-use Rattle.batch_lines.proofs.GuardLemmas.{current_causes}
+use Rattle.batch_session.specs.Batch.{usual_cut}
+use Rattle.batch_session.specs.SureSteps.{IsFromFresh, IsStep, state_at}
+use Rattle.batch_session.proofs.GuardLemmas.{current_causes}
 
 -- ---- answers and refusals
 

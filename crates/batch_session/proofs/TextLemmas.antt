@@ -6,7 +6,7 @@ use Rattle.lake_model.specs.declared.fault.StepFault.{StepFault}
 use Rattle.lake_model.specs.declared.fault.StepFault.TheVariants.{Protected, NoMemory, NoPath}
 use Rattle.batch_session.specs.declared.text.LineText.{LineText}
 use Rattle.batch_session.specs.Reply.{batch_names, text_bytes}
-use Rattle.batch_lines.specs.Text.{CallNames, refusal_text}
+use Rattle.batch_session.specs.Text.{CallNames, refusal_text}
 
 -- the pattern that protects is told
 pub protection_told : (number : ℕ) (fault : StepFault) (result : Result LineText no_memory) → fault ≡ Protected number

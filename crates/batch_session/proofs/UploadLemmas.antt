@@ -24,13 +24,13 @@ use Rattle.lake_calls.specs.Courses.{upload_entry}
 use Rattle.lake_calls.specs.Effects.{drop_entries, drop_entry, entries_alone, nothing, upload_effect, with_body}
 use Rattle.lake_calls.specs.Replies.{CallReply, UploadReply, guarded_refusal, is_done, reply_or, stage_refusal, ticket_entry, ticket_refusal}
 use Rattle.batch_session.specs.declared.reply.Reply.{Reply}
-use Rattle.batch_lines.specs.Batch.{Lake, after_call, usual_cut}
+use Rattle.batch_session.specs.Batch.{Lake, after_call, usual_cut}
 use Rattle.batch_session.specs.Calling.{IsAnswered, IsCutOff, IsRefused, IsStaged, ServesCall, ShowsReply, with_entry, with_held}
 use Rattle.batch_session.specs.Reply.{batch_names, text_bytes}
-use Rattle.batch_session.specs.Steps.{IsStep, state_at}
-use Rattle.batch_lines.specs.Text.{CallNames, names_of, refusal_text, reply_text, upload_text}
+use Rattle.batch_session.specs.SureSteps.{IsStep, state_at}
+use Rattle.batch_session.specs.Text.{CallNames, names_of, refusal_text, reply_text, upload_text}
 use Rattle.batch_session.specs.Uploads.{upload_request}
-use Rattle.batch_lines.proofs.TicketLemmas.{drops_are, ticket_tied}
+use Rattle.batch_session.proofs.TicketLemmas.{drops_are, ticket_tied}
 use Rattle.batch_session.proofs.PathlessLemmas.{guarded_pathless, write_pathless}
 
 -- a lake by its parts

@@ -6,7 +6,7 @@ use Rattle.std.proofs.lemmas.List.Elements.{All-nil, All-cons}
 use Rattle.std.proofs.lemmas.List.Splits.{slice_split_none, slice_split_at}
 use Rattle.std.proofs.lemmas.Grind.{common_steps}
 use Rattle.std.specs.List.{All, slice_split}
-use Rattle.batch_lines.specs.Command.{words_of}
+use Rattle.batch_session.specs.Command.{words_of}
 
 -- what follows a word: nothing, or a space
 abbrev EndsWord : List ℕ → Type 0

@@ -11,9 +11,9 @@ use Rattle.lake_calls.specs.Calls.{Request}
 use Rattle.lake_calls.specs.Replies.{CallReply, is_done}
 use Rattle.lake_calls.specs.Effects.{CallEffect, effect, fronts}
 use Rattle.batch_session.specs.declared.reply.Reply.{Reply}
-use Rattle.batch_lines.specs.Batch.{Lake, state_of, reply_of, after_call}
+use Rattle.batch_session.specs.Batch.{Lake, state_of, reply_of, after_call}
 use Rattle.batch_session.specs.Reply.{batch_names, text_bytes}
-use Rattle.batch_lines.specs.Text.{call_text, refusal_text}
+use Rattle.batch_session.specs.Text.{call_text, refusal_text}
 
 -- the lake of entries and objects, at which so many requests were made
 abbrev pub lake_at : ℕ → List HistoryEntry → SureBlocksValue → Lake

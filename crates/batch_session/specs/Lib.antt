@@ -1,7 +1,12 @@
+pub mod Batch
 pub mod Calling
+pub mod Command
 pub mod CommandView
+pub mod LastUploads
 pub mod Moments
+pub mod OwnEntries
 pub mod Reply
 pub mod Session
-pub mod Steps
+pub mod SureSteps
+pub mod Text
 pub mod Uploads

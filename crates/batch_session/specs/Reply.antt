@@ -2,7 +2,7 @@
 use Rattle.std.specs.Prelude.{ℕ, List, codes}
 use Rattle.batch_session.specs.declared.text.LineText.{LineText}
 use Rattle.batch_session.specs.declared.text.LineText.TheVariants.{Own, Fixed}
-use Rattle.batch_lines.specs.Text.{CallNames}
+use Rattle.batch_session.specs.Text.{CallNames}
 
 -- the bytes of a text
 abbrev pub text_bytes : LineText → List ℕ

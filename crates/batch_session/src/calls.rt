@@ -12,9 +12,9 @@ ghost use Rattle.lake_calls.specs.Effects.{drop_entries};
 ghost use Rattle.lake_calls.specs.Replies.{guarded_refusal, found_reply, place_reply, held_reply, seen_reply};
 ghost use Rattle.batch_session.specs.Calling.{IsRefused, IsStaged, ServesCall, ShowsReply, lake_at};
 ghost use Rattle.batch_session.specs.Reply.{batch_names, text_bytes};
-ghost use Rattle.batch_session.specs.Steps.{state_at};
-ghost use Rattle.batch_lines.specs.Text.{reply_text, upload_text};
-ghost use Rattle.batch_lines.specs.Command.{upload_of};
+ghost use Rattle.batch_session.specs.SureSteps.{state_at};
+ghost use Rattle.batch_session.specs.Text.{reply_text, upload_text};
+ghost use Rattle.batch_session.specs.Command.{upload_of};
 ghost use Rattle.batch_session.specs.Uploads.{upload_request};
 
 use crate::memory_lake::MemoryLake;

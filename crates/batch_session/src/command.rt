@@ -1,7 +1,7 @@
 //! What a batch's lines ask for.
 ghost use Rattle.std.specs.Prelude.{◌≡◌, ◌≢◌, false, IfOk, OnErr};
-ghost use Rattle.batch_lines.specs.Command.{is_skipped, words_of, path_of, call_of, line_value};
-ghost use Rattle.batch_lines.specs.Command.{cat_of_words, upload_of_words};
+ghost use Rattle.batch_session.specs.Command.{is_skipped, words_of, path_of, call_of, line_value};
+ghost use Rattle.batch_session.specs.Command.{cat_of_words, upload_of_words};
 ghost use Rattle.batch_session.specs.CommandView.{command_views, line_view};
 
 use crate::limits::LINE_LIMIT;

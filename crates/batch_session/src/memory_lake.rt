@@ -8,15 +8,15 @@ ghost use Rattle.lake_model.specs.Soundness.{fresh};
 ghost use Rattle.lake_model.specs.Steps.{write_causes};
 ghost use Rattle.lake_model.specs.Uncommitted.{HasTicket, put_number};
 ghost use Rattle.lake_calls.specs.Replies.{guarded_refusal};
-ghost use Rattle.batch_lines.specs.Batch.{usual_cut};
-ghost use Rattle.batch_session.specs.Steps.{IsStep, state_at};
+ghost use Rattle.batch_session.specs.Batch.{usual_cut};
+ghost use Rattle.batch_session.specs.SureSteps.{IsStep, state_at};
 
 use commit_graph::RefExpr;
 use keeper::SureKeeper;
 use lake_base::{NoMemory, Path, RefName, RepoName};
 use lake_core::{Lake, OpenFault};
 use lake_format::USUAL_CUT;
-use lake_founding::laws_of_founding;
+use core_puts::laws_of_founding;
 use lake_model::{By, Seen, StepFault};
 use lake_values::Change;
 use std::alloc::Global;
@@ -31,7 +31,7 @@ pub struct MemoryLake {
 impl Model for MemoryLake {
     ghost use Rattle.std.specs.Prelude.{List};
     ghost use Rattle.lake_model.specs.declared.history.HistoryEntry.{HistoryEntry};
-    ghost use Rattle.batch_session.specs.Steps.{IsFromFresh};
+    ghost use Rattle.batch_session.specs.SureSteps.{IsFromFresh};
 
     ghost Value = { List HistoryEntry };
 

@@ -34,9 +34,9 @@ pub struct Session {
 impl Session {
     ghost use Rattle.batch_session.specs.Session.{lake_of};
     ghost use Rattle.batch_session.specs.CommandView.{command_view};
-    ghost use Rattle.batch_lines.specs.Batch.{first_lake, next_request};
+    ghost use Rattle.batch_session.specs.Batch.{first_lake, next_request};
     ghost use Rattle.batch_session.specs.Calling.{ServesCall};
-    ghost use Rattle.batch_lines.specs.Command.{cat_call, upload_call};
+    ghost use Rattle.batch_session.specs.Command.{cat_call, upload_call};
 
     /// A session on a fresh lake, which holds no object.
     pub fn new(alloc: Global) -> Result<Session, NoMemory>

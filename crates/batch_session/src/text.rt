@@ -1,7 +1,7 @@
 //! What a batch prints.
 ghost use Rattle.std.specs.Prelude.{◌≡◌, ◌≢◌, ◌++◌, ℕ, List, IfOk};
 ghost use Rattle.lake_base.specs.Digest.{encode_lower};
-ghost use Rattle.batch_lines.specs.Text.{CallNames, gone_text, lost_text, outside_text, refusal_text, upload_text};
+ghost use Rattle.batch_session.specs.Text.{CallNames, gone_text, lost_text, outside_text, refusal_text, upload_text};
 ghost use Rattle.batch_session.specs.Reply.{text_bytes, batch_names};
 
 use lake_base::{Digest, NoMemory, Path};

@@ -1,6 +1,6 @@
 //! The words of a line.
 ghost use Rattle.std.specs.Prelude.{◌≡◌, ◌≢◌, ◌<◌, ◌≤◌, ◌∷◌, [], ℕ, length, slice_index, MatchOption};
-ghost use Rattle.batch_lines.specs.Command.{words_of};
+ghost use Rattle.batch_session.specs.Command.{words_of};
 
 // The bytes from the first that isn't a space.
 fn skip_spaces(line: &[u8]) -> &[u8]

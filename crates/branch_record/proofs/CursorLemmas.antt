@@ -19,7 +19,7 @@ use Rattle.lake_values.specs.Cursor.{entries_from}
 use Rattle.lake_values.specs.KeyMap.{ChangesValue}
 use Rattle.lake_values.specs.declared.entry.Change.{Change}
 use Rattle.lake_values.proofs.CursorLemmas.{ascends_from, below_down, lt_is, seek_passes, seek_stays}
-use Rattle.branch_record.specs.Steps.{AreFromFirst, put_row, row_above, rows_from, rows_under}
+use Rattle.branch_record.specs.TokenRows.{AreFromFirst, put_row, row_above, rows_from, rows_under}
 
 abbrev pub Row : Type 0
 Row = List ℕ × Change

@@ -21,7 +21,7 @@ use Rattle.lake_values.specs.declared.commit.ResetWhat.{ResetWhat}
 use Rattle.lake_values.specs.declared.entry.Change.{Change}
 use Rattle.lake_values.proofs.KeyMapLemmas.{same}
 use Rattle.lake_values.proofs.ResetLemmas.{get_reset}
-use Rattle.branch_record.specs.Steps.{IsNoneUnder, IsUnder}
+use Rattle.branch_record.specs.TokenRows.{IsNoneUnder, IsUnder}
 use Rattle.branch_record.proofs.ChangesLemmas.{Rows, find_lookup}
 
 greater : (x y : ℕ) → y < x → nat_cmp x y ≡ Greater

@@ -17,7 +17,7 @@ use Rattle.lake_values.specs.Reset.{drops_path, changes_after_reset}
 use Rattle.lake_values.specs.declared.commit.ResetWhat.{ResetWhat}
 use Rattle.lake_values.specs.declared.entry.Change.{Change}
 use Rattle.branch_record.specs.Tokens.{TokenMap, HasNoEmptyToken, changes_under, with_changes, with_change}
-use Rattle.branch_record.specs.Steps.{Waiting, room, some_changes, tokens_of, with_waiting, waiting_after, waiting_under, waiting_said, put_row, rows_under}
+use Rattle.branch_record.specs.TokenRows.{Waiting, room, some_changes, tokens_of, with_waiting, waiting_after, waiting_under, waiting_said, put_row, rows_under}
 use Rattle.branch_record.proofs.ChangesLemmas.{reset_dropped, reset_kept}
 use Rattle.branch_record.proofs.PrefixLemmas.{reset_nothing}
 use Rattle.branch_record.proofs.TokensLemmas.{kept, value, value_kept, kept_empty, same_tokens, turned, get_with, under_with, under_here, under_other, with_with, with_other}

@@ -1,5 +1,6 @@
+pub mod Layers
 pub mod Looking
 pub mod Overlay
 pub mod Record
-pub mod Steps
+pub mod TokenRows
 pub mod Tokens

@@ -2,14 +2,14 @@
 ghost use Rattle.std.specs.Prelude.{◌≡◌, [], ◌∷◌, MatchOption, drop, option_map, option_copied};
 ghost use Rattle.std.specs.Map.Iter.{deref_pair};
 ghost use Rattle.lake_values.specs.Cursor.{entries_from};
-ghost use Rattle.branch_record.specs.Steps.{put_row, row_above, rows_left, rows_under};
+ghost use Rattle.branch_record.specs.TokenRows.{put_row, row_above, rows_left, rows_under};
 
 use crate::ordered::OrderedChanges;
 use crate::placed::PlacedCursor;
 use lake_base::names::Path;
 use lake_values::cursor::is_below;
 use lake_values::entry::Change;
-use layer_cursor::{ChangeCursor, ChangesLeft};
+use crate::{ChangeCursor, ChangesLeft};
 use std::alloc::Global;
 use std::cmp::Ordering;
 use std::marker::Model;
@@ -30,7 +30,7 @@ impl<'a> Model for ChangesCursor<'a> {
     ghost use Rattle.lake_base.specs.Maps.{HasAscendingKeys};
     ghost use Rattle.lake_values.specs.declared.entry.Change.{Change as AnyChange};
     ghost use Rattle.lake_values.specs.contracts.entry.Change.{the_row as change_row};
-    ghost use Rattle.branch_record.specs.Steps.{put_row, rows_left};
+    ghost use Rattle.branch_record.specs.TokenRows.{put_row, rows_left};
 
     ghost Value = { List (List ℕ × AnyChange) };
 

@@ -4,7 +4,7 @@ ghost use Rattle.std.specs.FinMap as map;
 ghost use Rattle.lake_values.specs.Cursor.{entries_from};
 ghost use Rattle.lake_values.specs.Reset.{changes_after_reset};
 ghost use Rattle.lake_values.specs.declared.commit.ResetWhat.TheVariants.{Object, Prefix};
-ghost use Rattle.branch_record.specs.Steps.{IsNoneUnder, IsUnder};
+ghost use Rattle.branch_record.specs.TokenRows.{IsNoneUnder, IsUnder};
 
 use lake_base::copying::TryCopy;
 use lake_base::names::{NameFault, Path};

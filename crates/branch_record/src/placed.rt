@@ -30,7 +30,7 @@ impl<'a> Model for PlacedCursor<'a> {
     ghost use Rattle.std.specs.Coded.{coded_list, coded_ℕ, coded×};
     ghost use Rattle.lake_values.specs.declared.entry.Change.{Change as AnyChange};
     ghost use Rattle.lake_values.specs.contracts.entry.Change.{the_row as change_row};
-    ghost use Rattle.branch_record.specs.Steps.{AreFromFirst, rows_from};
+    ghost use Rattle.branch_record.specs.TokenRows.{AreFromFirst, rows_from};
 
     ghost Value = { List (List ℕ × AnyChange) };
 

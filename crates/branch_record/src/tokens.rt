@@ -6,7 +6,7 @@ ghost use Rattle.std.specs.Map.Iter.{deref_pair};
 ghost use Rattle.std.specs.FinMap as map;
 ghost use Rattle.lake_values.specs.Reset.{changes_after_reset};
 ghost use Rattle.branch_record.specs.Tokens.{HasNoEmptyToken, changes_under, with_changes, with_change};
-ghost use Rattle.branch_record.specs.Steps.{some_changes, tokens_of, waiting_after, waiting_under, waiting_said};
+ghost use Rattle.branch_record.specs.TokenRows.{some_changes, tokens_of, waiting_after, waiting_under, waiting_said};
 
 use crate::cursor::ChangesCursor;
 use crate::ordered::OrderedChanges;
@@ -31,7 +31,7 @@ pub struct Tokens {
 
 impl Model for Tokens {
     ghost use Rattle.branch_record.specs.Tokens.{TokensValue, tokens_code};
-    ghost use Rattle.branch_record.specs.Steps.{tokens_of, with_waiting, room};
+    ghost use Rattle.branch_record.specs.TokenRows.{tokens_of, with_waiting, room};
 
     ghost Value = { TokensValue };
 

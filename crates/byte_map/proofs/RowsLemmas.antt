@@ -15,7 +15,7 @@ use Rattle.std.specs.FinMap.{find, get, entries, from_entries, insert, remove, l
 use Rattle.std.proofs.lemmas.Cmp.{nat_list_cmp_total}
 use Rattle.lake_base.specs.Maps.{byte_order, ByteMap}
 use Rattle.lake_base.proofs.MapsLemmas.{same_key, tied, ascend_from}
-use Rattle.byte_map.specs.Rows.{rows_by_bytes, entries_above}
+use Rattle.byte_map.specs.MapRows.{rows_by_bytes, entries_above}
 use Rattle.byte_map.proofs.ByteMapLemmas.{same_maps, get_insert, get_remove}
 
 -- whether a key has these bytes

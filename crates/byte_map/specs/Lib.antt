@@ -1,3 +1,3 @@
 pub mod Lends
-pub mod Rows
+pub mod MapRows
 pub mod Values

@@ -4,7 +4,7 @@ ghost use Rattle.std.specs.Option.{option_copied_mut};
 ghost use Rattle.std.specs.FinMap as map;
 ghost use Rattle.std.specs.Borrow.{sem};
 ghost use Rattle.std.specs.Map.Iter.{ShowsInOrder, deref_pair};
-ghost use Rattle.byte_map.specs.Rows.{rows_by_bytes, entries_above};
+ghost use Rattle.byte_map.specs.MapRows.{rows_by_bytes, entries_above};
 
 use crate::key::ByteKey;
 use lake_base::outside::NoMemory;
@@ -24,7 +24,7 @@ impl<K: ByteKey, V> Model for ByteMap<K, V> {
     ghost use Rattle.std.specs.FinMap as map;
     ghost use Rattle.std.specs.Coded.{coded_list, coded_ℕ};
     ghost use Rattle.lake_base.specs.Maps.{ByteMap as MapTo};
-    ghost use Rattle.byte_map.specs.Rows.{rows_by_bytes};
+    ghost use Rattle.byte_map.specs.MapRows.{rows_by_bytes};
 
     ghost Value = { MapTo V };
 

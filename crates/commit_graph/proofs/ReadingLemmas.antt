@@ -13,7 +13,7 @@ use Rattle.lake_format.specs.declared.fields.FieldFault.{FieldFault}
 use Rattle.lake_format.specs.declared.fields.FieldFault.TheVariants.{Short, Bad, NoMemory}
 use Rattle.lake_format.proofs.FieldsLemmas.{bind_ok, guard_ok, ok_is, Takes, takes_then, wide16, wide64, number_takes, number_again, bytes_take, bytes_takes, bytes_again, text_limits, text_takes, text_again, long_text_limits, long_text_takes, long_text_again}
 use Rattle.lake_format.proofs.EncodingLemmas.{metadata_takes, metadata_again}
-use Rattle.commit_graph.specs.Reading.{read_generation, read_ids, read_parents, read_commit, whole, commit_from}
+use Rattle.commit_graph.specs.CommitReading.{read_generation, read_ids, read_parents, read_commit, whole, commit_from}
 use Rattle.commit_graph.specs.declared.fault.CommitFault.{CommitFault}
 use Rattle.commit_graph.specs.declared.fault.CommitFault.TheVariants.{Version, Trailing}
 

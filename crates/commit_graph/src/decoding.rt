@@ -3,7 +3,7 @@ ghost use Rattle.std.specs.Prelude.{◌≡◌, List, [], ◌≤◌, length, Ok, 
 ghost use Rattle.lake_values.specs.Commit.{CommitRecordValue};
 ghost use Rattle.lake_format.specs.Spelling.{commit_spelling, IsSpelledCommit};
 ghost use Rattle.lake_format.specs.Reading.{ReadsAs};
-ghost use Rattle.commit_graph.specs.Reading.{Answers, read_generation, read_ids, read_parents, read_commit, commit_from};
+ghost use Rattle.commit_graph.specs.CommitReading.{Answers, read_generation, read_ids, read_parents, read_commit, commit_from};
 
 use crate::fault::{CommitFault, fault_of};
 use lake_base::digest::Digest;
@@ -33,7 +33,7 @@ pub fn commit_read(alloc: Global, bytes: &[u8]) -> Result<CommitRecord, CommitFa
 }
 
 // The commit, and nothing behind it.
-#[tactic(auto, unfolding(crate::specs::Reading::commit_from))]
+#[tactic(auto, unfolding(crate::specs::CommitReading::commit_from))]
 fn read_whole(alloc: Global, bytes: &[u8]) -> Result<CommitRecord, CommitFault>
     ensures { Answers result (commit_from bytes.now) }
 {
@@ -51,7 +51,7 @@ fn read_whole(alloc: Global, bytes: &[u8]) -> Result<CommitRecord, CommitFault>
 }
 
 /// The fields of a commit behind its version, and the bytes after them.
-#[tactic(auto, unfolding(crate::specs::Reading::read_commit))]
+#[tactic(auto, unfolding(crate::specs::CommitReading::read_commit))]
 pub fn read_commit(alloc: Global, bytes: &[u8]) -> Result<(CommitRecord, &[u8]), FieldFault>
     ensures { ReadsAs (λ x. (x.0, x.1.now)) result (read_commit bytes.now) }
 {
@@ -75,7 +75,7 @@ pub fn read_commit(alloc: Global, bytes: &[u8]) -> Result<(CommitRecord, &[u8]),
 }
 
 // A generation: a number of eight bytes, at least 1.
-#[tactic(auto, unfolding(crate::specs::Reading::read_generation))]
+#[tactic(auto, unfolding(crate::specs::CommitReading::read_generation))]
 fn read_generation(bytes: &[u8]) -> Result<(u64, &[u8]), FieldFault>
     ensures { ReadsAs (λ x. (x.0, x.1.now)) result (read_generation bytes.now) }
 {
@@ -87,7 +87,7 @@ fn read_generation(bytes: &[u8]) -> Result<(u64, &[u8]), FieldFault>
 }
 
 // The ids of parents behind their count, which is at most 2.
-#[tactic(auto, unfolding(crate::specs::Reading::read_parents))]
+#[tactic(auto, unfolding(crate::specs::CommitReading::read_parents))]
 fn read_parents(alloc: Global, bytes: &[u8]) -> Result<(Vec<Digest>, &[u8]), FieldFault>
     ensures { ReadsAs (λ x. (x.0.items, x.1.now)) result (read_parents bytes.now) }
 {

@@ -17,7 +17,7 @@ ghost use Rattle.std.specs.Int.{w16, to_be_bytes};
 ghost use Rattle.std.specs.List.{flat_map, AllByRecursion};
 ghost use Rattle.lake_values.specs.Commit.{CommitRecordValue};
 ghost use Rattle.lake_format.specs.Spelling.{commit_spelling, IsDigest, IsSpelledCommit, AreBytes};
-ghost use Rattle.commit_graph.specs.Reading.{commit_from};
+ghost use Rattle.commit_graph.specs.CommitReading.{commit_from};
 
 use lake_base::digest::Digest;
 use lake_base::outside::NoMemory;

@@ -1,6 +1,6 @@
 //! Why bytes aren't the spelling of a commit, and why a commit can't join a graph.
 ghost use Rattle.std.specs.Prelude.{◌≡◌};
-ghost use Rattle.commit_graph.specs.Reading.{fault_of};
+ghost use Rattle.commit_graph.specs.CommitReading.{fault_of};
 ghost use Rattle.commit_graph.specs.declared.fault.GraphFault.TheVariants.{NoMemory as graph_no_memory};
 
 use lake_base::digest::Digest;

@@ -4,7 +4,7 @@ use Rattle.std.specs.Option.{option_or}
 use Rattle.keeper.specs.declared.memory.KeeperFail.{KeeperFail}
 use Rattle.std.specs.List.{list_any}
 use Rattle.lake_base.specs.Memory.{next_count}
-use Rattle.keeper.specs.Memory.{is_load, is_load_to_fail, landing, first_landing}
+use Rattle.keeper.specs.FailingKeepers.{is_load, is_load_to_fail, landing, first_landing}
 
 -- what is left begins with the failure at a place
 pub landing_at : (number : ℕ) (fails : List KeeperFail) (i : ℕ) (x : KeeperFail) → i < length fails → x ≡ get_or fails i x

@@ -1,2 +1,2 @@
+pub mod FailingKeepers
 pub mod Keepers
-pub mod Memory

@@ -5,7 +5,7 @@ ghost use Rattle.lake_base.specs.Maps.{HasAscendingKeys};
 ghost use Rattle.lake_base.specs.Memory.{next_count};
 ghost use Rattle.lake_base.specs.declared.outside.Trouble.TheVariants.{Failed as trouble_failed, NoMemory as trouble_no_memory};
 ghost use Rattle.keeper.specs.Keepers.{FailsByFault, MayHaveMade, entries_of, pairs_after};
-ghost use Rattle.keeper.specs.Memory.{is_load, is_load_to_fail, landing, first_landing, put_landing, faults_after};
+ghost use Rattle.keeper.specs.FailingKeepers.{is_load, is_load_to_fail, landing, first_landing, put_landing, faults_after};
 ghost use Rattle.std.specs.List.{list_any};
 
 use crate::keeper::Keeper;
@@ -37,7 +37,7 @@ pub struct MemoryKeeper {
 }
 
 impl Model for MemoryKeeper {
-    ghost use Rattle.keeper.specs.Memory.{MemoryKeeperValue, memory_keeper_code};
+    ghost use Rattle.keeper.specs.FailingKeepers.{MemoryKeeperValue, memory_keeper_code};
 
     ghost Value = { MemoryKeeperValue };
 

@@ -21,27 +21,27 @@ use Rattle.lake_model.specs.Commits.{Draft, record_of}
 use Rattle.lake_model.specs.Refusals.{Causes, Clash, cause_if, clash_fault, first_cause, first_of}
 use Rattle.lake_model.specs.Steps.{IsSwapClash, IsSwapReply, is_current, swap_causes, swap_operation, swap_rule}
 use Rattle.lake_model.specs.Versions.{VersionsGiven, branch_version, settings_version}
-use Rattle.step_laws.specs.Prepared.{IsPrepared, WhereThere}
-use Rattle.lake_state.specs.Branches.{BranchStateValue, branch_of}
-use Rattle.lake_state.specs.Counts.{HasVersions}
-use Rattle.lake_state.specs.declared.lake.LakeState.{LakeState}
-use Rattle.lake_state.specs.Lakes.{LakeStateValue, lake_value, state_of}
-use Rattle.lake_state.specs.NewHeads.{NewCommit, commit_of_draft}
-use Rattle.lake_state.specs.Repositories.{RepositoryStateValue, repository_of}
-use Rattle.lake_changes.specs.LakeChanges.{after_new_head}
-use Rattle.lake_puts.specs.Puts.{new_head_puts}
-use Rattle.lake_standing.specs.Standing.{MayMake, Stands, versions_since}
-use Rattle.lake_keeping.specs.Keeping.{Parts}
-use Rattle.lake_keeping.specs.Views.{KeeperView}
-use Rattle.lake_committing.specs.Keeping.{MayHave, MayHaveIn}
-use Rattle.lake_committing.specs.Making.{HeadMaking, IsHeadFaulted, IsHeadMade, LeavesHead, head_answer, head_making}
-use Rattle.lake_committing.specs.NewHeads.{draft_for}
-use Rattle.lake_committing.specs.Testing.{HasTreeFor}
-use Rattle.lake_committing.proofs.PlaceLemmas.{in_state, on_state, same_some, where_there}
-use Rattle.lake_core.specs.Heads.{IsReadyFor, IsReadyOn}
+use Rattle.lake_laws.specs.Prepared.{IsPrepared, WhereThere}
+use Rattle.core_state.specs.BranchStates.{BranchStateValue, branch_of}
+use Rattle.core_state.specs.Counts.{HasVersions}
+use Rattle.core_state.specs.declared.lake.LakeState.{LakeState}
+use Rattle.core_state.specs.LakeStates.{LakeStateValue, lake_value, state_of}
+use Rattle.core_state.specs.NewCommits.{NewCommit, commit_of_draft}
+use Rattle.core_state.specs.RepositoryStates.{RepositoryStateValue, repository_of}
+use Rattle.core_changes.specs.LakeChanges.{after_new_head}
+use Rattle.core_puts.specs.Puts.{new_head_puts}
+use Rattle.core_standing.specs.Standing.{MayMake, Stands, versions_since}
+use Rattle.core_puts.specs.KeptChanges.{Parts}
+use Rattle.core_puts.specs.KeeperViews.{KeeperView}
+use Rattle.core_commits.specs.KeptHeads.{MayHave, MayHaveIn}
+use Rattle.core_commits.specs.Making.{HeadMaking, IsHeadFaulted, IsHeadMade, LeavesHead, head_answer, head_making}
+use Rattle.core_commits.specs.HeadOperations.{draft_for}
+use Rattle.core_commits.specs.Testing.{HasTreeFor}
+use Rattle.core_commits.proofs.PlaceLemmas.{in_state, on_state, same_some, where_there}
+use Rattle.lake_core.specs.HeadConditions.{IsReadyFor, IsReadyOn}
 use Rattle.lake_core.specs.Lakes.{LakeValue}
 use Rattle.lake_core.specs.Makings.{swap as swap_making}
-use Rattle.lake_core.specs.Steps.{IsFaulted, IsMade, Leaves}
+use Rattle.lake_core.specs.Leaving.{IsFaulted, IsMade, Leaves}
 
 -- ---- no cause
 

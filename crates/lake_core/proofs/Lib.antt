@@ -1,5 +1,11 @@
+pub mod ChangeLemmas
+pub mod FaultLemmas
+pub mod HeadLemmas
+pub mod NewNumberLemmas
+pub mod NumberLemmas
 pub mod OpeningLemmas
 pub mod PreparingLemmas
 pub mod RepositoryLemmas
+pub mod RunLemmas
 pub mod StepLemmas
-pub mod HeadLemmas
+pub mod StopLemmas

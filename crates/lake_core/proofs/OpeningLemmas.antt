@@ -10,16 +10,16 @@ use Rattle.lake_base.specs.Outside.{Rose}
 use Rattle.lake_base.specs.declared.outside.Trouble.{Trouble}
 use Rattle.lake_base.specs.declared.outside.Trouble.TheVariants.{Failed, NoMemory}
 use Rattle.lake_format.specs.declared.cut.Cut.{Cut}
-use Rattle.lake_founding.specs.Founding.{fresh_puts}
+use Rattle.core_puts.specs.FreshLakes.{fresh_puts}
 use Rattle.pair_format.specs.declared.pair.Pair.{Pair}
 use Rattle.lake_model.specs.declared.history.HistoryEntry.{HistoryEntry}
-use Rattle.lake_state.specs.declared.lake.LakeState.{LakeState}
-use Rattle.lake_state.specs.Lakes.{LakeStateValue}
+use Rattle.core_state.specs.declared.lake.LakeState.{LakeState}
+use Rattle.core_state.specs.LakeStates.{LakeStateValue}
 use Rattle.lake_core.specs.declared.open_fault.OpenFault.{OpenFault}
 use Rattle.lake_core.specs.OpenFaults.{open_fault_of}
 use Rattle.lake_core.specs.Opening.{IsTried, IsUnopened}
-use Rattle.lake_keeping.specs.Views.{IsLaterKeeper, KeeperView}
-use Rattle.lake_standing.specs.Standing.{Stands}
+use Rattle.core_puts.specs.KeeperViews.{IsLaterKeeper, KeeperView}
+use Rattle.core_standing.specs.Standing.{Stands}
 
 -- a number that isn't 0
 abbrev IsAbove : ℕ → Type 0

@@ -3,7 +3,7 @@ use Rattle.std.proofs.Common.{◌≡◌, ◌<◌, sym, subst}
 use Rattle.std.specs.Prelude.{Result, Ok, Err, IfOk}
 use Rattle.lake_format.specs.declared.cut.Cut.{Cut}
 use Rattle.lake_model.specs.declared.fault.StepFault.{StepFault}
-use Rattle.lake_preparing.specs.declared.prepared.Prepared.{Prepared}
+use Rattle.core_readings.specs.declared.prepared.Prepared.{Prepared}
 
 -- the modulus of the cut is above 0
 pub modulus_told : (answer : Result Prepared StepFault) (cut : Cut) → IfOk answer (λ p. p.cut ≡ cut) → 0 < cut.modulus

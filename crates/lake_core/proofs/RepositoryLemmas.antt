@@ -11,15 +11,15 @@ use Rattle.lake_model.specs.State.{State}
 use Rattle.lake_model.specs.Commits.{bare_repository, first_draft}
 use Rattle.lake_model.specs.Refusals.{Clash, IsClashOrNone, IsRefusal, first_cause}
 use Rattle.lake_model.specs.Steps.{IsCreateRepositoryReply, create_repository_causes, next_place}
-use Rattle.lake_causes.specs.Clashing.{AsksToCreate}
-use Rattle.lake_changes.specs.LakeChanges.{after_repository_create}
-use Rattle.lake_changes.specs.LakeRoom.{HasRepositoryRoom}
-use Rattle.lake_changes.specs.NewRepositories.{IsNew}
-use Rattle.lake_state.specs.Lakes.{LakeStateValue}
-use Rattle.lake_state.specs.declared.lake.LakeState.{LakeState}
-use Rattle.lake_keeping.specs.Keeping.{Keeps, Parts}
-use Rattle.lake_keeping.specs.Views.{KeeperView}
-use Rattle.lake_core.specs.Ready.{IsReadyRepository}
+use Rattle.core_causes.specs.Clashing.{AsksToCreate}
+use Rattle.core_changes.specs.LakeChanges.{after_repository_create}
+use Rattle.core_changes.specs.LakeRoom.{HasRepositoryRoom}
+use Rattle.core_changes.specs.NewRepositories.{IsNew}
+use Rattle.core_state.specs.LakeStates.{LakeStateValue}
+use Rattle.core_state.specs.declared.lake.LakeState.{LakeState}
+use Rattle.core_puts.specs.KeptChanges.{Keeps, Parts}
+use Rattle.core_puts.specs.KeeperViews.{KeeperView}
+use Rattle.lake_core.specs.ReadyChanges.{IsReadyRepository}
 use Rattle.lake_core.specs.declared.ready.ReadyRepository.{ReadyRepository}
 use Rattle.lake_core.proofs.StepLemmas.{accepted, refused_reply, same_err, starved_reply, unkept_reply}
 

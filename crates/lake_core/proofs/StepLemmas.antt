@@ -17,16 +17,16 @@ use Rattle.lake_model.specs.Refusals.{Causes, GivesOrFails, IsRefusal, first_cau
 use Rattle.lake_model.specs.Steps.{IsReplyOf}
 use Rattle.lake_model.specs.Uncommitted.{put_number}
 use Rattle.lake_model.specs.Versions.{VersionsGiven, settings_version}
-use Rattle.lake_state.specs.Counts.{HasVersions}
-use Rattle.lake_state.specs.Repositories.{RepositoryStateValue}
-use Rattle.lake_state.specs.declared.lake.LakeState.{LakeState}
-use Rattle.lake_state.specs.Lakes.{LakeStateValue, lake_value}
-use Rattle.lake_changes.specs.LakeChanges.{after_fault, after_stage, without_ticket}
-use Rattle.lake_standing.specs.Standing.{MayMake, Stands}
+use Rattle.core_state.specs.Counts.{HasVersions}
+use Rattle.core_state.specs.RepositoryStates.{RepositoryStateValue}
+use Rattle.core_state.specs.declared.lake.LakeState.{LakeState}
+use Rattle.core_state.specs.LakeStates.{LakeStateValue, lake_value}
+use Rattle.core_changes.specs.LakeChanges.{after_fault, after_stage, without_ticket}
+use Rattle.core_standing.specs.Standing.{MayMake, Stands}
 use Rattle.lake_core.specs.Lakes.{LakeValue, state, versions}
-use Rattle.lake_keeping.specs.Views.{KeeperView}
-use Rattle.lake_core.specs.Steps.{IsAsBefore, IsMade, Leaves, Making}
-use Rattle.lake_keeping.specs.Keeping.{HasKept, Keeps, Parts}
+use Rattle.core_puts.specs.KeeperViews.{KeeperView}
+use Rattle.lake_core.specs.Leaving.{IsAsBefore, IsMade, Leaves, Making}
+use Rattle.core_puts.specs.KeptChanges.{HasKept, Keeps, Parts}
 
 module _ {opened : LakeStateValue} {history : List HistoryEntry} {l : LakeStateValue} {by : By} {operation : Operation}
     {make : LakeStateValue → LakeStateValue} (may : MayMake opened history l by operation make) where

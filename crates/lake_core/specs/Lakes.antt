@@ -4,9 +4,9 @@ use Rattle.lake_model.specs.declared.history.HistoryEntry.{HistoryEntry}
 use Rattle.lake_model.specs.State.{State}
 use Rattle.lake_model.specs.History.{replay}
 use Rattle.lake_model.specs.Versions.{VersionsGiven}
-use Rattle.lake_state.specs.declared.lake.LakeState.{LakeState}
-use Rattle.lake_state.specs.Lakes.{lake_value, state_of}
-use Rattle.lake_standing.specs.Standing.{versions_since}
+use Rattle.core_state.specs.declared.lake.LakeState.{LakeState}
+use Rattle.core_state.specs.LakeStates.{lake_value, state_of}
+use Rattle.core_standing.specs.Standing.{versions_since}
 
 -- a lake: what it was opened as, the entries since, what it is in memory now, and the keeper of its pairs
 pub record LakeValue (K : Type 0) : Type 0 where

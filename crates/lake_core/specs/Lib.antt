@@ -1,7 +1,10 @@
+pub mod Faults
+pub mod HeadConditions
 pub mod Lakes
-pub mod Steps
+pub mod Leaving
 pub mod Makings
-pub mod Ready
-pub mod Opening
+pub mod Numbers
 pub mod OpenFaults
-pub mod Heads
+pub mod Opening
+pub mod ReadyChanges
+pub mod Runs

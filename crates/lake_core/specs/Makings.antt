@@ -14,12 +14,12 @@ use Rattle.lake_model.specs.declared.history.Operation.TheVariants.{BranchCreate
 use Rattle.lake_model.specs.declared.history.SealFor.{SealFor}
 use Rattle.lake_model.specs.declared.reply.SwapKind.{SwapKind}
 use Rattle.lake_model.specs.Steps.{copied_entry, copy_source, in_it, target_in}
-use Rattle.lake_state.specs.declared.lake.LakeState.{LakeState}
-use Rattle.lake_state.specs.Lakes.{LakeStateValue, state_of}
-use Rattle.lake_changes.specs.LakeChanges.{after_branch_create, after_branch_delete, after_copy, after_note_set, after_repository_create, after_reset, after_seal, after_stage, after_tag_create, after_tag_delete, after_ticket_drop, after_ticket_take}
-use Rattle.lake_puts.specs.Puts.{create_branch_puts, create_repository_puts, create_tag_puts, delete_branch_puts, delete_tag_puts, reset_puts, seal_puts, set_note_puts, stage_puts, ticket_puts}
-use Rattle.lake_committing.specs.Making.{head_making}
-use Rattle.lake_core.specs.Steps.{Making}
+use Rattle.core_state.specs.declared.lake.LakeState.{LakeState}
+use Rattle.core_state.specs.LakeStates.{LakeStateValue, state_of}
+use Rattle.core_changes.specs.LakeChanges.{after_branch_create, after_branch_delete, after_copy, after_note_set, after_repository_create, after_reset, after_seal, after_stage, after_tag_create, after_tag_delete, after_ticket_drop, after_ticket_take}
+use Rattle.core_puts.specs.Puts.{create_branch_puts, create_repository_puts, create_tag_puts, delete_branch_puts, delete_tag_puts, reset_puts, seal_puts, set_note_puts, stage_puts, ticket_puts}
+use Rattle.core_commits.specs.Making.{head_making}
+use Rattle.lake_core.specs.Leaving.{Making}
 
 -- a number is given out to a seat
 abbrev pub take_ticket : ℕ → List ℕ → List ℕ → LakeStateValue → Making

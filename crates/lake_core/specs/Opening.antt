@@ -4,13 +4,13 @@ use Rattle.std.specs.FinMap.{empty}
 use Rattle.lake_base.specs.Outside.{Rose}
 use Rattle.keeper.specs.Keepers.{pairs_after}
 use Rattle.lake_format.specs.declared.cut.Cut.{Cut}
-use Rattle.lake_founding.specs.Founding.{fresh_puts}
-use Rattle.lake_state.specs.Founding.{fresh_lake}
-use Rattle.lake_state.specs.Lakes.{lake_value}
+use Rattle.core_puts.specs.FreshLakes.{fresh_puts}
+use Rattle.core_state.specs.FirstStates.{fresh_lake}
+use Rattle.core_state.specs.LakeStates.{lake_value}
 use Rattle.lake_core.specs.declared.open_fault.OpenFault.{OpenFault}
 use Rattle.lake_core.specs.declared.open_fault.OpenFault.TheVariants.{BadPair, NoMemory, StoreFault}
 use Rattle.lake_core.specs.Lakes.{LakeValue}
-use Rattle.lake_keeping.specs.Views.{IsCalledOnce, IsLaterKeeper, IsNotCalled, KeeperView}
+use Rattle.core_puts.specs.KeeperViews.{IsCalledOnce, IsLaterKeeper, IsNotCalled, KeeperView}
 
 -- a keeper had no pairs, where it tells, and made the fresh lake's puts by one call
 pub record IsFilled {K : Type 0} (view : KeeperView K) (cut : Cut) (old new : K) : Type 0 where

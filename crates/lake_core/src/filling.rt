@@ -1,14 +1,14 @@
 //! The pairs of a fresh lake, which a keeper without pairs is given.
 ghost use Rattle.std.specs.Prelude.{◌≡◌, [], true, false, MatchResult};
-ghost use Rattle.lake_state.specs.Lakes.{lake_value};
-ghost use Rattle.lake_state.specs.Founding.{fresh_lake};
+ghost use Rattle.core_state.specs.LakeStates.{lake_value};
+ghost use Rattle.core_state.specs.FirstStates.{fresh_lake};
 ghost use Rattle.lake_core.specs.Opening.{IsFilled, IsUnopened};
 
 use crate::open_fault::OpenFault;
 use keeper::{Keeper, Pair};
 use lake_format::Cut;
-use lake_founding::{fresh_lake, fresh_puts};
-use lake_state::LakeState;
+use core_puts::{fresh_lake, fresh_puts};
+use core_state::LakeState;
 use std::alloc::Global;
 
 // The fresh lake of a cut, whose puts a keeper without pairs makes by one call. StoreFault, BadPair, NoMemory.

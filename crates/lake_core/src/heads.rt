@@ -1,19 +1,19 @@
 //! Commits, merges and picks, by which a branch has a new head.
 ghost use Rattle.std.specs.Prelude.{◌≡◌};
 ghost use Rattle.lake_model.specs.Steps.{IsSwapReply, swap_rule};
-ghost use Rattle.lake_committing.specs.Making.{head_answer};
-ghost use Rattle.lake_core.specs.Heads.{IsReadyFor};
+ghost use Rattle.core_commits.specs.Making.{head_answer};
+ghost use Rattle.lake_core.specs.HeadConditions.{IsReadyFor};
 ghost use Rattle.lake_core.specs.Lakes.{state, versions};
 ghost use Rattle.lake_core.specs.Makings.{swap};
-ghost use Rattle.lake_core.specs.Steps.{Leaves};
+ghost use Rattle.lake_core.specs.Leaving.{Leaves};
 
 use crate::lake::Lake;
 use keeper::Keeper;
 use lake_base::{RefName, RepoName};
-use lake_committing::Guard;
-use lake_heads::law_of_new_heads;
+use core_commits::Guard;
+use core_standing::law_of_new_heads;
 use lake_model::{By, StepFault, SwapKind};
-use lake_standing::law_of_present;
+use core_standing::law_of_present;
 use lake_values::{About, CommitId, CommitRecord};
 use meta_range::Tree;
 
@@ -44,7 +44,7 @@ impl<K: Keeper> Lake<K> {
     {
         law_of_present();
         law_of_new_heads();
-        lake_committing::swap(
+        core_commits::swap(
             self.alloc,
             &mut self.keeper,
             &mut self.history,

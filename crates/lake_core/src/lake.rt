@@ -1,10 +1,10 @@
 //! The lake.
 ghost use Rattle.std.specs.Prelude.{◌≡◌};
-ghost use Rattle.lake_standing.specs.Standing.{Stands};
+ghost use Rattle.core_standing.specs.Standing.{Stands};
 
 use keeper::Keeper;
 use lake_model::HistoryEntry;
-use lake_state::LakeState;
+use core_state::LakeState;
 use std::alloc::Global;
 use std::marker::Model;
 use std::snapshot::Snapshot;
@@ -22,9 +22,9 @@ pub struct Lake<K: Keeper> {
 
 impl<K: Keeper> Model for Lake<K> {
     ghost use Rattle.std.specs.Coded.{codes};
-    ghost use Rattle.lake_state.specs.Lakes.{lake_value};
-    ghost use Rattle.lake_state.specs.contracts.lake.LakeState as in_memory;
-    ghost use Rattle.lake_standing.specs.Standing.{Stands};
+    ghost use Rattle.core_state.specs.LakeStates.{lake_value};
+    ghost use Rattle.core_state.specs.contracts.lake.LakeState as in_memory;
+    ghost use Rattle.core_standing.specs.Standing.{Stands};
     ghost use Rattle.lake_core.specs.Lakes.{LakeValue};
 
     ghost Value = { LakeValue K };
@@ -43,10 +43,10 @@ impl<K: Keeper> Model for Lake<K> {
 }
 
 impl<K: Keeper> Lake<K> {
-    ghost use Rattle.lake_state.specs.Lakes.{lake_value};
+    ghost use Rattle.core_state.specs.LakeStates.{lake_value};
 
     /// How many entries its state counts: the place of the last one. It takes no memory.
-    #[tactic(auto, unfolding(lake_state::specs::Lakes::lake_value))]
+    #[tactic(auto, unfolding(core_state::specs::LakeStates::lake_value))]
     pub fn entries(&self) -> u64
         ensures count { result ≡ (lake_value self.now.present).entries }
         ensures stands { Stands (lake_value self.now.opened) self.now.history (lake_value self.now.present) }

@@ -7,29 +7,29 @@ ghost use Rattle.lake_values.specs.NoteNames.{note_name};
 ghost use Rattle.lake_model.specs.declared.history.Operation.TheVariants as operation;
 ghost use Rattle.lake_model.specs.Refusals.{GivesOrFails};
 ghost use Rattle.lake_model.specs.Steps.{set_note_reply};
-ghost use Rattle.lake_state.specs.Counts.{AreFew};
-ghost use Rattle.lake_state.specs.Lakes.{lake_value};
-ghost use Rattle.lake_puts.specs.Puts as puts;
-ghost use Rattle.lake_puts.specs.Puts.{HasText};
+ghost use Rattle.core_state.specs.Counts.{AreFew};
+ghost use Rattle.core_state.specs.LakeStates.{lake_value};
+ghost use Rattle.core_puts.specs.Puts as puts;
+ghost use Rattle.core_puts.specs.Puts.{HasText};
 ghost use Rattle.lake_core.specs.Lakes.{state, versions};
 ghost use Rattle.lake_core.specs.Makings.{set_note};
-ghost use Rattle.lake_core.specs.Ready.{IsReady};
-ghost use Rattle.lake_core.specs.Steps.{Leaves};
+ghost use Rattle.lake_core.specs.ReadyChanges.{IsReady};
+ghost use Rattle.lake_core.specs.Leaving.{Leaves};
 
 use crate::lake::Lake;
 use crate::ready::Ready;
 use keeper::Keeper;
 use lake_base::{NoMemory, RepoName, TryCopy};
-use lake_causes::test_set_note;
-use lake_changes::lake as change;
-use lake_keeping::{keep, place};
+use core_causes::test_set_note;
+use core_changes::lake as change;
+use core_puts::{keep, place};
 use lake_model::{By, Operation, StepFault};
-use lake_puts::set_note_puts;
-use lake_standing::{law_of_settings, laws_of_plain_names};
-use lake_state::LakeState;
+use core_puts::set_note_puts;
+use core_standing::{law_of_settings, laws_of_plain_names};
+use core_state::LakeState;
 use lake_values::{Note, NoteName};
 use std::alloc::Global;
-use step_laws::causes::laws_of_causes;
+use lake_laws::causes::laws_of_causes;
 
 impl<K: Keeper> Lake<K> {
     /// Sets a setting of the name, or deletes it where no new one is given, where the settings have the version that is

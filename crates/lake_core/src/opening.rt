@@ -7,10 +7,10 @@ use crate::lake::Lake;
 use crate::open_fault::OpenFault;
 use keeper::Keeper;
 use lake_format::Cut;
-use lake_founding::laws_of_founding;
+use core_puts::laws_of_founding;
 use lake_laws::soundness::law_of_soundness;
 use lake_laws::versions::law_of_next_versions;
-use lake_standing::{law_of_opening, law_of_versions_below};
+use core_standing::{law_of_opening, law_of_versions_below};
 use std::alloc::Global;
 use std::snapshot::Snapshot;
 

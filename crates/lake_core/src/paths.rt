@@ -15,35 +15,35 @@ ghost use Rattle.lake_model.specs.Refusals.{GivesOrFails, IsRefusal, first_cause
 ghost use Rattle.lake_model.specs.Steps.{IsCopyReply, copy_causes, stage_causes, stage_reply};
 ghost use Rattle.lake_model.specs.Uncommitted.{HasTicket, put_number};
 ghost use Rattle.lake_values.specs.declared.entry.Change.TheVariants.{Put as put};
-ghost use Rattle.lake_causes.specs.Finding.{FindsCopy, source_of};
-ghost use Rattle.lake_changes.specs.LakeChanges.{after_copy};
-ghost use Rattle.lake_standing.specs.Standing.{MayMake, Stands, versions_since};
-ghost use Rattle.lake_changes.specs.LakeRoom.{HasRoomAt};
-ghost use Rattle.lake_changes.specs.declared.repository.Room.TheVariants as room;
-ghost use Rattle.lake_state.specs.Counts.{HasVersions};
-ghost use Rattle.lake_state.specs.Lakes.{LakeStateValue, lake_value, state_of};
-ghost use Rattle.lake_puts.specs.Puts.{stage_puts};
+ghost use Rattle.core_causes.specs.Finding.{FindsCopy, source_of};
+ghost use Rattle.core_changes.specs.LakeChanges.{after_copy};
+ghost use Rattle.core_standing.specs.Standing.{MayMake, Stands, versions_since};
+ghost use Rattle.core_changes.specs.LakeRoom.{HasRoomAt};
+ghost use Rattle.core_changes.specs.declared.repository.Room.TheVariants as room;
+ghost use Rattle.core_state.specs.Counts.{HasVersions};
+ghost use Rattle.core_state.specs.LakeStates.{LakeStateValue, lake_value, state_of};
+ghost use Rattle.core_puts.specs.Puts.{stage_puts};
 ghost use Rattle.lake_core.specs.Lakes.{state, versions};
 ghost use Rattle.lake_core.specs.Makings.{copy, stage};
-ghost use Rattle.lake_core.specs.Ready.{IsReady, IsReadyCopy, IsTestedCopy};
-ghost use Rattle.lake_core.specs.Steps.{Leaves};
+ghost use Rattle.lake_core.specs.ReadyChanges.{IsReady, IsReadyCopy, IsTestedCopy};
+ghost use Rattle.lake_core.specs.Leaving.{Leaves};
 
 use crate::lake::Lake;
 use crate::ready::{Ready, ReadyCopy, TestedCopy};
 use commit_graph::RefExpr;
 use keeper::{Keeper, Put};
 use lake_base::{NoMemory, Path, RefName, RepoName, TryCopy};
-use lake_causes::{Copied, test_copy, test_stage};
-use lake_changes::lake as change;
-use lake_changes::repository::Room;
-use lake_keeping::{keep, place};
+use core_causes::{Copied, test_copy, test_stage};
+use core_changes::lake as change;
+use core_changes::repository::Room;
+use core_puts::{keep, place};
 use lake_model::{By, CopySource, Operation, StepFault};
-use lake_puts::{copy_puts, stage_puts};
-use lake_standing::{law_of_present, laws_of_writes};
-use lake_state::LakeState;
+use core_puts::{copy_puts, stage_puts};
+use core_standing::{law_of_present, laws_of_writes};
+use core_state::LakeState;
 use lake_values::{Change, CommitId, Entry};
 use std::alloc::Global;
-use step_laws::causes::laws_of_causes;
+use lake_laws::causes::laws_of_causes;
 
 impl<K: Keeper> Lake<K> {
     /// Stages a change on a branch of this version: the place of the entry. The ticket of an own object's number goes,

@@ -3,15 +3,15 @@ ghost use Rattle.std.specs.Prelude.{◌≡◌, ◌<◌, ◌↔◌, IfOk, IfSome,
 ghost use Rattle.lake_format.specs.Cutting.{files};
 ghost use Rattle.lake_model.specs.Preparing.{prepare_reply};
 ghost use Rattle.lake_model.specs.Refusals.{Gives};
-ghost use Rattle.lake_preparing.specs.Preparations.{HasCutSides, HasSides, prepared_answer};
+ghost use Rattle.core_readings.specs.Preparations.{HasCutSides, HasSides, prepared_answer};
 ghost use Rattle.lake_core.specs.Lakes.{state, versions};
 
 use crate::lake::Lake;
 use keeper::Keeper;
 use lake_base::{RefName, RepoName};
 use lake_model::{Sides, StepFault};
-use lake_preparing::Prepared;
-use lake_standing::law_of_present;
+use core_readings::Prepared;
+use core_standing::law_of_present;
 
 impl<K: Keeper> Lake<K> {
     /// What a commit, a merge or a pick on a branch is made from: the versions by which it is guarded, the head with its
@@ -35,7 +35,7 @@ impl<K: Keeper> Lake<K> {
         ensures modulus { IfOk result (λ p. 0 < p.cut.modulus) }
     {
         law_of_present();
-        lake_preparing::prepare(self.alloc, &self.present, repo, branch, sides)
+        core_readings::prepare(self.alloc, &self.present, repo, branch, sides)
     }
 
     /// Whether the commits of a merge or a pick are commits of a repository; they are of one that isn't there. It takes
@@ -43,6 +43,6 @@ impl<K: Keeper> Lake<K> {
     pub fn are_commits(&self, repo: &RepoName, sides: &Sides) -> bool
         ensures { IsTrue result ↔ HasSides (state self.now) repo.now sides.now }
     {
-        lake_preparing::are_commits(&self.present, repo, sides)
+        core_readings::are_commits(&self.present, repo, sides)
     }
 }

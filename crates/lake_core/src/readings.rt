@@ -2,7 +2,7 @@
 ghost use Rattle.std.specs.Prelude.{◌≡◌, option_copied};
 ghost use Rattle.lake_model.specs.Readings.{find_reply, log_reply, look_reply, names_reply, note_reply, page_reply, repositories_reply, resolve_reply, versions_reply};
 ghost use Rattle.lake_model.specs.Refusals.{Gives};
-ghost use Rattle.lake_readings.specs.Answers.{list_answer, log_answer, note_answer, page_answer};
+ghost use Rattle.core_readings.specs.Answers.{list_answer, log_answer, note_answer, page_answer};
 ghost use Rattle.lake_core.specs.Lakes.{state, versions};
 
 use crate::lake::Lake;
@@ -11,7 +11,7 @@ use keeper::Keeper;
 use lake_base::{Path, RefName, RepoName, Sequence, Text};
 use lake_model::{Point, RepoInfo, Seen, StepFault, Versions};
 use lake_pages::{Page, PageQuery};
-use lake_standing::law_of_present;
+use core_standing::law_of_present;
 use lake_values::{CommitId, CommitRecord, Note, NoteName};
 
 impl<K: Keeper> Lake<K> {
@@ -21,7 +21,7 @@ impl<K: Keeper> Lake<K> {
         ensures { Gives result (resolve_reply (state self.now) repo.now e.now) }
     {
         law_of_present();
-        lake_readings::resolve(self.alloc, &self.present, repo, e)
+        core_readings::resolve(self.alloc, &self.present, repo, e)
     }
 
     /// What stands at a path: on a plain branch what is read on it now, else the commit's entry; and whether its object
@@ -30,7 +30,7 @@ impl<K: Keeper> Lake<K> {
         ensures { Gives result (look_reply (state self.now) repo.now e.now path.now) }
     {
         law_of_present();
-        lake_readings::look(self.alloc, &self.present, repo, e, path)
+        core_readings::look(self.alloc, &self.present, repo, e, path)
     }
 
     /// Where the history stands, and a page of what an expression leads to. NoRepo, NoRef, NoParent.
@@ -43,7 +43,7 @@ impl<K: Keeper> Lake<K> {
         ensures { Gives (page_answer result) (page_reply (state self.now) repo.now e.now query.now) }
     {
         law_of_present();
-        lake_readings::page(self.alloc, &self.present, repo, e, query)
+        core_readings::page(self.alloc, &self.present, repo, e, query)
     }
 
     /// Where the history stands, the ancestors of the commit of an expression that are dated at or after a moment and
@@ -61,7 +61,7 @@ impl<K: Keeper> Lake<K> {
             (log_reply (state self.now) repo.now e.now (option_copied after.entry) since amount) }
     {
         law_of_present();
-        lake_readings::log(self.alloc, &self.present, repo, e, after, since, amount)
+        core_readings::log(self.alloc, &self.present, repo, e, after, since, amount)
     }
 
     /// Where the history stands, the repositories whose names are above some bytes, so many, and whether one is left.
@@ -72,7 +72,7 @@ impl<K: Keeper> Lake<K> {
     ) -> Result<(u64, Sequence<RepoInfo>, bool), StepFault>
         ensures { Gives (list_answer result) (repositories_reply (state self.now) after.now amount) }
     {
-        lake_readings::repositories(self.alloc, &self.present, after, amount)
+        core_readings::repositories(self.alloc, &self.present, after, amount)
     }
 
     /// Where the history stands, the branches of a repository with their heads, or its tags with their commits, whose
@@ -86,7 +86,7 @@ impl<K: Keeper> Lake<K> {
     ) -> Result<(u64, Sequence<(RefName, CommitId)>, bool), StepFault>
         ensures { Gives (list_answer result) (names_reply (state self.now) repo.now tags after.now amount) }
     {
-        lake_readings::names(self.alloc, &self.present, repo, tags, after, amount)
+        core_readings::names(self.alloc, &self.present, repo, tags, after, amount)
     }
 
     /// Where the history stands, and the head of a branch or the commit of a tag. NoRepo, NoRef. It takes no memory.
@@ -98,20 +98,20 @@ impl<K: Keeper> Lake<K> {
     ) -> Result<(u64, CommitId), StepFault>
         ensures { result ≡ find_reply (state self.now) repo.now tags name.now }
     {
-        lake_readings::find(&self.present, repo, tags, name)
+        core_readings::find(&self.present, repo, tags, name)
     }
 
     /// Where the history stands, the version of a repository's settings, and one of them. NoRepo, NoNote.
     pub fn note(&self, repo: &RepoName, name: NoteName) -> Result<(u64, u64, Note), StepFault>
         ensures { Gives (note_answer result) (note_reply (state self.now) (versions self.now) repo.now name) }
     {
-        lake_readings::note(self.alloc, &self.present, repo, name)
+        core_readings::note(self.alloc, &self.present, repo, name)
     }
 
     /// The versions of a branch and of its repository's settings. NoRepo, NoRef. It takes no memory.
     pub fn versions(&self, repo: &RepoName, branch: &RefName) -> Result<Versions, StepFault>
         ensures { result ≡ versions_reply (state self.now) (versions self.now) repo.now branch.now }
     {
-        lake_readings::versions(&self.present, repo, branch)
+        core_readings::versions(&self.present, repo, branch)
     }
 }

@@ -2,7 +2,7 @@
 
 use keeper::Put;
 use lake_base::RepoName;
-use lake_changes::founding::NewRepository;
+use core_changes::founding::NewRepository;
 use lake_model::Operation;
 use lake_values::Entry;
 

@@ -4,31 +4,31 @@ ghost use Rattle.lake_base.specs.Names.{is_like_id};
 ghost use Rattle.lake_model.specs.declared.history.Operation.TheVariants as operation;
 ghost use Rattle.lake_model.specs.Refusals.{GivesOrFails};
 ghost use Rattle.lake_model.specs.Steps.{IsCreateTagReply, delete_tag_reply};
-ghost use Rattle.lake_changes.specs.LakeRoom.{HasRoomAt};
-ghost use Rattle.lake_changes.specs.declared.repository.Room.TheVariants as room;
-ghost use Rattle.lake_state.specs.Lakes.{lake_value};
-ghost use Rattle.lake_puts.specs.Puts as puts;
+ghost use Rattle.core_changes.specs.LakeRoom.{HasRoomAt};
+ghost use Rattle.core_changes.specs.declared.repository.Room.TheVariants as room;
+ghost use Rattle.core_state.specs.LakeStates.{lake_value};
+ghost use Rattle.core_puts.specs.Puts as puts;
 ghost use Rattle.lake_core.specs.Lakes.{state};
 ghost use Rattle.lake_core.specs.Makings.{create_tag, delete_tag};
-ghost use Rattle.lake_core.specs.Ready.{IsReady};
-ghost use Rattle.lake_core.specs.Steps.{Leaves};
+ghost use Rattle.lake_core.specs.ReadyChanges.{IsReady};
+ghost use Rattle.lake_core.specs.Leaving.{Leaves};
 
 use crate::lake::Lake;
 use crate::ready::Ready;
 use commit_graph::RefExpr;
 use keeper::Keeper;
 use lake_base::{NoMemory, RefName, RepoName, TryCopy};
-use lake_causes::{test_create_tag, test_delete_tag};
-use lake_changes::lake as change;
-use lake_changes::repository::Room;
-use lake_keeping::{keep, place};
+use core_causes::{test_create_tag, test_delete_tag};
+use core_changes::lake as change;
+use core_changes::repository::Room;
+use core_puts::{keep, place};
 use lake_model::{By, Operation, StepFault};
-use lake_puts::{create_tag_puts, delete_tag_puts};
-use lake_standing::{law_of_present, laws_of_names, laws_of_plain_names};
-use lake_state::LakeState;
+use core_puts::{create_tag_puts, delete_tag_puts};
+use core_standing::{law_of_present, laws_of_names, laws_of_plain_names};
+use core_state::LakeState;
 use lake_values::CommitId;
 use std::alloc::Global;
-use step_laws::causes::laws_of_causes;
+use lake_laws::causes::laws_of_causes;
 
 impl<K: Keeper> Lake<K> {
     /// Makes a tag of the commit of an expression: the place of the entry, and the commit. Stopped, HistoryFull, NoRepo,

@@ -5,34 +5,34 @@ ghost use Rattle.lake_model.specs.declared.history.Operation.TheVariants.{Ticket
 ghost use Rattle.lake_model.specs.Refusals.{GivesOrFails};
 ghost use Rattle.lake_model.specs.Steps.{drop_ticket_reply, take_ticket_reply};
 ghost use Rattle.lake_model.specs.Uncommitted.{HasTicket};
-ghost use Rattle.lake_changes.specs.LakeRoom.{HasTicketRoom};
-ghost use Rattle.lake_state.specs.Counts.{AreFew};
-ghost use Rattle.lake_state.specs.Lakes.{lake_value, tickets_of};
-ghost use Rattle.lake_puts.specs.Puts.{ticket_puts};
+ghost use Rattle.core_changes.specs.LakeRoom.{HasTicketRoom};
+ghost use Rattle.core_state.specs.Counts.{AreFew};
+ghost use Rattle.core_state.specs.LakeStates.{lake_value, tickets_of};
+ghost use Rattle.core_puts.specs.Puts.{ticket_puts};
 ghost use Rattle.lake_core.specs.Lakes.{state};
 ghost use Rattle.lake_core.specs.Makings.{drop_ticket, take_ticket};
-ghost use Rattle.lake_core.specs.Ready.{IsReady};
-ghost use Rattle.lake_core.specs.Steps.{Leaves};
+ghost use Rattle.lake_core.specs.ReadyChanges.{IsReady};
+ghost use Rattle.lake_core.specs.Leaving.{Leaves};
 
 use crate::lake::Lake;
 use crate::ready::Ready;
 use keeper::Keeper;
 use lake_base::{NoMemory, RefName, RepoName, TryCopy};
-use lake_causes::{test_change, test_write};
-use lake_changes::lake as change;
-use lake_keeping::{keep, place};
+use core_causes::{test_change, test_write};
+use core_changes::lake as change;
+use core_puts::{keep, place};
 use lake_model::{By, Operation, StepFault};
-use lake_puts::ticket_puts;
-use lake_standing::laws_of_tickets;
-use lake_state::LakeState;
+use core_puts::ticket_puts;
+use core_standing::laws_of_tickets;
+use core_state::LakeState;
 use std::alloc::Global;
 use std::collections::BTreeMap;
-use step_laws::causes::laws_of_causes;
+use lake_laws::causes::laws_of_causes;
 
 impl<K: Keeper> Lake<K> {
     /// Whether a number is on a ticket of the seat, so that the seat may drop it, or put an object of it. It takes no
     /// memory.
-    #[tactic(auto, unfolding(lake_state::specs::Lakes::lake_value))]
+    #[tactic(auto, unfolding(core_state::specs::LakeStates::lake_value))]
     pub fn has_ticket(&self, seat: u32, number: u64) -> bool
         ensures { IsTrue result ↔ HasTicket (state self.now) seat number }
     {
@@ -129,7 +129,7 @@ fn seat_of(tickets: &BTreeMap<u64, Option<u32>>, number: u64) -> Option<u32>
 }
 
 // A number that is to be given out. It changes nothing that the lake says.
-#[tactic(auto, unfolding(lake_state::specs::Lakes::lake_value))]
+#[tactic(auto, unfolding(core_state::specs::LakeStates::lake_value))]
 fn ready_ticket(
     alloc: Global,
     lake: &mut LakeState,

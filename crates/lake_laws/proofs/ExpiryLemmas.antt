@@ -5,7 +5,7 @@ use Rattle.std.specs.List.{Contains}
 use Rattle.std.specs.FinMap.{get, entries}
 use Rattle.lake_base.specs.declared.digest.Digest.{Digest}
 use Rattle.lake_values.specs.Ancestry.{Graph, commit_of}
-use Rattle.lake_values.specs.Keeping.{IsHead, IsKeptBy}
+use Rattle.lake_values.specs.Retention.{IsHead, IsKeptBy}
 use Rattle.lake_values.specs.Settings.{RulesValue}
 use Rattle.lake_values.proofs.OrderLemmas.{Contains-first, Contains-later, Contains-map}
 use Rattle.lake_model.specs.declared.history.RepositoryCommit.{RepositoryCommit}

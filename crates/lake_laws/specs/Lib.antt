@@ -1,3 +1,4 @@
-pub mod Tags
+pub mod Prepared
 pub mod References
 pub mod Sealing
+pub mod Tags

@@ -4,7 +4,7 @@ use Rattle.std.specs.FinMap.{FinMap, entries, get, insert}
 use Rattle.std.specs.List.{Contains}
 use Rattle.std.specs.Ordering.{nat_cmp}
 use Rattle.lake_base.specs.declared.digest.Digest.{Digest}
-use Rattle.lake_values.specs.Keeping.{IsKeptBy}
+use Rattle.lake_values.specs.Retention.{IsKeptBy}
 use Rattle.lake_model.specs.declared.history.RepositoryCommit.{RepositoryCommit}
 use Rattle.lake_model.specs.State.{Repository, State, HasLiveCommit}
 use Rattle.lake_model.specs.Parts.{in_repository}

@@ -6,8 +6,8 @@ use Rattle.std.proofs.lemmas.Bool.Decides.{nat_tests}
 use Rattle.std.proofs.lemmas.List.{append-nil, take_all}
 use Rattle.std.specs.Str.Lines.{lines}
 use Rattle.lake_base.specs.declared.outside.Failed.{Failed}
-use Rattle.batch_lines.specs.Batch.{IsLineServed}
-use Rattle.batch_lines.specs.Text.{too_long_text}
+use Rattle.batch_session.specs.Batch.{IsLineServed}
+use Rattle.batch_session.specs.Text.{too_long_text}
 use Rattle.lake_program.specs.Feeding.{line_room, HasShown, ShowsLines, HasServed}
 use Rattle.lake_program.specs.Front.{WroteFront, Shows}
 use Rattle.lake_program.specs.Lines.{ended_lines, last_part, batch_lines, end_text}

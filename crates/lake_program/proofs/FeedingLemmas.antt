@@ -8,10 +8,10 @@ use Rattle.std.proofs.Math.Seq.{take-nil}
 use Rattle.std.specs.Str.Lines.{strip_carriage_return}
 use Rattle.lake_base.specs.declared.outside.Failed.{Failed}
 use Rattle.batch_session.specs.declared.timing.Timing.{Timing}
-use Rattle.batch_lines.specs.Batch.{Lake, LineEffect, first_lake, IsLineServed, AreServed}
+use Rattle.batch_session.specs.Batch.{Lake, LineEffect, first_lake, IsLineServed, AreServed}
 use Rattle.batch_session.specs.Moments.{AreMoments}
 use Rattle.batch_session.proofs.MomentsLemmas.{moments_none, moments_then, moments_as}
-use Rattle.lake_program.specs.Effects.{text_of, moments_of}
+use Rattle.lake_program.specs.LineEffects.{text_of, moments_of}
 use Rattle.lake_program.specs.Feeding.{line_room, HasShown, IsBrokenOff, ShowsLines, HasServed, Feeds}
 use Rattle.lake_program.specs.Front.{Shows}
 use Rattle.lake_program.specs.Lines.{ended_lines, last_part}

@@ -5,7 +5,7 @@ use Rattle.std.proofs.lemmas.Bool.Decides.{nat_tests}
 use Rattle.std.proofs.lemmas.List.{take_all, get_or-take}
 use Rattle.std.specs.Str.{is_utf8}
 use Rattle.std.specs.Str.Lines.{strip_carriage_return}
-use Rattle.batch_lines.specs.Command.{Skipped, NotBuilt, call_of, call_of_words, words_of, line_of_call, line_value}
+use Rattle.batch_session.specs.Command.{Skipped, NotBuilt, call_of, call_of_words, words_of, line_of_call, line_value}
 use Rattle.lake_program.specs.Feeding.{line_room}
 
 -- what is told by the length and the first byte

@@ -5,15 +5,15 @@ use Rattle.std.proofs.lemmas.List.{append-nil, take_all}
 use Rattle.std.specs.Str.Lines.{lines}
 use Rattle.batch_session.specs.declared.timing.Timing.{Timing}
 use Rattle.batch_session.specs.Moments.{AreMoments}
-use Rattle.batch_lines.specs.Batch.{any_starved}
+use Rattle.batch_session.specs.Batch.{any_starved}
 use Rattle.lake_program.specs.declared.status.ExitStatus.{ExitStatus}
 use Rattle.lake_program.specs.declared.status.ExitStatus.TheVariants.{SourceFailed, SinkFailed}
-use Rattle.lake_program.specs.Effects.{text_of, all_done}
+use Rattle.lake_program.specs.LineEffects.{text_of, all_done}
 use Rattle.lake_program.specs.Front.{IsPrefix, Wrote}
 use Rattle.lake_program.specs.Lines.{ended_lines, batch_lines, end_text}
 use Rattle.lake_program.specs.Progress.{ServerState}
 use Rattle.lake_program.specs.Feeding.{HasShown, IsBrokenOff}
-use Rattle.lake_program.specs.Reading.{IsBroken}
+use Rattle.lake_program.specs.SourceReading.{IsBroken}
 use Rattle.lake_program.specs.Status.{status_of}
 use Rattle.lake_program.specs.Outcome.{Extent, batch_status, IsWhole, EndsWith, Outcome}
 use Rattle.lake_program.specs.Streams.{Trace}

@@ -10,7 +10,7 @@ use Rattle.lake_program.specs.Front.{IsPrefix, Wrote, WroteFront}
 use Rattle.lake_program.specs.Lines.{ended_lines}
 use Rattle.lake_program.specs.Progress.{start, ServerState}
 use Rattle.lake_program.specs.Feeding.{IsBrokenOff, HasServed}
-use Rattle.lake_program.specs.Reading.{Reaches, Ends}
+use Rattle.lake_program.specs.SourceReading.{Reaches, Ends}
 use Rattle.lake_program.specs.Streams.{Trace}
 use Rattle.lake_program.proofs.FeedingLemmas.{served_none}
 use Rattle.lake_program.proofs.FrontLemmas.{front_after, front_trans}

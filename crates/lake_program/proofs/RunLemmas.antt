@@ -12,7 +12,7 @@ use Rattle.lake_program.specs.Outcome.{Outcome}
 use Rattle.lake_program.specs.Status.{ShowsUsage}
 use Rattle.lake_program.specs.Streams.{Streams, trace_of}
 use Rattle.lake_program.specs.Lines.{batch_lines}
-use Rattle.batch_lines.specs.Batch.{first_lake, AreServed}
+use Rattle.batch_session.specs.Batch.{first_lake, AreServed}
 use Rattle.lake_program.specs.Outcome.{IsWhole}
 use Rattle.lake_program.specs.Run.{IsBatchRun, IsUnbegun, Run}
 use Rattle.lake_program.proofs.ReadingLemmas.{told_then, told_all}

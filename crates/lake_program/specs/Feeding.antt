@@ -1,9 +1,9 @@
 -- What a batch has done once some bytes of its source were given.
 use Rattle.std.specs.Prelude.{◌≡◌, ◌+◌, ℕ, List, [], ◌++◌, take, Result, Ok, Err}
 use Rattle.lake_base.specs.declared.outside.Failed.{Failed}
-use Rattle.batch_lines.specs.Batch.{LineEffect, first_lake, AreServed, lake_left, any_starved}
+use Rattle.batch_session.specs.Batch.{LineEffect, first_lake, AreServed, lake_left, any_starved}
 use Rattle.batch_session.specs.Moments.{AreMoments}
-use Rattle.lake_program.specs.Effects.{text_of, moments_of, all_done}
+use Rattle.lake_program.specs.LineEffects.{text_of, moments_of, all_done}
 use Rattle.lake_program.specs.Front.{IsPrefix, WroteFront, Shows}
 use Rattle.lake_program.specs.Lines.{ended_lines, last_part}
 use Rattle.lake_program.specs.Progress.{ServerState}

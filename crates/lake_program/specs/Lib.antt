@@ -1,13 +1,13 @@
-pub mod Effects
 pub mod Feeding
 pub mod Front
+pub mod LineEffects
 pub mod Lines
 pub mod Outcome
 pub mod Progress
-pub mod Reading
 pub mod Run
 pub mod ServerView
 pub mod Serving
+pub mod SourceReading
 pub mod Status
 pub mod Streams
 pub mod Words

@@ -2,7 +2,7 @@
 use Rattle.std.specs.Prelude.{ℕ, ◌-◌, ◌==◌, nat_le, if◌then◌else◌, List, [], ◌∷◌, length, map, take, slice_index_or}
 use Rattle.std.specs.List.{slice_split}
 use Rattle.std.specs.Str.Lines.{lines, strip_carriage_return}
-use Rattle.batch_lines.specs.Text.{too_long_text}
+use Rattle.batch_session.specs.Text.{too_long_text}
 
 -- what stands before, between and behind the line feeds
 abbrev pub parts : List ℕ → List (List ℕ)

@@ -1,7 +1,7 @@
 -- What a batch under way has come to.
 use Rattle.std.specs.Prelude.{ℕ, Bool, true, false, List, []}
 use Rattle.batch_session.specs.declared.timing.Timing.{Timing}
-use Rattle.batch_lines.specs.Batch.{Lake, first_lake}
+use Rattle.batch_session.specs.Batch.{Lake, first_lake}
 use Rattle.lake_program.specs.Streams.{Trace}
 
 -- the lake that its lines left, whether each was done, whether memory ran out at one, and what was shown and isn't

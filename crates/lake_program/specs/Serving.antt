@@ -1,7 +1,7 @@
 -- How one line of a batch is served.
 use Rattle.std.specs.Prelude.{◌≡◌, ◌&&◌, ◌||◌, List, ℕ, ◌++◌, Result, MatchResult}
 use Rattle.lake_base.specs.declared.outside.Failed.{Failed}
-use Rattle.batch_lines.specs.Batch.{LineEffect, IsLineServed}
+use Rattle.batch_session.specs.Batch.{LineEffect, IsLineServed}
 use Rattle.batch_session.specs.Moments.{AreMoments}
 use Rattle.lake_program.specs.Front.{WroteFront, Shows}
 use Rattle.lake_program.specs.Progress.{ServerState}

@@ -4,7 +4,7 @@ use Rattle.lake_program.specs.declared.status.ExitStatus.{ExitStatus}
 use Rattle.lake_program.specs.declared.status.ExitStatus.TheVariants.{Done, Refused, Usage}
 use Rattle.lake_program.specs.declared.status.ExitStatus.TheVariants.{SourceFailed, SinkFailed, OutOfMemory}
 use Rattle.lake_program.specs.Front.{Wrote, WroteFront}
-use Rattle.batch_lines.specs.Text.{usage_text}
+use Rattle.batch_session.specs.Text.{usage_text}
 
 -- the number by which the system knows a status
 abbrev pub status_number : ExitStatus → ℕ

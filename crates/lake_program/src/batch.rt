@@ -39,7 +39,7 @@ pub struct Batch {
 
 impl Batch {
     ghost use Rattle.lake_program.specs.ServerView.{progress_of, server_state};
-    ghost use Rattle.lake_program.specs.Reading.{Reaches, Ends};
+    ghost use Rattle.lake_program.specs.SourceReading.{Reaches, Ends};
     ghost use Rattle.lake_program.specs.Outcome.{Outcome};
 
     /// A batch on a fresh lake, of which nothing was read.

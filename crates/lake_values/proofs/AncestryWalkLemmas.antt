@@ -8,7 +8,7 @@ use Rattle.std.proofs.lemmas.Option.{slice_get_past}
 use Rattle.std.proofs.lemmas.List.Elements.{Contains-append_cases, Contains-append_left, Contains-append_right}
 use Rattle.lake_values.specs.Ancestry.{Graph, commit_of, parents_in, parents, generation, date, due_generation, IsGraph, first_parent, back, IsOnWalk, walk_within, walk}
 use Rattle.lake_values.specs.Commit.{CommitRecordValue}
-use Rattle.lake_values.specs.Keeping.{IsFollower}
+use Rattle.lake_values.specs.Retention.{IsFollower}
 use Rattle.lake_base.specs.declared.digest.Digest.{Digest}
 use Rattle.lake_values.proofs.OrderLemmas.{Contains-nothing, Contains-first, first_or_later}
 use Rattle.lake_values.proofs.AncestryLemmas.{due_some}

@@ -3,7 +3,7 @@ use Rattle.std.proofs.Common.{◌≡◌, ℕ, ◌<◌, ◌≤◌, arith, true, f
 use Rattle.std.specs.List.{AllWithin}
 use Rattle.std.specs.Str.{bytes_eq}
 use Rattle.std.proofs.lemmas.List.Recursion.{found_at, found_nowhere}
-use Rattle.lake_values.specs.Keeping.{days_in}
+use Rattle.lake_values.specs.Retention.{days_in}
 use Rattle.lake_values.specs.declared.settings.BranchDays.{BranchDays}
 
 -- no number is below 0

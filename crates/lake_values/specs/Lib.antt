@@ -5,12 +5,12 @@ pub mod Cursor
 pub mod Entry
 pub mod HookDecisions
 pub mod Join
-pub mod Keeping
 pub mod KeyMap
 pub mod Log
 pub mod Merging
+pub mod NoteNames
 pub mod Pairs
 pub mod Reset
+pub mod Retention
 pub mod Sameness
 pub mod Settings
-pub mod NoteNames

@@ -1,5 +1,5 @@
 //! The values of the lake: entries and changes, key maps, commits and settings. What the crates above share of
-//! merges, graphs, retention and rules is defined here, in `specs/`; the crate `lake_reference` has plain, slow
+//! merges, graphs, retention and rules is defined here, in `specs/`; the crate `plain_reference` has plain, slow
 //! functions by these definitions.
 //!
 //! - `pairs`, `entry`, `changes`, `key_map`: metadata, what stands at a path, what is put and deleted, and maps;

@@ -1,6 +1,6 @@
 //! Which moments and which rules of retention count for a branch.
 ghost use Rattle.std.specs.Prelude.{◌≡◌};
-ghost use Rattle.lake_values.specs.Keeping.{cutoff, days_of};
+ghost use Rattle.lake_values.specs.Retention.{cutoff, days_of};
 
 use crate::settings::Rules;
 use lake_base::names::RefName;

@@ -10,7 +10,7 @@ use Rattle.lake_format.specs.Spelling.{range_spelling, IsRange}
 use Rattle.range_file.specs.Rows.{RowValue}
 use Rattle.range_file.proofs.ReadingLemmas.{apart}
 use Rattle.meta_range.specs.Files.{file_at}
-use Rattle.meta_range.specs.Names.{same_rows}
+use Rattle.meta_range.specs.RangeNames.{same_rows}
 use Rattle.meta_range.specs.Ranges.{AreRanges, TreeValue, files_of, tree_of}
 use Rattle.meta_range.proofs.NamesLemmas.{same_rows_are}
 

@@ -10,7 +10,7 @@ use Rattle.lake_format.specs.declared.cut.Cut.{Cut}
 use Rattle.lake_format.proofs.CutLemmas.{IsScanned, IsNextRow, scanned_more, scanned_full, scanned_break, scanned_all, first_can, first_longest, first_below, ranges_of}
 use Rattle.range_file.specs.Rows.{RowValue}
 use Rattle.meta_range.specs.Ranges.{rows_of}
-use Rattle.meta_range.specs.Reading.{first_stray}
+use Rattle.meta_range.specs.TreeReading.{first_stray}
 
 none_after : {X : Type 0} (xs : List X) (i : ℕ) → length xs ≤ i → drop i xs ≡ []
 none_after [] zero le = refl

@@ -16,7 +16,7 @@ use Rattle.lake_format.specs.Spelling.{short_text, line_spelling, metarange_spel
 use Rattle.lake_format.specs.declared.fields.FieldFault.{FieldFault}
 use Rattle.lake_format.specs.declared.range_line.RangeLine.{RangeLine}
 use Rattle.lake_format.proofs.FieldsLemmas.{Takes, takes_then, wide32, number_takes, number_again, bytes_take, bytes_takes, bytes_again, text_limits, text_takes, text_again, path_of_text, text_of_path}
-use Rattle.meta_range.specs.Steps.{◌>>=◌}
+use Rattle.meta_range.specs.ReadingSteps.{◌>>=◌}
 use Rattle.meta_range.specs.Metarange.{Fails, field, last_of, read_head, read_first, read_last, read_line, read_lines, read_count, metarange_from}
 use Rattle.meta_range.specs.declared.fault.MetaFault.{MetaFault}
 use Rattle.meta_range.specs.declared.fault.MetaFault.TheVariants.{Version, BadRange, Trailing, NoMemory}

@@ -18,7 +18,7 @@ use Rattle.lake_values.specs.Ancestry.{id_order, same_id}
 use Rattle.lake_values.specs.Sameness.{same_row, same_entry}
 use Rattle.lake_values.proofs.SamenessLemmas.{same_entry_decides}
 use Rattle.range_file.specs.Rows.{RowValue}
-use Rattle.meta_range.specs.Names.{place_in, first_named, TellsFirst, PutsFirst, range_name, same_rows, is_matched}
+use Rattle.meta_range.specs.RangeNames.{place_in, first_named, TellsFirst, PutsFirst, range_name, same_rows, is_matched}
 
 -- ---- places
 

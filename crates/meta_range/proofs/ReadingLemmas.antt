@@ -21,15 +21,15 @@ use Rattle.lake_format.specs.declared.cut.Cut.{Cut}
 use Rattle.lake_format.specs.declared.range_line.RangeLine.{RangeLine}
 use Rattle.lake_format.proofs.CutLemmas.{ranges_none, ranges_of, first_below}
 use Rattle.range_file.specs.Rows.{RowValue}
-use Rattle.range_file.specs.Reading.{Fails as RangeFails}
+use Rattle.range_file.specs.RangeReading.{Fails as RangeFails}
 use Rattle.range_file.specs.declared.fault.RangeFault.{RangeFault}
 use Rattle.range_file.specs.declared.fault.RangeFault.TheVariants.{NoMemory as RangeNoMemory}
 use Rattle.range_file.proofs.ReadingLemmas.{again as range_again}
-use Rattle.meta_range.specs.Steps.{◌>>=◌}
+use Rattle.meta_range.specs.ReadingSteps.{◌>>=◌}
 use Rattle.meta_range.specs.Ranges.{TreeValue, rows_of, metarange_of, files_of, tree_of, AreRanges}
 use Rattle.meta_range.specs.Files.{bytes_named, FitsTree}
 use Rattle.meta_range.specs.Metarange.{metarange_from, Fails as MetaFails}
-use Rattle.meta_range.specs.Reading.{Fails, whole, read_file, of_metarange, in_metarange, of_range, in_range, is_said, read_range, read_ranges, first_stray, not_cut, cut_of, tree_from, AreGiven, IsTreeOf, IsGiven, IsRead, AreRead}
+use Rattle.meta_range.specs.TreeReading.{Fails, whole, read_file, of_metarange, in_metarange, of_range, in_range, is_said, read_range, read_ranges, first_stray, not_cut, cut_of, tree_from, AreGiven, IsTreeOf, IsGiven, IsRead, AreRead}
 use Rattle.meta_range.specs.declared.file.File.{File}
 use Rattle.meta_range.specs.declared.fault.MetaFault.{MetaFault}
 use Rattle.meta_range.specs.declared.fault.MetaFault.TheVariants.{NoMemory as MetaNoMemory}

@@ -14,7 +14,7 @@ use Rattle.lake_format.specs.Spelling.{file_name, range_spelling, IsRange}
 use Rattle.range_file.specs.Rows.{RowValue}
 use Rattle.range_file.proofs.ReadingLemmas.{apart}
 use Rattle.meta_range.specs.Files.{Clash}
-use Rattle.meta_range.specs.Names.{first_named, range_name, same_rows, is_matched, are_matched, all_matched}
+use Rattle.meta_range.specs.RangeNames.{first_named, range_name, same_rows, is_matched, are_matched, all_matched}
 use Rattle.meta_range.specs.Ranges.{tree_of}
 use Rattle.meta_range.specs.Trio.{TrioValue, range_files, Agree}
 use Rattle.meta_range.proofs.NamesLemmas.{same_rows_are}

@@ -1,8 +1,9 @@
-pub mod Steps
-pub mod Ranges
-pub mod Files
-pub mod Names
-pub mod Trio
-pub mod Metarange
-pub mod Reading
 pub mod Ends
+pub mod Files
+pub mod Metarange
+pub mod Provenance
+pub mod RangeNames
+pub mod Ranges
+pub mod ReadingSteps
+pub mod TreeReading
+pub mod Trio

@@ -8,7 +8,7 @@ use Rattle.lake_format.specs.declared.fields.FieldFault.{FieldFault}
 use Rattle.lake_format.specs.declared.fields.FieldFault.TheVariants.{Short, Bad, NoMemory as FieldNoMemory}
 use Rattle.lake_format.specs.declared.range_line.RangeLine.{RangeLine}
 use Rattle.lake_base.specs.declared.digest.Digest.{Digest}
-use Rattle.meta_range.specs.Steps.{◌>>=◌}
+use Rattle.meta_range.specs.ReadingSteps.{◌>>=◌}
 use Rattle.meta_range.specs.declared.fault.MetaFault.{MetaFault}
 use Rattle.meta_range.specs.declared.fault.MetaFault.TheVariants.{Version, Truncated, BadRange, Trailing, NoMemory}
 

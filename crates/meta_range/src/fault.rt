@@ -1,7 +1,7 @@
 //! Why bytes aren't a metarange, and why files aren't those of a tree.
 ghost use Rattle.std.specs.Prelude.{◌≡◌};
 ghost use Rattle.meta_range.specs.Metarange.{fault_of};
-ghost use Rattle.meta_range.specs.Reading.{of_metarange, of_range};
+ghost use Rattle.meta_range.specs.TreeReading.{of_metarange, of_range};
 ghost use Rattle.meta_range.specs.declared.fault.MetaFault.TheVariants.{NoMemory as meta_no_memory};
 ghost use Rattle.meta_range.specs.declared.fault.TreeFault.TheVariants.{NoMemory as tree_no_memory};
 

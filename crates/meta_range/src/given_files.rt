@@ -1,7 +1,7 @@
 //! Files that are given, which are found by their names.
 ghost use Rattle.std.specs.Prelude.{◌≡◌, IfOk, option_copied};
 ghost use Rattle.meta_range.specs.Files.{given_name};
-ghost use Rattle.meta_range.specs.Names.{TellsFirst, first_named};
+ghost use Rattle.meta_range.specs.RangeNames.{TellsFirst, first_named};
 
 use crate::file::File;
 use crate::places::{Places, put_first};
@@ -23,7 +23,7 @@ impl<'a> Model for GivenFiles<'a> {
     ghost use Rattle.std.specs.Prelude.{List};
     ghost use Rattle.meta_range.specs.declared.file.File.{File as AnyFile};
     ghost use Rattle.meta_range.specs.Files.{given_name};
-    ghost use Rattle.meta_range.specs.Names.{TellsFirst};
+    ghost use Rattle.meta_range.specs.RangeNames.{TellsFirst};
 
     ghost Value = { List AnyFile };
 

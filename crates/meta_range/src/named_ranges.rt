@@ -1,7 +1,7 @@
 //! The ranges of a tree, which are found by their names too.
 ghost use Rattle.std.specs.Prelude.{◌≡◌, IfOk, Some, slice_get, option_copied};
 ghost use Rattle.std.specs.Bool.{OnTrue};
-ghost use Rattle.meta_range.specs.Names.{TellsFirst, first_named, range_name, is_matched, are_matched};
+ghost use Rattle.meta_range.specs.RangeNames.{TellsFirst, first_named, range_name, is_matched, are_matched};
 
 use crate::places::{Places, put_first};
 use crate::shared_range::SharedRange;
@@ -22,7 +22,7 @@ pub(crate) struct NamedRanges {
 impl Model for NamedRanges {
     ghost use Rattle.std.specs.Prelude.{List};
     ghost use Rattle.range_file.specs.Rows.{RowValue};
-    ghost use Rattle.meta_range.specs.Names.{TellsFirst, range_name};
+    ghost use Rattle.meta_range.specs.RangeNames.{TellsFirst, range_name};
 
     ghost Value = { List (List RowValue) };
 

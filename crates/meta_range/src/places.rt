@@ -1,6 +1,6 @@
 //! Tables of names, which tell where each stands first in a list.
 ghost use Rattle.std.specs.Prelude.{OnOk};
-ghost use Rattle.meta_range.specs.Names.{PutsFirst};
+ghost use Rattle.meta_range.specs.RangeNames.{PutsFirst};
 
 use lake_base::digest::Digest;
 use lake_base::outside::NoMemory;

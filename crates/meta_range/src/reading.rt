@@ -6,7 +6,7 @@ ghost use Rattle.lake_format.specs.Spelling.{IsMetarange};
 ghost use Rattle.range_file.specs.Rows.{RowValue};
 ghost use Rattle.meta_range.specs.Ranges.{first_file, rows_of};
 ghost use Rattle.meta_range.specs.Files.{bytes_named, FitsTree};
-ghost use Rattle.meta_range.specs.Reading.{ReadsAs, AreGiven, is_said, read_file, read_range, read_ranges, not_cut, tree_from, IsTreeOf, IsRead, AreRead};
+ghost use Rattle.meta_range.specs.TreeReading.{ReadsAs, AreGiven, is_said, read_file, read_range, read_ranges, not_cut, tree_from, IsTreeOf, IsRead, AreRead};
 
 use crate::fault::{TreeFault, of_metarange, of_range};
 use crate::file::File;
@@ -67,7 +67,7 @@ fn read_tree(alloc: Global, name: &Digest, given: &GivenFiles, cut: &Cut) -> Res
 }
 
 // The bytes of the file of this name, whose SHA-256 it is.
-#[tactic(auto, unfolding(crate::specs::Reading::read_file))]
+#[tactic(auto, unfolding(crate::specs::TreeReading::read_file))]
 fn read_file<'a>(name: &Digest, given: &GivenFiles<'a>) -> Result<&'a [u8], TreeFault>
     ensures { ReadsAs (λ bytes. bytes.now) result (read_file name.now given.now) }
 {
@@ -113,7 +113,7 @@ fn read_ranges(
 }
 
 // Range `at`, of which this is said.
-#[tactic(auto, unfolding(crate::specs::Reading::read_range))]
+#[tactic(auto, unfolding(crate::specs::TreeReading::read_range))]
 fn read_range(
     alloc: Global,
     given: &GivenFiles,

@@ -6,7 +6,7 @@ ghost use Rattle.lake_format.specs.Spelling.{range_spelling, path_at, file_name,
 ghost use Rattle.range_file.specs.Rows.{AreRows};
 ghost use Rattle.lake_values.specs.Sameness.{same_row};
 ghost use Rattle.meta_range.specs.Files.{file_of};
-ghost use Rattle.meta_range.specs.Names.{same_rows};
+ghost use Rattle.meta_range.specs.RangeNames.{same_rows};
 
 use crate::file::File;
 use lake_base::copying::TryCopy;

@@ -4,7 +4,7 @@
 //! pass over ranges by their names. SHA-256 doesn't give that: it is tested once, when the three are put together.
 ghost use Rattle.std.specs.Prelude.{◌≡◌, ◌↔◌, ◌⊎◌, IsTrue};
 ghost use Rattle.meta_range.specs.Files.{Clash};
-ghost use Rattle.meta_range.specs.Names.{all_matched};
+ghost use Rattle.meta_range.specs.RangeNames.{all_matched};
 ghost use Rattle.meta_range.specs.Trio.{TrioValue as AnyTrio, Agree, range_files};
 
 use crate::named_ranges::NamedRanges;

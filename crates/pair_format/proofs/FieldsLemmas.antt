@@ -20,8 +20,8 @@ use Rattle.lake_format.proofs.EncodingLemmas.{entry_takes, entry_again}
 use Rattle.lake_values.specs.declared.settings.NoteName.{NoteName}
 use Rattle.lake_values.specs.declared.settings.NoteName.TheVariants.{Retention, Protection, Hooks}
 use Rattle.pair_format.specs.Keys.{note_number, note_of}
-use Rattle.pair_format.specs.Spelling.{tokens_spelling, flag, change_spelling, IsRefName, AreTokens, IsSpelledChange}
-use Rattle.pair_format.specs.Reading.{Reader, both, read_u64, read_digest, read_short, read_name, is_repo, is_ref, read_repo, read_ref, read_note, read_more_tokens, read_tokens, read_flag, read_change}
+use Rattle.pair_format.specs.PairSpelling.{tokens_spelling, flag, change_spelling, IsRefName, AreTokens, IsSpelledChange}
+use Rattle.pair_format.specs.PairReading.{Reader, both, read_u64, read_digest, read_short, read_name, is_repo, is_ref, read_repo, read_ref, read_note, read_more_tokens, read_tokens, read_flag, read_change}
 
 -- ---- a loop that reads tokens
 

@@ -11,7 +11,7 @@ use Rattle.lake_format.specs.Spelling.{short_text, commit_spelling, AreBytes, Is
 use Rattle.lake_format.specs.declared.fields.FieldFault.{FieldFault}
 use Rattle.lake_format.specs.declared.fields.FieldFault.TheVariants.{Bad}
 use Rattle.lake_format.proofs.FieldsLemmas.{bind_ok, test_ok, ok_is}
-use Rattle.commit_graph.specs.Reading.{read_commit, whole, commit_from}
+use Rattle.commit_graph.specs.CommitReading.{read_commit, whole, commit_from}
 use Rattle.commit_graph.specs.declared.fault.CommitFault.TheVariants.{Version, Trailing}
 use Rattle.commit_graph.proofs.ReadingLemmas.{found as commit_found, again as commit_again}
 use Rattle.pair_format.specs.declared.fault.PairFault.{PairFault}
@@ -23,8 +23,8 @@ use Rattle.pair_format.specs.declared.key.OwnedKey.TheVariants as key
 use Rattle.pair_format.specs.declared.stored.Stored.{Stored}
 use Rattle.pair_format.specs.declared.stored.Stored.TheVariants.{Repository, Branch, Tag, Commit, MetaRange, Range, Staged, Note, Gone, Counts}
 use Rattle.pair_format.specs.Keys.{kind_of, note_number}
-use Rattle.pair_format.specs.Spelling.{key_of, key_spelling, value_spelling, pair_spelling, IsSpelledKey, IsSpelledValue, IsSpelledStored}
-use Rattle.pair_format.specs.Reading.{Reader, both, map_reader, read_rest, read_path, read_versioned, key_fields, value_fields, alone, read_key, read_value, with_place, value_from, pair_from}
+use Rattle.pair_format.specs.PairSpelling.{key_of, key_spelling, value_spelling, pair_spelling, IsSpelledKey, IsSpelledValue, IsSpelledStored}
+use Rattle.pair_format.specs.PairReading.{Reader, both, map_reader, read_rest, read_path, read_versioned, key_fields, value_fields, alone, read_key, read_value, with_place, value_from, pair_from}
 use Rattle.pair_format.proofs.FieldsLemmas.{IsReader, u64_reader, digest_reader, repo_reader, ref_reader, note_reader, flag_reader, change_reader, tokens_reader}
 
 -- ---- readers that take all that is left

@@ -1,3 +1,3 @@
 pub mod Keys
-pub mod Reading
-pub mod Spelling
+pub mod PairReading
+pub mod PairSpelling

@@ -2,8 +2,8 @@
 ghost use Rattle.std.specs.Prelude.{◌≡◌, Ok, IfOk};
 ghost use Rattle.pair_format.specs.declared.fault.PairFault.TheVariants.{Key, Value};
 ghost use Rattle.pair_format.specs.declared.stored.Stored.{Stored as AnyStored};
-ghost use Rattle.pair_format.specs.Spelling.{pair_spelling, key_of, key_spelling, value_spelling, IsSpelledStored};
-ghost use Rattle.pair_format.specs.Reading.{Answers, fault_at, pair_from};
+ghost use Rattle.pair_format.specs.PairSpelling.{pair_spelling, key_of, key_spelling, value_spelling, IsSpelledStored};
+ghost use Rattle.pair_format.specs.PairReading.{Answers, fault_at, pair_from};
 
 use crate::fault::PairFault;
 use crate::keys::read_key;
@@ -41,7 +41,7 @@ fn decode_parts(alloc: Global, key: &[u8], value: &[u8]) -> Result<Stored, PairF
 }
 
 // The key, and then the value.
-#[tactic(auto, unfolding(crate::specs::Reading::pair_from))]
+#[tactic(auto, unfolding(crate::specs::PairReading::pair_from))]
 fn read_pair(alloc: Global, key: &[u8], value: &[u8]) -> Result<Stored, PairFault>
     ensures { Answers result (pair_from key.now value.now) }
 {

@@ -22,8 +22,8 @@ ghost use Rattle.lake_format.specs.Spelling.{short_text, commit_spelling, AreByt
 ghost use Rattle.pair_format.specs.declared.key.OwnedKey.{OwnedKey as AnyKey};
 ghost use Rattle.pair_format.specs.declared.stored.Stored.{Stored as AnyStored};
 ghost use Rattle.pair_format.specs.Keys.{key_value, note_number};
-ghost use Rattle.pair_format.specs.Spelling.{key_of, key_spelling, value_spelling, pair_spelling, tokens_spelling, change_spelling, flag, IsStoredKey, IsStored, IsSpelledKey, IsSpelledChange, IsSpelledValue, IsSpelledStored, IsRefName, AreTokens};
-ghost use Rattle.pair_format.specs.Reading.{pair_from};
+ghost use Rattle.pair_format.specs.PairSpelling.{key_of, key_spelling, value_spelling, pair_spelling, tokens_spelling, change_spelling, flag, IsStoredKey, IsStored, IsSpelledKey, IsSpelledChange, IsSpelledValue, IsSpelledStored, IsRefName, AreTokens};
+ghost use Rattle.pair_format.specs.PairReading.{pair_from};
 
 use crate::key::StoredKey;
 use crate::pair::Pair;

@@ -3,7 +3,7 @@ ghost use Rattle.std.specs.Prelude.{◌≡◌, []};
 ghost use Rattle.lake_format.specs.Reading.{ReadsAs, read_entry};
 ghost use Rattle.lake_values.specs.declared.entry.Change.TheVariants.{Put};
 ghost use Rattle.pair_format.specs.Keys.{note_of};
-ghost use Rattle.pair_format.specs.Reading.{map_reader, read_repo, read_ref, read_short, read_rest, read_path, read_note, read_more_tokens, read_tokens, read_flag, read_versioned, read_change};
+ghost use Rattle.pair_format.specs.PairReading.{map_reader, read_repo, read_ref, read_short, read_rest, read_path, read_note, read_more_tokens, read_tokens, read_flag, read_versioned, read_change};
 
 use commit_graph::read_commit;
 use lake_base::names::{NameFault, Path, RefName, RepoName};
@@ -17,7 +17,7 @@ use lake_values::settings::NoteName;
 use std::alloc::Global;
 
 // The bytes of a name behind two bytes of its length.
-#[tactic(auto, unfolding(crate::specs::Reading::read_short))]
+#[tactic(auto, unfolding(crate::specs::PairReading::read_short))]
 fn read_short(bytes: &[u8]) -> Result<(&[u8], &[u8]), FieldFault>
     ensures { ReadsAs (λ x. (x.0.now, x.1.now)) result (read_short bytes.now) }
 {
@@ -29,7 +29,7 @@ fn read_short(bytes: &[u8]) -> Result<(&[u8], &[u8]), FieldFault>
 }
 
 // The name of a repository.
-#[tactic(auto, unfolding(crate::specs::Reading::read_name))]
+#[tactic(auto, unfolding(crate::specs::PairReading::read_name))]
 pub(crate) fn read_repo(alloc: Global, bytes: &[u8]) -> Result<(RepoName, &[u8]), FieldFault>
     ensures { ReadsAs (λ x. (x.0, x.1.now)) result (read_repo bytes.now) }
 {
@@ -42,7 +42,7 @@ pub(crate) fn read_repo(alloc: Global, bytes: &[u8]) -> Result<(RepoName, &[u8])
 }
 
 // The name of a branch or a tag, which isn't like an id.
-#[tactic(auto, unfolding(crate::specs::Reading::read_name))]
+#[tactic(auto, unfolding(crate::specs::PairReading::read_name))]
 pub(crate) fn read_ref(alloc: Global, bytes: &[u8]) -> Result<(RefName, &[u8]), FieldFault>
     ensures { ReadsAs (λ x. (x.0, x.1.now)) result (read_ref bytes.now) }
 {
@@ -98,7 +98,7 @@ fn note_of(number: u8) -> Option<NoteName>
 }
 
 // The byte of a setting's name.
-#[tactic(auto, unfolding(crate::specs::Reading::read_note))]
+#[tactic(auto, unfolding(crate::specs::PairReading::read_note))]
 pub(crate) fn read_note(bytes: &[u8]) -> Result<(NoteName, &[u8]), FieldFault>
     ensures { ReadsAs (λ x. (x.0, x.1.now)) result (read_note bytes.now) }
 {
@@ -130,7 +130,7 @@ fn read_more_tokens(
 }
 
 // Tokens behind their count.
-#[tactic(auto, unfolding(crate::specs::Reading::read_tokens))]
+#[tactic(auto, unfolding(crate::specs::PairReading::read_tokens))]
 pub(crate) fn read_tokens(alloc: Global, bytes: &[u8]) -> Result<(Vec<u64>, &[u8]), FieldFault>
     ensures { ReadsAs (λ x. (x.0.items, x.1.now)) result (read_tokens bytes.now) }
 {
@@ -139,7 +139,7 @@ pub(crate) fn read_tokens(alloc: Global, bytes: &[u8]) -> Result<(Vec<u64>, &[u8
 }
 
 // A byte that says whether something holds: 0 or 1.
-#[tactic(auto, unfolding(crate::specs::Reading::read_flag))]
+#[tactic(auto, unfolding(crate::specs::PairReading::read_flag))]
 pub(crate) fn read_flag(bytes: &[u8]) -> Result<(bool, &[u8]), FieldFault>
     ensures { ReadsAs (λ x. (x.0, x.1.now)) result (read_flag bytes.now) }
 {
@@ -152,7 +152,7 @@ pub(crate) fn read_flag(bytes: &[u8]) -> Result<(bool, &[u8]), FieldFault>
 }
 
 // A commit of version 1.
-#[tactic(auto, unfolding(crate::specs::Reading::read_versioned))]
+#[tactic(auto, unfolding(crate::specs::PairReading::read_versioned))]
 pub(crate) fn read_versioned(
     alloc: Global,
     bytes: &[u8],
@@ -177,7 +177,7 @@ fn read_put(alloc: Global, bytes: &[u8]) -> Result<(Change, &[u8]), FieldFault>
 }
 
 // A deletion, or an entry that is put.
-#[tactic(auto, unfolding(crate::specs::Reading::read_change))]
+#[tactic(auto, unfolding(crate::specs::PairReading::read_change))]
 pub(crate) fn read_change(alloc: Global, bytes: &[u8]) -> Result<(Change, &[u8]), FieldFault>
     ensures { ReadsAs (λ x. (x.0, x.1.now)) result (read_change bytes.now) }
 {

@@ -1,7 +1,7 @@
 //! What is read of a key.
 ghost use Rattle.std.specs.Prelude.{◌≡◌};
 ghost use Rattle.lake_format.specs.Reading.{ReadsAs};
-ghost use Rattle.pair_format.specs.Reading.{key_fields, read_key};
+ghost use Rattle.pair_format.specs.PairReading.{key_fields, read_key};
 ghost use Rattle.pair_format.specs.declared.kind.Kind.TheVariants.{Repository, Branch, Tag, Commit, MetaRange, Range, Staged, Note, Gone};
 
 use crate::fields::{read_note, read_path, read_ref, read_repo};
@@ -11,7 +11,7 @@ use lake_format::FieldFault;
 use lake_format::fields::{read_digest, read_u64};
 use std::alloc::Global;
 
-#[tactic(auto, unfolding(crate::specs::Reading::key_fields))]
+#[tactic(auto, unfolding(crate::specs::PairReading::key_fields))]
 fn repository_key(alloc: Global, bytes: &[u8]) -> Result<(OwnedKey, &[u8]), FieldFault>
     ensures { ReadsAs (λ x. (x.0, x.1.now)) result (key_fields Repository bytes.now) }
 {
@@ -19,7 +19,7 @@ fn repository_key(alloc: Global, bytes: &[u8]) -> Result<(OwnedKey, &[u8]), Fiel
     Ok((OwnedKey::Repository { repo }, rest))
 }
 
-#[tactic(auto, unfolding(crate::specs::Reading::key_fields))]
+#[tactic(auto, unfolding(crate::specs::PairReading::key_fields))]
 fn branch_key(alloc: Global, bytes: &[u8]) -> Result<(OwnedKey, &[u8]), FieldFault>
     ensures { ReadsAs (λ x. (x.0, x.1.now)) result (key_fields Branch bytes.now) }
 {
@@ -28,7 +28,7 @@ fn branch_key(alloc: Global, bytes: &[u8]) -> Result<(OwnedKey, &[u8]), FieldFau
     Ok((OwnedKey::Branch { repo, branch }, rest))
 }
 
-#[tactic(auto, unfolding(crate::specs::Reading::key_fields))]
+#[tactic(auto, unfolding(crate::specs::PairReading::key_fields))]
 fn tag_key(alloc: Global, bytes: &[u8]) -> Result<(OwnedKey, &[u8]), FieldFault>
     ensures { ReadsAs (λ x. (x.0, x.1.now)) result (key_fields Tag bytes.now) }
 {
@@ -37,7 +37,7 @@ fn tag_key(alloc: Global, bytes: &[u8]) -> Result<(OwnedKey, &[u8]), FieldFault>
     Ok((OwnedKey::Tag { repo, tag }, rest))
 }
 
-#[tactic(auto, unfolding(crate::specs::Reading::key_fields))]
+#[tactic(auto, unfolding(crate::specs::PairReading::key_fields))]
 fn commit_key(alloc: Global, bytes: &[u8]) -> Result<(OwnedKey, &[u8]), FieldFault>
     ensures { ReadsAs (λ x. (x.0, x.1.now)) result (key_fields Commit bytes.now) }
 {
@@ -46,7 +46,7 @@ fn commit_key(alloc: Global, bytes: &[u8]) -> Result<(OwnedKey, &[u8]), FieldFau
     Ok((OwnedKey::Commit { repo, id }, rest))
 }
 
-#[tactic(auto, unfolding(crate::specs::Reading::key_fields))]
+#[tactic(auto, unfolding(crate::specs::PairReading::key_fields))]
 fn meta_range_key(bytes: &[u8]) -> Result<(OwnedKey, &[u8]), FieldFault>
     ensures { ReadsAs (λ x. (x.0, x.1.now)) result (key_fields MetaRange bytes.now) }
 {
@@ -54,7 +54,7 @@ fn meta_range_key(bytes: &[u8]) -> Result<(OwnedKey, &[u8]), FieldFault>
     Ok((OwnedKey::MetaRange { name }, rest))
 }
 
-#[tactic(auto, unfolding(crate::specs::Reading::key_fields))]
+#[tactic(auto, unfolding(crate::specs::PairReading::key_fields))]
 fn range_key(bytes: &[u8]) -> Result<(OwnedKey, &[u8]), FieldFault>
     ensures { ReadsAs (λ x. (x.0, x.1.now)) result (key_fields Range bytes.now) }
 {
@@ -62,7 +62,7 @@ fn range_key(bytes: &[u8]) -> Result<(OwnedKey, &[u8]), FieldFault>
     Ok((OwnedKey::Range { name }, rest))
 }
 
-#[tactic(auto, unfolding(crate::specs::Reading::key_fields))]
+#[tactic(auto, unfolding(crate::specs::PairReading::key_fields))]
 fn staged_key(alloc: Global, bytes: &[u8]) -> Result<(OwnedKey, &[u8]), FieldFault>
     ensures { ReadsAs (λ x. (x.0, x.1.now)) result (key_fields Staged bytes.now) }
 {
@@ -71,7 +71,7 @@ fn staged_key(alloc: Global, bytes: &[u8]) -> Result<(OwnedKey, &[u8]), FieldFau
     Ok((OwnedKey::Staged { token, path }, rest))
 }
 
-#[tactic(auto, unfolding(crate::specs::Reading::key_fields))]
+#[tactic(auto, unfolding(crate::specs::PairReading::key_fields))]
 fn note_key(alloc: Global, bytes: &[u8]) -> Result<(OwnedKey, &[u8]), FieldFault>
     ensures { ReadsAs (λ x. (x.0, x.1.now)) result (key_fields Note bytes.now) }
 {
@@ -80,7 +80,7 @@ fn note_key(alloc: Global, bytes: &[u8]) -> Result<(OwnedKey, &[u8]), FieldFault
     Ok((OwnedKey::Note { repo, name }, rest))
 }
 
-#[tactic(auto, unfolding(crate::specs::Reading::key_fields))]
+#[tactic(auto, unfolding(crate::specs::PairReading::key_fields))]
 fn gone_key(bytes: &[u8]) -> Result<(OwnedKey, &[u8]), FieldFault>
     ensures { ReadsAs (λ x. (x.0, x.1.now)) result (key_fields Gone bytes.now) }
 {
@@ -89,7 +89,7 @@ fn gone_key(bytes: &[u8]) -> Result<(OwnedKey, &[u8]), FieldFault>
 }
 
 // The fields of a key behind its letter.
-#[tactic(auto, unfolding(crate::specs::Reading::key_fields))]
+#[tactic(auto, unfolding(crate::specs::PairReading::key_fields))]
 fn key_fields(alloc: Global, kind: Kind, bytes: &[u8]) -> Result<(OwnedKey, &[u8]), FieldFault>
     ensures { ReadsAs (λ x. (x.0, x.1.now)) result (key_fields kind bytes.now) }
 {
@@ -108,7 +108,7 @@ fn key_fields(alloc: Global, kind: Kind, bytes: &[u8]) -> Result<(OwnedKey, &[u8
 }
 
 /// What stands in a key, whole.
-#[tactic(auto, unfolding(crate::specs::Reading::read_key))]
+#[tactic(auto, unfolding(crate::specs::PairReading::read_key))]
 pub(crate) fn read_key(alloc: Global, key: &[u8]) -> Result<OwnedKey, FieldFault>
     ensures { ReadsAs (λ x. x) result (read_key key.now) }
 {

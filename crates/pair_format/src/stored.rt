@@ -1,7 +1,7 @@
 //! What stands in a pair.
 ghost use Rattle.std.specs.Prelude.{◌≡◌, ◌↔◌, ◌<◌, ◌^◌, length, IsTrue};
 ghost use Rattle.pair_format.specs.Keys.{key_value};
-ghost use Rattle.pair_format.specs.Spelling.{key_of, IsStored};
+ghost use Rattle.pair_format.specs.PairSpelling.{key_of, IsStored};
 
 use crate::key::StoredKey;
 use lake_base::digest::Digest;

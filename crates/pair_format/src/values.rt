@@ -1,7 +1,7 @@
 //! What is read of a value behind its key.
 ghost use Rattle.std.specs.Prelude.{◌≡◌};
 ghost use Rattle.lake_format.specs.Reading.{ReadsAs};
-ghost use Rattle.pair_format.specs.Reading.{value_fields, read_value};
+ghost use Rattle.pair_format.specs.PairReading.{value_fields, read_value};
 ghost use Rattle.pair_format.specs.declared.key.OwnedKey.TheVariants.{Repository, Branch, Tag, Commit, MetaRange, Range, Staged, Note, Counts};
 
 use crate::fields::{read_change, read_flag, read_ref, read_rest, read_tokens, read_versioned};
@@ -16,7 +16,7 @@ use lake_values::commit::CommitId;
 use lake_values::settings::NoteName;
 use std::alloc::Global;
 
-#[tactic(auto, unfolding(crate::specs::Reading::value_fields))]
+#[tactic(auto, unfolding(crate::specs::PairReading::value_fields))]
 fn repository_value(
     alloc: Global,
     repo: RepoName,
@@ -36,7 +36,7 @@ fn repository_value(
     Ok((stored, rest))
 }
 
-#[tactic(auto, unfolding(crate::specs::Reading::value_fields))]
+#[tactic(auto, unfolding(crate::specs::PairReading::value_fields))]
 fn branch_value(
     alloc: Global,
     repo: RepoName,
@@ -60,7 +60,7 @@ fn branch_value(
     Ok((stored, rest))
 }
 
-#[tactic(auto, unfolding(crate::specs::Reading::value_fields))]
+#[tactic(auto, unfolding(crate::specs::PairReading::value_fields))]
 fn tag_value(repo: RepoName, tag: RefName, bytes: &[u8]) -> Result<(Stored, &[u8]), FieldFault>
     ensures { ReadsAs (λ x. (x.0, x.1.now)) result (value_fields (Tag repo tag) bytes.now) }
 {
@@ -68,7 +68,7 @@ fn tag_value(repo: RepoName, tag: RefName, bytes: &[u8]) -> Result<(Stored, &[u8
     Ok((Stored::Tag { repo, tag, commit }, rest))
 }
 
-#[tactic(auto, unfolding(crate::specs::Reading::value_fields))]
+#[tactic(auto, unfolding(crate::specs::PairReading::value_fields))]
 fn commit_value(
     alloc: Global,
     repo: RepoName,
@@ -88,7 +88,7 @@ fn commit_value(
     Ok((stored, rest))
 }
 
-#[tactic(auto, unfolding(crate::specs::Reading::value_fields))]
+#[tactic(auto, unfolding(crate::specs::PairReading::value_fields))]
 fn meta_range_value(
     alloc: Global,
     name: Digest,
@@ -100,7 +100,7 @@ fn meta_range_value(
     Ok((Stored::MetaRange { name, bytes }, rest))
 }
 
-#[tactic(auto, unfolding(crate::specs::Reading::value_fields))]
+#[tactic(auto, unfolding(crate::specs::PairReading::value_fields))]
 fn range_value(alloc: Global, name: Digest, bytes: &[u8]) -> Result<(Stored, &[u8]), FieldFault>
     ensures { ReadsAs (λ x. (x.0, x.1.now)) result (value_fields (Range name) bytes.now) }
 {
@@ -108,7 +108,7 @@ fn range_value(alloc: Global, name: Digest, bytes: &[u8]) -> Result<(Stored, &[u
     Ok((Stored::Range { name, bytes }, rest))
 }
 
-#[tactic(auto, unfolding(crate::specs::Reading::value_fields))]
+#[tactic(auto, unfolding(crate::specs::PairReading::value_fields))]
 fn staged_value(
     alloc: Global,
     token: u64,
@@ -126,7 +126,7 @@ fn staged_value(
     Ok((stored, rest))
 }
 
-#[tactic(auto, unfolding(crate::specs::Reading::value_fields))]
+#[tactic(auto, unfolding(crate::specs::PairReading::value_fields))]
 fn note_value(
     alloc: Global,
     repo: RepoName,
@@ -139,7 +139,7 @@ fn note_value(
     Ok((Stored::Note { repo, name, text }, rest))
 }
 
-#[tactic(auto, unfolding(crate::specs::Reading::value_fields))]
+#[tactic(auto, unfolding(crate::specs::PairReading::value_fields))]
 fn counts_value(bytes: &[u8]) -> Result<(Stored, &[u8]), FieldFault>
     ensures { ReadsAs (λ x. (x.0, x.1.now)) result (value_fields Counts bytes.now) }
 {
@@ -155,7 +155,7 @@ fn counts_value(bytes: &[u8]) -> Result<(Stored, &[u8]), FieldFault>
 }
 
 // The fields of the value under a key.
-#[tactic(auto, unfolding(crate::specs::Reading::value_fields))]
+#[tactic(auto, unfolding(crate::specs::PairReading::value_fields))]
 fn value_fields(alloc: Global, key: OwnedKey, bytes: &[u8]) -> Result<(Stored, &[u8]), FieldFault>
     ensures { ReadsAs (λ x. (x.0, x.1.now)) result (value_fields key bytes.now) }
 {

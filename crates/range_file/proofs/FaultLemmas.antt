@@ -9,7 +9,7 @@ use Rattle.lake_format.specs.declared.fields.FieldFault.{FieldFault}
 use Rattle.lake_format.specs.declared.fields.FieldFault.TheVariants.{Short, Bad, NoMemory as FieldNoMemory}
 use Rattle.lake_format.proofs.ReadingLemmas.{Reader, IsSteady, text_steady, entry_steady, number_steady}
 use Rattle.range_file.specs.Rows.{RowValue, last_path}
-use Rattle.range_file.specs.Reading.{◌>>=◌, IsSettled, field, read_next_path, read_row, read_rows, read_count, range_from}
+use Rattle.range_file.specs.RangeReading.{◌>>=◌, IsSettled, field, read_next_path, read_row, read_rows, read_count, range_from}
 use Rattle.range_file.specs.declared.fault.RangeFault.{RangeFault}
 use Rattle.range_file.specs.declared.fault.RangeFault.TheVariants.{Version, Truncated, Empty, BadRow, Order, Trailing, NoMemory}
 use Rattle.range_file.proofs.MemoryLemmas.{Tells, number_tells, path_tells, entry_tells}

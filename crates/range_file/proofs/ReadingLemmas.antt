@@ -12,7 +12,7 @@ use Rattle.lake_format.specs.declared.fields.FieldFault.{FieldFault}
 use Rattle.lake_format.proofs.FieldsLemmas.{Takes, takes_then, wide32, number_takes, number_again, text_limits, text_takes, text_again, path_of_text, text_of_path}
 use Rattle.lake_format.proofs.EncodingLemmas.{entry_takes, entry_again}
 use Rattle.range_file.specs.Rows.{RowValue, AreRows, last_path}
-use Rattle.range_file.specs.Reading.{◌>>=◌, Fails, field, read_next_path, read_row, read_rows, read_count, range_from}
+use Rattle.range_file.specs.RangeReading.{◌>>=◌, Fails, field, read_next_path, read_row, read_rows, read_count, range_from}
 use Rattle.range_file.specs.declared.fault.RangeFault.{RangeFault}
 use Rattle.range_file.specs.declared.fault.RangeFault.TheVariants.{Version, Empty, BadRow, Order, Trailing, NoMemory}
 use Rattle.range_file.proofs.RowsLemmas.{ascend_more, next_of_ascend}

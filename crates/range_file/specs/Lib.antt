@@ -1,2 +1,2 @@
+pub mod RangeReading
 pub mod Rows
-pub mod Reading

@@ -2,7 +2,7 @@
 ghost use Rattle.std.specs.Prelude.{◌≡◌, List, [], length, Ok, IfOk};
 ghost use Rattle.lake_format.specs.Spelling.{range_spelling, IsRange};
 ghost use Rattle.range_file.specs.Rows.{RowValue};
-ghost use Rattle.range_file.specs.Reading.{Answers, ReadsAs, read_next_path, read_row, read_rows, read_count, range_from};
+ghost use Rattle.range_file.specs.RangeReading.{Answers, ReadsAs, read_next_path, read_row, read_rows, read_count, range_from};
 
 use crate::fault::{RangeFault, fault_of};
 use crate::rows::{Range, Row, is_above};
@@ -29,7 +29,7 @@ pub fn decode(alloc: Global, bytes: &[u8]) -> Result<Range, RangeFault>
 }
 
 // The rows, and nothing behind them.
-#[tactic(auto, unfolding(crate::specs::Reading::range_from))]
+#[tactic(auto, unfolding(crate::specs::RangeReading::range_from))]
 fn read_range(alloc: Global, bytes: &[u8]) -> Result<Range, RangeFault>
     ensures { Answers result (range_from bytes.now) }
 {
@@ -42,7 +42,7 @@ fn read_range(alloc: Global, bytes: &[u8]) -> Result<Range, RangeFault>
 }
 
 // The version and the count of rows.
-#[tactic(auto, unfolding(crate::specs::Reading::read_count))]
+#[tactic(auto, unfolding(crate::specs::RangeReading::read_count))]
 fn read_count(bytes: &[u8]) -> Result<(u32, &[u8]), RangeFault>
     ensures { ReadsAs (λ x. (x.0, x.1.now)) result (read_count (length bytes.now) bytes.now) }
 {
@@ -80,7 +80,7 @@ fn read_rows(
 }
 
 // The row behind those before it, in an input of `len` bytes.
-#[tactic(auto, unfolding(crate::specs::Reading::read_row))]
+#[tactic(auto, unfolding(crate::specs::RangeReading::read_row))]
 fn read_row<'a>(
     alloc: Global,
     before: &[Row],
@@ -96,7 +96,7 @@ fn read_row<'a>(
 }
 
 // The path of the row behind those before it, in an input of `len` bytes.
-#[tactic(auto, unfolding(crate::specs::Reading::read_next_path))]
+#[tactic(auto, unfolding(crate::specs::RangeReading::read_next_path))]
 fn read_next_path<'a>(
     alloc: Global,
     before: &[Row],

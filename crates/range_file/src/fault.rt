@@ -1,6 +1,6 @@
 //! Why bytes aren't the file of a range.
 ghost use Rattle.std.specs.Prelude.{◌≡◌};
-ghost use Rattle.range_file.specs.Reading.{fault_of};
+ghost use Rattle.range_file.specs.RangeReading.{fault_of};
 ghost use Rattle.range_file.specs.declared.fault.RangeFault.TheVariants.{NoMemory as range_no_memory};
 
 use lake_format::FieldFault;

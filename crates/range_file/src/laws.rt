@@ -2,7 +2,7 @@
 ghost use Rattle.std.specs.Prelude.{◌≡◌, ◌≢◌, ◌<◌, ◌++◌, ℕ, List, length, Ok, Err};
 ghost use Rattle.lake_format.specs.Spelling.{range_spelling, IsRange, AreBytes};
 ghost use Rattle.range_file.specs.Rows.{RowValue};
-ghost use Rattle.range_file.specs.Reading.{IsSettled, range_from};
+ghost use Rattle.range_file.specs.RangeReading.{IsSettled, range_from};
 ghost use Rattle.range_file.specs.declared.fault.RangeFault.{RangeFault as AnyFault};
 ghost use Rattle.range_file.specs.declared.fault.RangeFault.TheVariants.{Truncated, Trailing, NoMemory};
 

@@ -4,8 +4,8 @@ ghost use Rattle.std.specs.Prelude.{◌≡◌, IfSome, IsTrue, false};
 ghost use Rattle.lake_base.specs.Names.{is_like_id};
 ghost use Rattle.lake_values.specs.NoteNames.{note_name};
 ghost use Rattle.lake_model.specs.Uncommitted.{HasTicket, put_number};
-ghost use Rattle.lake_puts.specs.Puts.{HasText};
-ghost use Rattle.lake_preparing.specs.Preparations.{HasSides};
+ghost use Rattle.core_puts.specs.Puts.{HasText};
+ghost use Rattle.core_readings.specs.Preparations.{HasSides};
 ghost use Rattle.lake_core.specs.Lakes.{state};
 
 use crate::target::{Named, Target};

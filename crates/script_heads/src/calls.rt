@@ -4,15 +4,15 @@ ghost use Rattle.std.specs.Prelude.{◌≡◌, ◌<◌, IfOk, IfSome, IsTrue};
 ghost use Rattle.lake_values.specs.Commit.{AboutValue};
 ghost use Rattle.lake_model.specs.declared.reply.SwapKind.{SwapKind as AnyKind};
 ghost use Rattle.meta_range.specs.Ranges.{TreeValue};
-ghost use Rattle.lake_preparing.specs.Preparations.{HasSides};
-ghost use Rattle.lake_core.specs.Heads.{IsReadyFor};
+ghost use Rattle.core_readings.specs.Preparations.{HasSides};
+ghost use Rattle.lake_core.specs.HeadConditions.{IsReadyFor};
 ghost use Rattle.lake_core.specs.Lakes.{state, versions};
-ghost use Rattle.lake_drafting.specs.Heads.{sides_of};
+ghost use Rattle.head_drafts.specs.HeadDrafts.{sides_of};
 
 use crate::latest::Handed;
 use keeper::Keeper;
 use lake_core::Lake;
-use lake_drafting::{DraftFault, HeadDraft, HeadFault};
+use head_drafts::{DraftFault, HeadDraft, HeadFault};
 use lake_model::{By, Sides, StepFault, SwapKind};
 use lake_values::{About, CommitId, CommitRecord, Strategy};
 use meta_range::Tree;
@@ -41,14 +41,14 @@ pub fn draft_head<K: Keeper>(
     ensures { IfOk result (λ head. IsReadyFor (state lake.now) (versions lake.now) branch.now.repo branch.now.name
         head.version head.settings kind about.now head.tree) }
 {
-    lake_drafting::draft_head(alloc, lake, &branch.repo, &branch.name, kind, about)
+    head_drafts::draft_head(alloc, lake, &branch.repo, &branch.name, kind, about)
 }
 
 pub fn is_outdated<K: Keeper>(lake: &Lake<K>, branch: &Named, version: u64, settings: u64) -> bool
     ensures { IsTrue result → (kind : AnyKind) (about : AboutValue) (tree : TreeValue)
         → IsReadyFor (state lake.now) (versions lake.now) branch.now.repo branch.now.name version settings kind about tree }
 {
-    lake_drafting::is_outdated(lake, &branch.repo, &branch.name, version, settings)
+    head_drafts::is_outdated(lake, &branch.repo, &branch.name, version, settings)
 }
 
 /// The tree of what was handed out.
@@ -59,7 +59,7 @@ pub fn draft(
     branch: &Named,
     about: &About,
 ) -> Result<Tree, DraftFault> {
-    lake_drafting::draft(
+    head_drafts::draft(
         alloc,
         &handed.prepared,
         strategy,

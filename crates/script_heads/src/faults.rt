@@ -1,6 +1,6 @@
 //! Why there is no draft, in the words of scripts.
 
-use lake_drafting::{DraftFault, HeadFault};
+use head_drafts::{DraftFault, HeadFault};
 use lake_model::StepFault;
 use script_forms::{DraftRefusal, ScriptFault};
 

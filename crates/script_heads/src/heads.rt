@@ -1,8 +1,8 @@
 //! New heads by what the lake hands out now.
 ghost use Rattle.std.specs.Prelude.{IfSome, IsTrue};
-ghost use Rattle.lake_preparing.specs.Preparations.{HasSides};
+ghost use Rattle.core_readings.specs.Preparations.{HasSides};
 ghost use Rattle.lake_core.specs.Lakes.{state};
-ghost use Rattle.lake_drafting.specs.Heads.{sides_of};
+ghost use Rattle.head_drafts.specs.HeadDrafts.{sides_of};
 
 use crate::calls;
 use crate::faults::head_fault;
@@ -11,7 +11,7 @@ use crate::words::{about_of, strategy_of};
 use keeper::Keeper;
 use lake_base::RepoName;
 use lake_core::Lake;
-use lake_drafting::sides_of;
+use head_drafts::sides_of;
 use lake_model::{By, SwapKind};
 use lake_values::About;
 use script_calls::calls::are_commits;

@@ -8,7 +8,7 @@ use crate::words::{about_of, strategy_of};
 use keeper::Keeper;
 use lake_base::NoMemory;
 use lake_core::Lake;
-use lake_drafting::HeadDraft;
+use head_drafts::HeadDraft;
 use lake_format::USUAL_CUT;
 use lake_model::By;
 use lake_values::{About, KeyMap, Strategy};

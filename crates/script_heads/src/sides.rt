@@ -1,6 +1,6 @@
 //! The commits of a merge or a pick, as a line names them.
 ghost use Rattle.std.specs.Prelude.{IfOk, IfSome};
-ghost use Rattle.lake_preparing.specs.Preparations.{HasSides};
+ghost use Rattle.core_readings.specs.Preparations.{HasSides};
 ghost use Rattle.lake_core.specs.Lakes.{state};
 
 use keeper::Keeper;

@@ -8,7 +8,7 @@ use lake_base::{Digest, NoMemory, Path, RefName, RepoName, Sequence, TryCopy};
 use lake_core::Lake;
 use lake_format::entry_bytes;
 use lake_pages::{Item, PageQuery};
-use lake_state::{BranchState, RepositoryState};
+use core_state::{BranchState, RepositoryState};
 use lake_values::{CommitId, Entry};
 use script_calls::calls;
 use script_calls::target::Target;

@@ -6,7 +6,7 @@ use keeper::Keeper;
 use lake_base::{NoMemory, RepoName};
 use lake_core::Lake;
 use lake_model::RepoInfo;
-use lake_state::RepositoryState;
+use core_state::RepositoryState;
 use script_calls::calls;
 use script_forms::{ScriptFault, name_values, repo_members};
 use serde_json::{Map, Value};

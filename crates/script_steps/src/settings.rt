@@ -1,7 +1,7 @@
 //! Settings that are set and deleted.
 ghost use Rattle.std.specs.Prelude.{◌≡◌, IfOk, IfSome};
 ghost use Rattle.lake_values.specs.NoteNames.{note_name};
-ghost use Rattle.lake_puts.specs.Puts.{HasText};
+ghost use Rattle.core_puts.specs.Puts.{HasText};
 
 use hook_rules::{read_hooks, read_protection};
 use keeper::Keeper;

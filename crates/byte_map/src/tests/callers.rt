@@ -2,7 +2,7 @@
 ghost use Rattle.std.specs.Prelude.{◌≡◌, ◌+◌, ◌-◌, ◌^◌, min, map as each, IfOk};
 ghost use Rattle.std.specs.Option.{option_map_or};
 ghost use Rattle.std.specs.FinMap as map;
-ghost use Rattle.byte_map.specs.Rows.{entries_above};
+ghost use Rattle.byte_map.specs.MapRows.{entries_above};
 
 use crate::ByteMap;
 use lake_base::{RefName, RepoName};

@@ -2,8 +2,8 @@ use Rattle.std.proofs.Common.{refl, subst, sym}
 use Rattle.lake_model.specs.Uncommitted.{HasTicket}
 use Rattle.batch_session.specs.declared.text.LineText.{LineText}
 use Rattle.batch_session.specs.Calling.{lake_at}
-use Rattle.batch_session.specs.Steps.{state_at}
-use Rattle.batch_lines.specs.Command.{upload_of}
+use Rattle.batch_session.specs.SureSteps.{state_at}
+use Rattle.batch_session.specs.Command.{upload_of}
 use Rattle.batch_session.proofs.UploadLemmas.{left_staged, serves_accepted, serves_error, serves_kept_ticket, serves_no_stage, serves_no_ticket, ticket_there}
 use Rattle.batch_session.proofs.calls.serve_upload.Goals as goal
 

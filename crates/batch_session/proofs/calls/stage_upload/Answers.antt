@@ -3,8 +3,8 @@ use Rattle.std.specs.Prelude.{IfSome}
 use Rattle.lake_values.specs.declared.entry.Change.TheVariants.{Put}
 use Rattle.lake_model.specs.Uncommitted.{HasTicket, put_number}
 use Rattle.lake_calls.specs.Courses.{upload_entry}
-use Rattle.batch_session.specs.Steps.{state_at}
-use Rattle.batch_lines.specs.Command.{upload_of}
+use Rattle.batch_session.specs.SureSteps.{state_at}
+use Rattle.batch_session.specs.Command.{upload_of}
 use Rattle.batch_session.proofs.SessionLemmas.{never_failed}
 use Rattle.batch_session.proofs.UploadLemmas.{held_and_staged}
 use Rattle.batch_session.proofs.calls.stage_upload.Goals as goal

@@ -2,7 +2,7 @@ use Rattle.std.proofs.Common.{◌≡◌, ◌∙◌, sym, ap, Some, None, true, n
 use Rattle.std.proofs.lemmas.Result.{IfOk-weaker}
 use Rattle.std.specs.List.{starts_with}
 use Rattle.lake_base.specs.Names.{path_fault}
-use Rattle.batch_lines.specs.Command.{branch_uri}
+use Rattle.batch_session.specs.Command.{branch_uri}
 use Rattle.batch_session.proofs.CommandLemmas.{path_of_by, fault_found}
 use Rattle.batch_session.proofs.command.read_path.Goals as goal
 

@@ -1,6 +1,6 @@
 use Rattle.std.proofs.Common.{[], inl, refl, sym, ap, ◌∙◌, subst}
-use Rattle.batch_lines.specs.Batch.{IsValueServed, skipped_effect, starved_effect, unbuilt_effect}
-use Rattle.batch_lines.specs.Command.{line_value}
+use Rattle.batch_session.specs.Batch.{IsValueServed, skipped_effect, starved_effect, unbuilt_effect}
+use Rattle.batch_session.specs.Command.{line_value}
 use Rattle.batch_session.specs.CommandView.{line_view}
 use Rattle.batch_session.specs.Session.{lake_of}
 use Rattle.batch_session.proofs.MomentsLemmas.{moments_none}

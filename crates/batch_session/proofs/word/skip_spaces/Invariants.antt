@@ -1,5 +1,5 @@
 use Rattle.std.proofs.Common.{◌≡◌, length}
-use Rattle.batch_lines.specs.Command.{words_of}
+use Rattle.batch_session.specs.Command.{words_of}
 use Rattle.batch_session.proofs.word.skip_spaces.Given as goal
 
 abbrev pub invariant-loop-rest : goal.invariant-loop-rest

@@ -4,7 +4,7 @@ use Rattle.std.proofs.lemmas.Cmp.{nat_list_cmp_total}
 use Rattle.lake_base.specs.Maps.{byte_order}
 use Rattle.lake_values.specs.Reset.{changes_after_reset}
 use Rattle.lake_values.specs.declared.commit.ResetWhat.TheVariants.{Prefix}
-use Rattle.branch_record.specs.Steps.{IsNoneUnder, IsUnder}
+use Rattle.branch_record.specs.TokenRows.{IsNoneUnder, IsUnder}
 use Rattle.branch_record.proofs.ChangesLemmas.{rows_removed}
 use Rattle.branch_record.proofs.PrefixLemmas.{reset_nothing, reset_removed}
 use Rattle.branch_record.proofs.ordered.drop_each.Goals as goal

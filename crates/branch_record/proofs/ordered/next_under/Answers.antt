@@ -1,7 +1,7 @@
 use Rattle.std.proofs.Common.{◌≡◌, true, false, sym, subst}
 use Rattle.std.specs.Prelude.{nat_eq}
 use Rattle.std.specs.List.{starts_with}
-use Rattle.branch_record.specs.Steps.{IsUnder}
+use Rattle.branch_record.specs.TokenRows.{IsUnder}
 use Rattle.branch_record.proofs.PrefixLemmas.{none_found, one_found, other_found}
 use Rattle.branch_record.proofs.ordered.next_under.Goals as goal
 

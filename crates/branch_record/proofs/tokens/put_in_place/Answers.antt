@@ -3,7 +3,7 @@ use Rattle.std.specs.Option.{is_some}
 use Rattle.std.specs.FinMap.{insert}
 use Rattle.std.proofs.lemmas.Result.{on_ok_weaker, on_err_weaker}
 use Rattle.branch_record.specs.Tokens.{with_changes, with_change}
-use Rattle.branch_record.specs.Steps.{tokens_of}
+use Rattle.branch_record.specs.TokenRows.{tokens_of}
 use Rattle.branch_record.proofs.RowsLemmas.{rows_written, with_same, with_change_is}
 use Rattle.branch_record.proofs.tokens.put_in_place.Goals as goal
 

@@ -2,7 +2,7 @@ use Rattle.std.proofs.Common.{ap, sym, ◌∙◌}
 use Rattle.std.specs.Option.{is_some}
 use Rattle.lake_values.specs.Reset.{changes_after_reset}
 use Rattle.branch_record.specs.Tokens.{with_changes}
-use Rattle.branch_record.specs.Steps.{tokens_of}
+use Rattle.branch_record.specs.TokenRows.{tokens_of}
 use Rattle.branch_record.proofs.RowsLemmas.{rows_written, reset_absent}
 use Rattle.branch_record.proofs.tokens.reset_in_place.Goals as goal
 

@@ -1,6 +1,6 @@
 use Rattle.std.proofs.Common.{arith, ap, subst, sym, ◌∙◌}
 use Rattle.std.proofs.lemmas.Result.{err_from_is_err_and}
-use Rattle.commit_graph.specs.Reading.{Fails, commit_from}
+use Rattle.commit_graph.specs.CommitReading.{Fails, commit_from}
 use Rattle.commit_graph.proofs.ReadingLemmas.{found, again}
 use Rattle.commit_graph.proofs.decoding.commit_read.Goals as goal
 

@@ -1,6 +1,6 @@
 use Rattle.std.proofs.Common.{[]}
 use Rattle.std.proofs.lemmas.Result.{err_from_is_err_and}
-use Rattle.commit_graph.specs.Reading.{read_ids}
+use Rattle.commit_graph.specs.CommitReading.{read_ids}
 use Rattle.commit_graph.proofs.ReadingLemmas.{goes_on, ends, is_done}
 use Rattle.commit_graph.proofs.decoding.read_ids.Goals as goal
 

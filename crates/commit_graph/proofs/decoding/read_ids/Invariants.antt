@@ -1,5 +1,5 @@
 use Rattle.std.proofs.Common.{◌≡◌, ◌-◌, []}
-use Rattle.commit_graph.specs.Reading.{read_ids}
+use Rattle.commit_graph.specs.CommitReading.{read_ids}
 use Rattle.commit_graph.proofs.decoding.read_ids.Given as goal
 
 -- the ids so far, and those still read behind them, are all

@@ -1,5 +1,5 @@
 use Rattle.std.proofs.Common.{◌≡◌, drop}
-use Rattle.keeper.specs.Memory.{first_landing}
+use Rattle.keeper.specs.FailingKeepers.{first_landing}
 use Rattle.keeper.proofs.memory.first_landing.Given as goal
 
 -- it is the first of those to come

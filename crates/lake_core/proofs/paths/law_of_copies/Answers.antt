@@ -1,4 +1,4 @@
-use Rattle.lake_causes.specs.Finding.{source_of}
+use Rattle.core_causes.specs.Finding.{source_of}
 use Rattle.lake_core.proofs.paths.law_of_copies.Goals as goal
 
 pub returns-clause-sound : goal.returns-clause-sound

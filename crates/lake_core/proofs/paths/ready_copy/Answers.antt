@@ -3,8 +3,8 @@ use Rattle.std.specs.Prelude.{Some, None}
 use Rattle.lake_model.specs.declared.fault.StepFault.TheVariants.{NoMemory}
 use Rattle.lake_model.specs.Refusals.{first_cause}
 use Rattle.lake_model.specs.Steps.{copy_causes}
-use Rattle.lake_state.specs.Lakes.{lake_value, state_of}
-use Rattle.lake_core.specs.Ready.{IsReadyCopy}
+use Rattle.core_state.specs.LakeStates.{lake_value, state_of}
+use Rattle.lake_core.specs.ReadyChanges.{IsReadyCopy}
 use Rattle.lake_core.proofs.StepLemmas.{told_again}
 use Rattle.lake_core.proofs.paths.ready_copy.Goals as goal
 

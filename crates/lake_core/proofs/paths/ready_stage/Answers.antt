@@ -4,9 +4,9 @@ use Rattle.lake_model.specs.declared.fault.StepFault.TheVariants.{NoMemory}
 use Rattle.lake_model.specs.declared.history.Operation.TheVariants.{Stage}
 use Rattle.lake_model.specs.Refusals.{first_cause}
 use Rattle.lake_model.specs.Steps.{stage_causes}
-use Rattle.lake_state.specs.Lakes.{lake_value, state_of}
-use Rattle.lake_puts.specs.Puts.{stage_puts}
-use Rattle.lake_core.specs.Ready.{IsReady}
+use Rattle.core_state.specs.LakeStates.{lake_value, state_of}
+use Rattle.core_puts.specs.Puts.{stage_puts}
+use Rattle.lake_core.specs.ReadyChanges.{IsReady}
 use Rattle.lake_core.proofs.StepLemmas.{told_again}
 use Rattle.lake_core.proofs.paths.ready_stage.Goals as goal
 

@@ -4,9 +4,9 @@ use Rattle.lake_model.specs.declared.fault.StepFault.TheVariants.{NoMemory}
 use Rattle.lake_model.specs.declared.history.Operation.TheVariants.{Copy}
 use Rattle.lake_model.specs.Refusals.{first_cause}
 use Rattle.lake_model.specs.Steps.{copy_causes}
-use Rattle.lake_causes.specs.Finding.{FindsCopy, source_of}
-use Rattle.lake_state.specs.Lakes.{lake_value, state_of}
-use Rattle.lake_core.specs.Ready.{IsTestedCopy}
+use Rattle.core_causes.specs.Finding.{FindsCopy, source_of}
+use Rattle.core_state.specs.LakeStates.{lake_value, state_of}
+use Rattle.lake_core.specs.ReadyChanges.{IsTestedCopy}
 use Rattle.lake_core.proofs.StepLemmas.{told_again}
 use Rattle.lake_core.proofs.paths.tested_copy.Goals as goal
 

@@ -1,8 +1,8 @@
 use Rattle.std.proofs.Common.{ap, sym, subst, ◌∙◌}
-use Rattle.lake_changes.proofs.FoundingLemmas.{file_named}
-use Rattle.lake_founding.proofs.FoundingLemmas.{is_first_commit}
-use Rattle.lake_founding.specs.Founding.{IsFirst}
-use Rattle.lake_state.specs.Lakes.{LakeStateValue, lake_value}
+use Rattle.core_changes.proofs.FoundingLemmas.{file_named}
+use Rattle.core_puts.proofs.FoundingLemmas.{is_first_commit}
+use Rattle.core_puts.specs.FreshLakes.{IsFirst}
+use Rattle.core_state.specs.LakeStates.{LakeStateValue, lake_value}
 use Rattle.lake_core.proofs.RepositoryLemmas.{room_again}
 use Rattle.lake_core.proofs.repositories.parts_of_repository.Goals as goal
 

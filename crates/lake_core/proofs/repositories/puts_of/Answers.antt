@@ -1,7 +1,7 @@
 use Rattle.std.proofs.Common.{subst, sym}
-use Rattle.lake_puts.specs.FirstCommits.{IsFirstCommit}
-use Rattle.lake_founding.proofs.FoundingLemmas.{is_first_commit}
-use Rattle.lake_state.specs.Lakes.{lake_value}
+use Rattle.core_puts.specs.FirstCommits.{IsFirstCommit}
+use Rattle.core_puts.proofs.FoundingLemmas.{is_first_commit}
+use Rattle.core_state.specs.LakeStates.{lake_value}
 use Rattle.lake_core.proofs.repositories.puts_of.Goals as goal
 
 pub create_repository_puts-requires-clause-first : goal.create_repository_puts-requires-clause-first

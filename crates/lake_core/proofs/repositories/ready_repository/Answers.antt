@@ -1,7 +1,7 @@
 use Rattle.std.proofs.Common.{◌≡◌, ◌⊎◌, inl, inr, refl}
 use Rattle.lake_model.specs.declared.fault.StepFault.TheVariants.{NoMemory}
-use Rattle.lake_founding.proofs.FoundingLemmas.{at_date, dated}
-use Rattle.lake_state.specs.Lakes.{lake_value, state_of}
+use Rattle.core_puts.proofs.FoundingLemmas.{at_date, dated}
+use Rattle.core_state.specs.LakeStates.{lake_value, state_of}
 use Rattle.lake_core.proofs.RepositoryLemmas.{asked_again, asked_well, ready_at, unready_asks}
 use Rattle.lake_core.proofs.StepLemmas.{told_again}
 use Rattle.lake_core.proofs.repositories.ready_repository.Goals as goal

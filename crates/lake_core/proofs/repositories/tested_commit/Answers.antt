@@ -1,10 +1,10 @@
 use Rattle.std.specs.FinMap.{empty}
 use Rattle.lake_format.specs.Cutting.{files}
 use Rattle.meta_range.specs.Ranges.{first_file}
-use Rattle.lake_causes.proofs.RepositoriesLemmas.{some_clash}
-use Rattle.lake_changes.proofs.FoundingLemmas.{one_file}
-use Rattle.lake_founding.proofs.FoundingLemmas.{first_files}
-use Rattle.lake_state.specs.Lakes.{lake_value, state_of}
+use Rattle.core_causes.proofs.RepositoriesLemmas.{some_clash}
+use Rattle.core_changes.proofs.FoundingLemmas.{one_file}
+use Rattle.core_puts.proofs.FoundingLemmas.{first_files}
+use Rattle.core_state.specs.LakeStates.{lake_value, state_of}
 use Rattle.lake_core.proofs.RepositoryLemmas.{asked_again, asked_well, unmade_asks}
 use Rattle.lake_core.proofs.repositories.tested_commit.Goals as goal
 

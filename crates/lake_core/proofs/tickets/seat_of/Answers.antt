@@ -1,5 +1,5 @@
 use Rattle.std.proofs.Common.{ap, sym, ◌∙◌}
-use Rattle.lake_changes.proofs.TicketsLemmas.{get_tickets, seat_of}
+use Rattle.core_changes.proofs.TicketsLemmas.{get_tickets, seat_of}
 use Rattle.lake_core.proofs.tickets.seat_of.Goals as goal
 
 pub returns-in-Some : goal.returns-in-Some

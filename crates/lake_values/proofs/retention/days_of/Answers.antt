@@ -1,6 +1,6 @@
 use Rattle.std.proofs.Common.{◌≡◌, ◌<◌, true, ℕ, ap, sym, subst, List, arith, ◌∙◌}
 use Rattle.std.specs.Str.{bytes_eq}
-use Rattle.lake_values.specs.Keeping.{days_of, days_in}
+use Rattle.lake_values.specs.Retention.{days_of, days_in}
 use Rattle.lake_values.specs.Settings.{RulesValue}
 use Rattle.lake_values.proofs.retention.days_of.Goals as goal
 use Rattle.lake_values.proofs.RetentionLemmas.{days_found, days_otherwise}

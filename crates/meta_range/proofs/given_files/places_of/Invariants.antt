@@ -1,6 +1,6 @@
 use Rattle.std.proofs.Common.{take}
 use Rattle.meta_range.specs.Files.{given_name}
-use Rattle.meta_range.specs.Names.{TellsFirst}
+use Rattle.meta_range.specs.RangeNames.{TellsFirst}
 use Rattle.meta_range.proofs.given_files.places_of.Given as goal
 
 -- the table tells of the files so far

@@ -1,6 +1,6 @@
 use Rattle.std.proofs.Common.{subst}
 use Rattle.lake_base.specs.declared.digest.Digest.{Digest}
-use Rattle.meta_range.specs.Names.{PutsFirst, range_name}
+use Rattle.meta_range.specs.RangeNames.{PutsFirst, range_name}
 use Rattle.meta_range.proofs.NamesLemmas.{tells_more}
 use Rattle.meta_range.proofs.named_ranges.places_of.Goals as goal
 

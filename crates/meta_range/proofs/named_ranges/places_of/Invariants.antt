@@ -1,5 +1,5 @@
 use Rattle.std.proofs.Common.{take}
-use Rattle.meta_range.specs.Names.{TellsFirst, range_name}
+use Rattle.meta_range.specs.RangeNames.{TellsFirst, range_name}
 use Rattle.meta_range.proofs.named_ranges.places_of.Given as goal
 
 -- the table tells of the ranges so far

@@ -2,7 +2,7 @@ use Rattle.std.proofs.Common.{◌≡◌, ◌+◌, ◌++◌, List, length, drop, 
 use Rattle.lake_format.specs.Cutting.{first_len}
 use Rattle.range_file.specs.Rows.{RowValue}
 use Rattle.meta_range.specs.Ranges.{rows_of}
-use Rattle.meta_range.specs.Reading.{not_cut}
+use Rattle.meta_range.specs.TreeReading.{not_cut}
 use Rattle.meta_range.proofs.FirstLemmas.{stray_here, stray_later, stray_none}
 use Rattle.meta_range.proofs.reading.not_cut.Goals as goal
 

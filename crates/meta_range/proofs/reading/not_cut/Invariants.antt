@@ -1,7 +1,7 @@
 use Rattle.std.proofs.Common.{◌≡◌, drop}
 use Rattle.lake_format.specs.Cutting.{ranges}
 use Rattle.meta_range.specs.Ranges.{rows_of}
-use Rattle.meta_range.specs.Reading.{first_stray, not_cut}
+use Rattle.meta_range.specs.TreeReading.{first_stray, not_cut}
 use Rattle.meta_range.proofs.reading.not_cut.Given as goal
 
 -- the first that is astray among the rest is the first of all

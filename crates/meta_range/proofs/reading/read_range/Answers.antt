@@ -1,6 +1,6 @@
 use Rattle.std.proofs.Common.{◌≡◌, true, ap, sym, subst, ◌∙◌}
 use Rattle.lake_format.specs.Spelling.{file_name}
-use Rattle.meta_range.specs.Reading.{is_said, IsRead}
+use Rattle.meta_range.specs.TreeReading.{is_said, IsRead}
 use Rattle.meta_range.proofs.ReadingLemmas.{file_read, is_read}
 use Rattle.meta_range.proofs.reading.read_range.Goals as goal
 

@@ -1,7 +1,7 @@
 use Rattle.std.proofs.Common.{[], length, ap, sym, subst, ◌∙◌, take, drop, ◌+◌}
 use Rattle.std.proofs.lemmas.List.{take_all}
 use Rattle.std.proofs.lemmas.Result.{err_from_is_err_and}
-use Rattle.meta_range.specs.Reading.{Fails, read_range, read_ranges, AreRead}
+use Rattle.meta_range.specs.TreeReading.{Fails, read_range, read_ranges, AreRead}
 use Rattle.meta_range.proofs.ReadingLemmas.{goes_on, ends, is_done, read_more}
 use Rattle.meta_range.proofs.reading.read_ranges.Goals as goal
 

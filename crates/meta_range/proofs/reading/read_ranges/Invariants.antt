@@ -1,5 +1,5 @@
 use Rattle.std.proofs.Common.{◌≡◌, [], drop, take}
-use Rattle.meta_range.specs.Reading.{read_ranges, AreRead}
+use Rattle.meta_range.specs.TreeReading.{read_ranges, AreRead}
 use Rattle.meta_range.proofs.reading.read_ranges.Given as goal
 
 -- the ranges so far, and those still read behind them, are all; what is said of them is said of those so far

@@ -2,7 +2,7 @@ use Rattle.std.proofs.Common.{List, [], Ok, length, ap, sym, subst, ◌∙◌, a
 use Rattle.std.proofs.lemmas.Result.{err_from_is_err_and}
 use Rattle.range_file.specs.Rows.{RowValue}
 use Rattle.meta_range.specs.Ranges.{TreeValue, rows_of}
-use Rattle.meta_range.specs.Reading.{Fails, read_ranges, not_cut, AreRead, IsTreeOf}
+use Rattle.meta_range.specs.TreeReading.{Fails, read_ranges, not_cut, AreRead, IsTreeOf}
 use Rattle.meta_range.proofs.ReadingLemmas.{HasRead, name_is, are_ranges, is_tree, fails_file, fails_metarange, fails_ranges, reads_stray, reads_tree}
 use Rattle.meta_range.proofs.reading.read_tree.Goals as goal
 

@@ -1,6 +1,6 @@
 use Rattle.std.proofs.Common.{arith, ◌≡◌, subst, sym, ◌∙◌, Ok}
 use Rattle.std.proofs.lemmas.Result.{err_from_is_err_and}
-use Rattle.pair_format.specs.Reading.{Fails, pair_from}
+use Rattle.pair_format.specs.PairReading.{Fails, pair_from}
 use Rattle.pair_format.proofs.ReadingLemmas.{found, again}
 use Rattle.pair_format.proofs.decoding.decode_parts.Goals as goal
 

@@ -1,6 +1,6 @@
 use Rattle.std.proofs.Common.{◌∙◌}
 use Rattle.std.specs.Int.{w64, to_be_bytes}
-use Rattle.pair_format.specs.Spelling.{tokens_spelling}
+use Rattle.pair_format.specs.PairSpelling.{tokens_spelling}
 use Rattle.pair_format.proofs.EncodingLemmas.{four}
 use Rattle.pair_format.proofs.encoding.branch_value.Goals as goal
 

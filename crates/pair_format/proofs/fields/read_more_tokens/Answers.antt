@@ -1,6 +1,6 @@
 use Rattle.std.proofs.Common.{[]}
 use Rattle.std.proofs.lemmas.Result.{err_from_is_err_and}
-use Rattle.pair_format.specs.Reading.{read_more_tokens}
+use Rattle.pair_format.specs.PairReading.{read_more_tokens}
 use Rattle.pair_format.proofs.FieldsLemmas.{goes_on, ends, is_done}
 use Rattle.pair_format.proofs.fields.read_more_tokens.Goals as goal
 

@@ -1,5 +1,5 @@
 use Rattle.std.proofs.Common.{◌≡◌, ◌-◌, []}
-use Rattle.pair_format.specs.Reading.{read_more_tokens}
+use Rattle.pair_format.specs.PairReading.{read_more_tokens}
 use Rattle.pair_format.proofs.fields.read_more_tokens.Given as goal
 
 -- the tokens so far, and those still read behind them, are all

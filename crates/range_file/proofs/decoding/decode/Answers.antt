@@ -1,6 +1,6 @@
 use Rattle.std.proofs.Common.{arith, ap, subst, sym, ◌∙◌}
 use Rattle.std.proofs.lemmas.Result.{err_from_is_err_and}
-use Rattle.range_file.specs.Reading.{Fails, range_from}
+use Rattle.range_file.specs.RangeReading.{Fails, range_from}
 use Rattle.range_file.proofs.ReadingLemmas.{found, again}
 use Rattle.range_file.proofs.decoding.decode.Goals as goal
 

@@ -1,6 +1,6 @@
 use Rattle.std.proofs.Common.{[], ap, sym, subst, ◌∙◌}
 use Rattle.std.proofs.lemmas.Result.{err_from_is_err_and}
-use Rattle.range_file.specs.Reading.{Fails, read_row, read_rows}
+use Rattle.range_file.specs.RangeReading.{Fails, read_row, read_rows}
 use Rattle.range_file.proofs.ReadingLemmas.{goes_on, ends, is_done}
 use Rattle.range_file.proofs.decoding.read_rows.Goals as goal
 

@@ -1,5 +1,5 @@
 use Rattle.std.proofs.Common.{◌≡◌, ◌-◌, []}
-use Rattle.range_file.specs.Reading.{read_rows}
+use Rattle.range_file.specs.RangeReading.{read_rows}
 use Rattle.range_file.proofs.decoding.read_rows.Given as goal
 
 -- the rows so far, and those still read behind them, are all

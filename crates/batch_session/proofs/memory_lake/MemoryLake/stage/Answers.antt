@@ -1,8 +1,8 @@
 use Rattle.std.proofs.Common.{inr, refl, sym}
-use Rattle.lake_state.specs.Lakes.{lake_value}
+use Rattle.core_state.specs.LakeStates.{lake_value}
 use Rattle.lake_core.specs.Lakes.{versions}
 use Rattle.lake_core.specs.Makings.{stage}
-use Rattle.batch_lines.specs.Batch.{usual_cut}
+use Rattle.batch_session.specs.Batch.{usual_cut}
 use Rattle.batch_session.proofs.StepsLemmas.{staged_step, state_of_entries, unread_branch}
 use Rattle.batch_session.proofs.memory_lake.MemoryLake.stage.Goals as goal
 

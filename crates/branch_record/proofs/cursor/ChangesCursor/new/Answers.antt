@@ -2,7 +2,7 @@ use Rattle.std.proofs.Common.{Some, sym, subst}
 use Rattle.std.specs.Map.Iter.{deref_pair}
 use Rattle.std.specs.Option.{option_map}
 use Rattle.lake_base.specs.Maps.{HasAscendingKeys}
-use Rattle.branch_record.specs.Steps.{put_row}
+use Rattle.branch_record.specs.TokenRows.{put_row}
 use Rattle.branch_record.proofs.CursorLemmas.{put_ascends}
 use Rattle.branch_record.proofs.cursor.ChangesCursor.new.Goals as goal
 

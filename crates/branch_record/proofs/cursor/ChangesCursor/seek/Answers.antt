@@ -4,7 +4,7 @@ use Rattle.std.specs.Option.{option_map}
 use Rattle.lake_base.specs.Maps.{HasAscendingKeys}
 use Rattle.lake_values.specs.Cursor.{entries_from}
 use Rattle.lake_values.proofs.CursorLemmas.{ascends_from}
-use Rattle.branch_record.specs.Steps.{put_row, rows_left}
+use Rattle.branch_record.specs.TokenRows.{put_row, rows_left}
 use Rattle.branch_record.proofs.CursorLemmas.{from_put}
 use Rattle.branch_record.proofs.cursor.ChangesCursor.seek.Goals as goal
 

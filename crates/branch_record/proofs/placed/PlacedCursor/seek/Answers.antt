@@ -6,7 +6,7 @@ use Rattle.std.specs.Ordering.{is_lt}
 use Rattle.lake_base.specs.Maps.{HasAscendingKeys, byte_order}
 use Rattle.lake_values.specs.Cursor.{entries_from}
 use Rattle.lake_values.proofs.CursorLemmas.{seek_stays}
-use Rattle.branch_record.specs.Steps.{AreFromFirst, rows_from}
+use Rattle.branch_record.specs.TokenRows.{AreFromFirst, rows_from}
 use Rattle.branch_record.proofs.CursorLemmas.{Row, ascends_left, given_back, sought, stands_from}
 use Rattle.branch_record.proofs.placed.PlacedCursor.seek.Goals as goal
 

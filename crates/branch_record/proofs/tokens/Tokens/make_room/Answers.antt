@@ -1,6 +1,6 @@
 use Rattle.std.proofs.Common.{◌≡◌, Some, ap, sym, ◌∙◌}
 use Rattle.branch_record.specs.Tokens.{TokensValue}
-use Rattle.branch_record.specs.Steps.{Waiting, tokens_of, with_waiting}
+use Rattle.branch_record.specs.TokenRows.{Waiting, tokens_of, with_waiting}
 use Rattle.branch_record.proofs.RowsLemmas.{none_waiting, one_waiting}
 use Rattle.branch_record.proofs.tokens.Tokens.make_room.Goals as goal
 

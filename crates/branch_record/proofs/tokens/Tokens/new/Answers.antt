@@ -1,6 +1,6 @@
 use Rattle.std.proofs.Common.{ap, None}
 use Rattle.branch_record.specs.Tokens.{TokensValue}
-use Rattle.branch_record.specs.Steps.{tokens_of, with_waiting}
+use Rattle.branch_record.specs.TokenRows.{tokens_of, with_waiting}
 use Rattle.branch_record.proofs.RowsLemmas.{TokenRows}
 use Rattle.branch_record.proofs.tokens.Tokens.new.Goals as goal
 

@@ -1,6 +1,6 @@
 use Rattle.std.proofs.Common.{◌≡◌, ap, sym, ◌∙◌, arith, ◌≤◌}
 use Rattle.branch_record.specs.Tokens.{TokensValue, with_change}
-use Rattle.branch_record.specs.Steps.{tokens_of, room}
+use Rattle.branch_record.specs.TokenRows.{tokens_of, room}
 use Rattle.branch_record.proofs.RowsLemmas.{none_waits, one_waiting}
 use Rattle.branch_record.proofs.tokens.Tokens.put.Goals as goal
 

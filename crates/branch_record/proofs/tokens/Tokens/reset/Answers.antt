@@ -1,7 +1,7 @@
 use Rattle.std.proofs.Common.{◌≡◌, ap, ◌∙◌}
 use Rattle.lake_values.specs.Reset.{changes_after_reset}
 use Rattle.branch_record.specs.Tokens.{TokensValue, changes_under, with_changes}
-use Rattle.branch_record.specs.Steps.{tokens_of, with_waiting}
+use Rattle.branch_record.specs.TokenRows.{tokens_of, with_waiting}
 use Rattle.branch_record.proofs.RowsLemmas.{reset_waiting}
 use Rattle.branch_record.proofs.tokens.Tokens.reset.Goals as goal
 

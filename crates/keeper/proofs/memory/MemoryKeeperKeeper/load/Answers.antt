@@ -1,6 +1,6 @@
 use Rattle.std.proofs.Common.{◌≡◌}
 use Rattle.lake_base.specs.Memory.{next_count}
-use Rattle.keeper.specs.Memory.{is_load_to_fail}
+use Rattle.keeper.specs.FailingKeepers.{is_load_to_fail}
 use Rattle.keeper.proofs.MemoryLemmas.{listed}
 use Rattle.keeper.proofs.memory.MemoryKeeperKeeper.load.Goals as goal
 

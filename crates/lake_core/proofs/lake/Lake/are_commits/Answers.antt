@@ -1,5 +1,5 @@
 use Rattle.std.proofs.Common.{◌↔◌, IsTrue}
-use Rattle.lake_preparing.specs.Preparations.{HasSides}
+use Rattle.core_readings.specs.Preparations.{HasSides}
 use Rattle.lake_core.proofs.StepLemmas.{holds_now}
 use Rattle.lake_core.proofs.lake.Lake.are_commits.Goals as goal
 

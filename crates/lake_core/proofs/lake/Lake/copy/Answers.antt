@@ -1,13 +1,13 @@
 use Rattle.std.proofs.Common.{ap, inl, inr, refl, ◌∙◌, subst, sym}
 use Rattle.std.specs.Prelude.{Some, Ok, option_map, option_and_then}
 use Rattle.lake_model.specs.Steps.{IsCopyReply, copied_entry, copy_causes}
-use Rattle.lake_causes.specs.Finding.{source_of}
-use Rattle.lake_state.specs.Counts.{AreFew}
-use Rattle.lake_state.specs.Lakes.{lake_value, state_of}
-use Rattle.lake_standing.specs.Standing.{versions_since}
-use Rattle.lake_changes.specs.LakeChanges.{after_copy}
+use Rattle.core_causes.specs.Finding.{source_of}
+use Rattle.core_state.specs.Counts.{AreFew}
+use Rattle.core_state.specs.LakeStates.{lake_value, state_of}
+use Rattle.core_standing.specs.Standing.{versions_since}
+use Rattle.core_changes.specs.LakeChanges.{after_copy}
 use Rattle.lake_core.specs.Makings.{copy, copy_making}
-use Rattle.lake_keeping.specs.Views.{KeeperView}
+use Rattle.core_puts.specs.KeeperViews.{KeeperView}
 use Rattle.lake_core.proofs.StepLemmas.{holds_now, made_leaves, made_stands, refused_stands, unkept_found, unkept_leaves, untested_leaves, untested_found}
 use Rattle.lake_core.proofs.lake.Lake.copy.Goals as goal
 

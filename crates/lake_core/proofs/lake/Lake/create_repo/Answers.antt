@@ -1,9 +1,9 @@
 use Rattle.std.proofs.Common.{ap, inl, inr, refl, ◌∙◌, subst, sym}
 use Rattle.std.specs.Prelude.{Ok, Some}
 use Rattle.lake_model.specs.Steps.{IsCreateRepositoryReply}
-use Rattle.lake_state.specs.Counts.{AreFew}
-use Rattle.lake_state.specs.Lakes.{lake_value, state_of}
-use Rattle.lake_keeping.specs.Views.{KeeperView}
+use Rattle.core_state.specs.Counts.{AreFew}
+use Rattle.core_state.specs.LakeStates.{lake_value, state_of}
+use Rattle.core_puts.specs.KeeperViews.{KeeperView}
 use Rattle.lake_core.specs.Makings.{create_repo}
 use Rattle.lake_core.proofs.RepositoryLemmas.{creation_fault, made_creation, refused_creation, repository_made, unkept_creation}
 use Rattle.lake_core.proofs.StepLemmas.{holds_now, made_leaves, made_stands, refused_stands, unkept_leaves, untested_leaves}

@@ -1,10 +1,10 @@
 use Rattle.std.proofs.Common.{ap, refl, ◌∙◌, subst, sym}
 use Rattle.std.specs.Prelude.{Ok, option_map}
 use Rattle.lake_model.specs.Steps.{IsCreateTagReply, create_tag_causes, in_it, target_in}
-use Rattle.lake_state.specs.Counts.{AreFew}
-use Rattle.lake_state.specs.Lakes.{lake_value, state_of}
-use Rattle.lake_changes.specs.LakeChanges.{after_tag_create}
-use Rattle.lake_keeping.specs.Views.{KeeperView}
+use Rattle.core_state.specs.Counts.{AreFew}
+use Rattle.core_state.specs.LakeStates.{lake_value, state_of}
+use Rattle.core_changes.specs.LakeChanges.{after_tag_create}
+use Rattle.core_puts.specs.KeeperViews.{KeeperView}
 use Rattle.lake_core.specs.Lakes.{state}
 use Rattle.lake_core.specs.Makings.{tag_making, create_tag}
 use Rattle.lake_core.proofs.StepLemmas.{holds_now, made_leaves, made_stands, refused_found, refused_leaves, refused_stands, starved_found, unkept_found, unkept_leaves, unready_leaves}

@@ -2,9 +2,9 @@ use Rattle.std.proofs.Common.{ℕ, ◌+◌, ap, refl, ◌∙◌, subst, sym}
 use Rattle.std.specs.Prelude.{Some}
 use Rattle.lake_model.specs.Refusals.{GivesOrFails, causes_of_change, first_cause}
 use Rattle.lake_model.specs.Steps.{drop_ticket_reply}
-use Rattle.lake_state.specs.Counts.{AreFew}
-use Rattle.lake_state.specs.Lakes.{lake_value, state_of}
-use Rattle.lake_changes.specs.LakeChanges.{after_ticket_drop}
+use Rattle.core_state.specs.Counts.{AreFew}
+use Rattle.core_state.specs.LakeStates.{lake_value, state_of}
+use Rattle.core_changes.specs.LakeChanges.{after_ticket_drop}
 use Rattle.lake_core.specs.Makings.{drop_ticket}
 use Rattle.lake_core.proofs.StepLemmas.{accepted, at_present, held_then, holds_now, made_leaves, made_stands, refused_leaves, refused_reply, refused_stands, unkept_leaves, unkept_reply}
 use Rattle.lake_model.specs.Uncommitted.{HasTicket}

@@ -1,6 +1,6 @@
 use Rattle.std.proofs.Common.{◌↔◌, IsTrue}
 use Rattle.lake_model.specs.Uncommitted.{HasTicket}
-use Rattle.lake_state.specs.Lakes.{lake_value}
+use Rattle.core_state.specs.LakeStates.{lake_value}
 use Rattle.lake_core.proofs.StepLemmas.{holds_now}
 use Rattle.lake_core.proofs.lake.Lake.has_ticket.Goals as goal
 

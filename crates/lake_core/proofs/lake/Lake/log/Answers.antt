@@ -1,7 +1,7 @@
 use Rattle.std.specs.Prelude.{option_copied}
 use Rattle.lake_model.specs.Refusals.{Gives}
 use Rattle.lake_model.specs.Readings.{log_reply}
-use Rattle.lake_readings.specs.Answers.{log_answer}
+use Rattle.core_readings.specs.Answers.{log_answer}
 use Rattle.lake_core.proofs.StepLemmas.{holds_now}
 use Rattle.lake_core.proofs.lake.Lake.log.Goals as goal
 

@@ -1,6 +1,6 @@
 use Rattle.lake_model.specs.Refusals.{Gives}
 use Rattle.lake_model.specs.Readings.{names_reply}
-use Rattle.lake_readings.specs.Answers.{list_answer}
+use Rattle.core_readings.specs.Answers.{list_answer}
 use Rattle.lake_core.proofs.StepLemmas.{holds_now}
 use Rattle.lake_core.proofs.lake.Lake.names.Goals as goal
 

@@ -1,6 +1,6 @@
 use Rattle.lake_model.specs.Refusals.{Gives}
 use Rattle.lake_model.specs.Readings.{note_reply}
-use Rattle.lake_readings.specs.Answers.{note_answer}
+use Rattle.core_readings.specs.Answers.{note_answer}
 use Rattle.lake_core.proofs.StepLemmas.{holds_now}
 use Rattle.lake_core.proofs.lake.Lake.note.Goals as goal
 

@@ -1,8 +1,8 @@
 use Rattle.std.proofs.Common.{ap, refl, sym, ◌∙◌, subst}
 use Rattle.lake_model.specs.Soundness.{IsSound}
 use Rattle.lake_model.specs.Versions.{fresh_versions}
-use Rattle.lake_state.specs.Founding.{fresh_lake}
-use Rattle.lake_state.specs.Lakes.{lake_value}
+use Rattle.core_state.specs.FirstStates.{fresh_lake}
+use Rattle.core_state.specs.LakeStates.{lake_value}
 use Rattle.lake_core.proofs.OpeningLemmas.{stands_opened}
 use Rattle.lake_core.proofs.lake.Lake.opened.Goals as goal
 

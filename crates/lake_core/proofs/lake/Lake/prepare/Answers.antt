@@ -1,8 +1,8 @@
 use Rattle.std.specs.Prelude.{IfSome, option_copied}
-use Rattle.lake_state.specs.Lakes.{lake_value}
+use Rattle.core_state.specs.LakeStates.{lake_value}
 use Rattle.lake_model.specs.Preparing.{prepare_reply}
 use Rattle.lake_model.specs.Refusals.{Gives}
-use Rattle.lake_preparing.specs.Preparations.{HasSides, prepared_answer}
+use Rattle.core_readings.specs.Preparations.{HasSides, prepared_answer}
 use Rattle.lake_core.proofs.PreparingLemmas.{modulus_told}
 use Rattle.lake_core.proofs.StepLemmas.{held_then, holds_now}
 use Rattle.lake_core.proofs.lake.Lake.prepare.Goals as goal

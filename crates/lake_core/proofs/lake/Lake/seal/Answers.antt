@@ -2,15 +2,15 @@ use Rattle.std.proofs.Common.{◌+◌, ap, refl, ◌∙◌, subst, sym}
 use Rattle.std.specs.Prelude.{Some}
 use Rattle.lake_model.specs.Refusals.{GivesOrFails, first_cause}
 use Rattle.lake_model.specs.Steps.{seal_reply, seal_causes}
-use Rattle.lake_state.specs.Counts.{AreFew}
-use Rattle.lake_state.specs.Lakes.{lake_value, state_of}
-use Rattle.lake_standing.specs.Standing.{versions_since}
-use Rattle.lake_changes.specs.LakeChanges.{after_seal}
-use Rattle.lake_keeping.specs.Views.{KeeperView}
+use Rattle.core_state.specs.Counts.{AreFew}
+use Rattle.core_state.specs.LakeStates.{lake_value, state_of}
+use Rattle.core_standing.specs.Standing.{versions_since}
+use Rattle.core_changes.specs.LakeChanges.{after_seal}
+use Rattle.core_puts.specs.KeeperViews.{KeeperView}
 use Rattle.lake_core.specs.Lakes.{state, versions}
 use Rattle.lake_core.specs.Makings.{seal}
 use Rattle.lake_core.proofs.StepLemmas.{accepted, at_present, holds_now, made_leaves, made_stands, refused_leaves, refused_reply, refused_stands, settings_at, starved_reply, unkept_leaves, unkept_reply, unready_leaves}
-use Rattle.lake_changes.specs.FreshTokens.{AreTokensBelow}
+use Rattle.core_changes.specs.FreshTokens.{AreTokensBelow}
 use Rattle.lake_model.specs.declared.reply.Versions.{Versions}
 use Rattle.lake_model.specs.Versions.{settings_version}
 use Rattle.lake_core.proofs.lake.Lake.seal.Goals as goal

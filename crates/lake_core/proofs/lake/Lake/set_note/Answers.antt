@@ -2,11 +2,11 @@ use Rattle.std.proofs.Common.{ℕ, ◌+◌, ap, refl, ◌∙◌, subst, sym}
 use Rattle.std.specs.Prelude.{Some}
 use Rattle.lake_model.specs.Refusals.{GivesOrFails, first_cause}
 use Rattle.lake_model.specs.Steps.{set_note_reply, set_note_causes}
-use Rattle.lake_state.specs.Counts.{AreFew}
-use Rattle.lake_state.specs.Lakes.{lake_value, state_of}
-use Rattle.lake_standing.specs.Standing.{versions_since}
-use Rattle.lake_changes.specs.LakeChanges.{after_note_set}
-use Rattle.lake_keeping.specs.Views.{KeeperView}
+use Rattle.core_state.specs.Counts.{AreFew}
+use Rattle.core_state.specs.LakeStates.{lake_value, state_of}
+use Rattle.core_standing.specs.Standing.{versions_since}
+use Rattle.core_changes.specs.LakeChanges.{after_note_set}
+use Rattle.core_puts.specs.KeeperViews.{KeeperView}
 use Rattle.lake_core.specs.Lakes.{state, versions}
 use Rattle.lake_core.specs.Makings.{set_note}
 use Rattle.lake_core.proofs.StepLemmas.{accepted, as_before, at_present, holds_now, made_leaves, made_stands, refused_leaves, refused_reply, refused_stands, starved_leaves, starved_reply, unkept_leaves, unkept_reply}

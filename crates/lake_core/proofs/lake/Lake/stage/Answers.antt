@@ -3,11 +3,11 @@ use Rattle.std.specs.Prelude.{Some, IfSome}
 use Rattle.lake_model.specs.Refusals.{GivesOrFails, first_cause}
 use Rattle.lake_model.specs.Steps.{stage_causes, stage_reply}
 use Rattle.lake_model.specs.Uncommitted.{HasTicket, put_number}
-use Rattle.lake_state.specs.Counts.{AreFew}
-use Rattle.lake_state.specs.Lakes.{lake_value, state_of}
-use Rattle.lake_standing.specs.Standing.{versions_since}
-use Rattle.lake_changes.specs.LakeChanges.{after_stage}
-use Rattle.lake_keeping.specs.Views.{KeeperView}
+use Rattle.core_state.specs.Counts.{AreFew}
+use Rattle.core_state.specs.LakeStates.{lake_value, state_of}
+use Rattle.core_standing.specs.Standing.{versions_since}
+use Rattle.core_changes.specs.LakeChanges.{after_stage}
+use Rattle.core_puts.specs.KeeperViews.{KeeperView}
 use Rattle.lake_core.specs.Makings.{stage}
 use Rattle.lake_core.proofs.StepLemmas.{accepted, at_present, held_then, holds_now, made_leaves, made_stands, refused_stands, staged_entries, unkept_leaves, unkept_reply, untested_leaves, untested_reply}
 use Rattle.lake_core.proofs.lake.Lake.stage.Goals as goal

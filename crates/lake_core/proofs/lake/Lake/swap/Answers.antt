@@ -1,8 +1,8 @@
 use Rattle.lake_model.specs.Steps.{IsSwapReply, swap_rule}
-use Rattle.lake_state.specs.Lakes.{lake_value}
-use Rattle.lake_standing.specs.Standing.{versions_since}
-use Rattle.lake_committing.specs.Making.{head_answer}
-use Rattle.lake_core.specs.Heads.{IsReadyFor}
+use Rattle.core_state.specs.LakeStates.{lake_value}
+use Rattle.core_standing.specs.Standing.{versions_since}
+use Rattle.core_commits.specs.Making.{head_answer}
+use Rattle.lake_core.specs.HeadConditions.{IsReadyFor}
 use Rattle.lake_core.proofs.HeadLemmas.{stands_after, tree_for}
 use Rattle.lake_core.proofs.StepLemmas.{held_then, holds_now}
 use Rattle.lake_core.proofs.lake.Lake.swap.Goals as goal

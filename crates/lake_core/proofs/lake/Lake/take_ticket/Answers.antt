@@ -2,10 +2,10 @@ use Rattle.std.proofs.Common.{ℕ, ◌+◌, ap, refl, ◌∙◌, subst, sym}
 use Rattle.std.specs.Prelude.{Some}
 use Rattle.lake_model.specs.Refusals.{GivesOrFails, first_cause}
 use Rattle.lake_model.specs.Steps.{take_ticket_reply, write_causes}
-use Rattle.lake_state.specs.Counts.{AreFew}
-use Rattle.lake_state.specs.Lakes.{lake_value, state_of}
-use Rattle.lake_changes.specs.LakeChanges.{after_ticket_take}
-use Rattle.lake_keeping.specs.Views.{KeeperView}
+use Rattle.core_state.specs.Counts.{AreFew}
+use Rattle.core_state.specs.LakeStates.{lake_value, state_of}
+use Rattle.core_changes.specs.LakeChanges.{after_ticket_take}
+use Rattle.core_puts.specs.KeeperViews.{KeeperView}
 use Rattle.lake_core.specs.Lakes.{state}
 use Rattle.lake_core.specs.Makings.{take_ticket}
 use Rattle.lake_core.proofs.StepLemmas.{accepted, at_present, holds_now, made_leaves, made_stands, refused_leaves, refused_reply, refused_stands, starved_reply, unkept_leaves, unkept_reply, unready_leaves}

@@ -1,6 +1,6 @@
 use Rattle.std.proofs.Common.{◌≡◌, ◌≤◌, ◌-◌, ◌+◌, [], IfSome}
 use Rattle.lake_program.specs.ServerView.{server_state}
-use Rattle.lake_program.specs.Reading.{Reaches}
+use Rattle.lake_program.specs.SourceReading.{Reaches}
 use Rattle.lake_program.proofs.batch.Batch.read.Given as goal
 
 -- so many bytes were read and fed, within the limit

@@ -1,6 +1,6 @@
 use Rattle.std.proofs.Common.{ap, ◌∙◌}
 use Rattle.std.specs.List.{slice_get}
-use Rattle.meta_range.specs.Names.{place_in, range_name}
+use Rattle.meta_range.specs.RangeNames.{place_in, range_name}
 use Rattle.meta_range.proofs.NamesLemmas.{is_first_named}
 use Rattle.meta_range.proofs.named_ranges.NamedRanges.is_first.Goals as goal
 

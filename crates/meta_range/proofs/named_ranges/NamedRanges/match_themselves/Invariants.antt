@@ -1,6 +1,6 @@
 use Rattle.std.proofs.Common.{◌≡◌, drop}
 use Rattle.std.specs.List.{list_all}
-use Rattle.meta_range.specs.Names.{is_matched}
+use Rattle.meta_range.specs.RangeNames.{is_matched}
 use Rattle.meta_range.proofs.named_ranges.NamedRanges.match_themselves.Given as goal
 
 -- whether all match is told by the ranges to come

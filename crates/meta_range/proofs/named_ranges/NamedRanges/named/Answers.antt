@@ -1,6 +1,6 @@
 use Rattle.std.proofs.Common.{None, Some, ap, ◌∙◌}
 use Rattle.std.specs.List.{slice_get}
-use Rattle.meta_range.specs.Names.{range_name}
+use Rattle.meta_range.specs.RangeNames.{range_name}
 use Rattle.meta_range.proofs.NamesLemmas.{lent_at, named_at}
 use Rattle.meta_range.proofs.named_ranges.NamedRanges.named.Goals as goal
 

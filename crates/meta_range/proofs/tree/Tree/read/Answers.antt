@@ -1,6 +1,6 @@
 use Rattle.std.proofs.Common.{ap, sym, subst, ◌∙◌}
 use Rattle.std.proofs.lemmas.Result.{err_from_is_err_and}
-use Rattle.meta_range.specs.Reading.{Fails, tree_from}
+use Rattle.meta_range.specs.TreeReading.{Fails, tree_from}
 use Rattle.meta_range.proofs.ReadingLemmas.{tree_again}
 use Rattle.meta_range.proofs.tree.Tree.read.Goals as goal
 

@@ -1,5 +1,0 @@
-pub mod Batch
-pub mod Command
-pub mod LastUploads
-pub mod OwnEntries
-pub mod Text

@@ -1,0 +1,15 @@
+pub mod ClashLemmas
+pub mod CommonLemmas
+pub mod CopyingLemmas
+pub mod CreatingLemmas
+pub mod ExpressionLemmas
+pub mod FaultLemmas
+pub mod FirstCauseLemmas
+pub mod GuardingLemmas
+pub mod NamingLemmas
+pub mod PlaceLemmas
+pub mod ProvenanceLemmas
+pub mod RepositoriesLemmas
+pub mod SmallLakeLemmas
+pub mod TwinLemmas
+pub mod WritingLemmas

@@ -1,0 +1,11 @@
+pub mod CauseLemmas
+pub mod ChangedLemmas
+pub mod CommitLemmas
+pub mod HeadingLemmas
+pub mod KeepingLemmas
+pub mod NamingLemmas
+pub mod PlaceLemmas
+pub mod ProvenanceLemmas
+pub mod StandingLemmas
+pub mod SwappingLemmas
+pub mod TestingLemmas

@@ -1,0 +1,4 @@
+pub mod FilesLemmas
+pub mod FoundingLemmas
+pub mod NewFilesLemmas
+pub mod RemovalsLemmas

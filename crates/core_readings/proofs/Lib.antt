@@ -1,0 +1,16 @@
+pub mod EntryLemmas
+pub mod HexLemmas
+pub mod IdLemmas
+pub mod LogLemmas
+pub mod NamedLemmas
+pub mod OnlyLemmas
+pub mod PageLemmas
+pub mod PlacesLemmas
+pub mod PointLemmas
+pub mod PreparingLemmas
+pub mod ReplyLemmas
+pub mod RowsLemmas
+pub mod SmallLakeLemmas
+pub mod TargetLemmas
+pub mod TreesLemmas
+pub mod VersionLemmas

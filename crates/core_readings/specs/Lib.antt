@@ -1,0 +1,5 @@
+pub mod Answers
+pub mod Gathering
+pub mod NamedRows
+pub mod Preparations
+pub mod Trees

@@ -1,0 +1,13 @@
+pub mod CountLemmas
+pub mod FileLemmas
+pub mod IndexLemmas
+pub mod KeptLemmas
+pub mod KindLemmas
+pub mod MakingLemmas
+pub mod OpeningLemmas
+pub mod PlaceLemmas
+pub mod PlainLemmas
+pub mod PresentLemmas
+pub mod RepositoryLemmas
+pub mod StandingLemmas
+pub mod StateLemmas

@@ -1,0 +1,9 @@
+pub mod BranchStates
+pub mod Counts
+pub mod FilePlaces
+pub mod FirstStates
+pub mod Index
+pub mod LakeStates
+pub mod NameIndexes
+pub mod NewCommits
+pub mod RepositoryStates

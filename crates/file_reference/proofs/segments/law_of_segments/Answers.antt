@@ -1,8 +1,0 @@
-use Rattle.file_reference.proofs.SegmentsLemmas.{segments_whole, segments_ranges}
-use Rattle.file_reference.proofs.segments.law_of_segments.Goals as goal
-
-pub returns-clause-whole : goal.returns-clause-whole
-returns-clause-whole c = segments_whole
-
-pub returns-clause-ranges : goal.returns-clause-ranges
-returns-clause-ranges c = segments_ranges

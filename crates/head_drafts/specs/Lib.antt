@@ -1,0 +1,3 @@
+pub mod DraftMaps
+pub mod Drafts
+pub mod HeadDrafts

@@ -1,3 +1,0 @@
-pub mod CommittingLemmas
-pub mod PicksLemmas
-pub mod ConflictLemmas

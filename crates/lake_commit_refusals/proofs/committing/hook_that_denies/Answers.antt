@@ -1,9 +1,0 @@
-use Rattle.lake_commit_refusals.proofs.CommittingLemmas.{hook_refuses}
-use Rattle.lake_refusals.proofs.WritingLemmas.{ready_commit}
-use Rattle.lake_commit_refusals.proofs.committing.hook_that_denies.Goals as goal
-
-pub returns-clause-allowed : goal.returns-clause-allowed
-returns-clause-allowed c = ready_commit
-
-pub returns-clause-refused : goal.returns-clause-refused
-returns-clause-refused c = hook_refuses

@@ -1,5 +1,0 @@
-//! Commits and picks that the law of the lake refuses: for each condition a lake in which one is refused by it alone, and
-//! next to it the commit, or the lake, where it is allowed. Each is the contract of a function that does nothing.
-#![tactic(auto)]
-
-pub mod committing;

@@ -1,8 +1,0 @@
-use Rattle.lake_expiry.proofs.ExpiryLemmas.{none_left, not_again}
-use Rattle.lake_expiry.proofs.expiry.expiry_again.Goals as goal
-
-pub returns-clause-allowed : goal.returns-clause-allowed
-returns-clause-allowed c = none_left
-
-pub returns-clause-refused : goal.returns-clause-refused
-returns-clause-refused c = not_again

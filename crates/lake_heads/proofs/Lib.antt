@@ -1,7 +1,0 @@
-pub mod KindLemmas
-pub mod PlaceLemmas
-pub mod StateLemmas
-pub mod CountLemmas
-pub mod FileLemmas
-pub mod KeptLemmas
-pub mod IndexLemmas

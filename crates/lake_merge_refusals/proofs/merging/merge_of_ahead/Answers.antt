@@ -1,8 +1,0 @@
-use Rattle.lake_merge_refusals.proofs.AheadLemmas.{ahead_allowed, ahead_parents}
-use Rattle.lake_merge_refusals.proofs.merging.merge_of_ahead.Goals as goal
-
-pub returns-clause-allowed : goal.returns-clause-allowed
-returns-clause-allowed c = ahead_allowed
-
-pub returns-clause-parents : goal.returns-clause-parents
-returns-clause-parents c = ahead_parents

@@ -1,3 +1,0 @@
-pub mod FilesLemmas
-pub mod NewFilesLemmas
-pub mod RemovalsLemmas

@@ -1,5 +1,0 @@
-use Rattle.lake_runs.proofs.FaultLemmas.{fault_quiet, fault_rose}
-use Rattle.lake_runs.proofs.faults.law_of_store_faults.Goals as goal
-
-pub returns : goal.returns
-returns g c = record { rose = fault_rose; quiet = fault_quiet }

@@ -1,5 +1,0 @@
-use Rattle.lake_state.proofs.VersionLemmas.{has_versions}
-use Rattle.lake_state.proofs.laws.law_of_versions.Goals as goal
-
-pub returns : goal.returns
-returns c = has_versions

@@ -1,0 +1,10 @@
+pub mod Days
+pub mod Guard
+pub mod HistoryWords
+pub mod Merges
+pub mod Nothing
+pub mod Picks
+pub mod RefusedLakes
+pub mod StaysStaged
+pub mod TakenBack
+pub mod TwoSeals

@@ -1,8 +1,0 @@
-use Rattle.std.proofs.Common.{ap, sym, ◌∙◌}
-use Rattle.layer_cursor.specs.Layers.{rows_ahead}
-use Rattle.layer_cursor.proofs.LayersLemmas.{none_below}
-use Rattle.layer_cursor.proofs.layer.first_change.Goals as goal
-
-pub returns : goal.returns
-returns g c after =
-    (ap (λ change. rows_ahead change after) c.in-Some.is, none_below c.in-Some.path.now c.args.below.now c.begins_below.ensures.ascend (sym c.begins_below.ensures.below ∙ c.if-begins_below.false))

@@ -1,0 +1,13 @@
+pub mod AncestryBaseLemmas
+pub mod AncestryGraphLemmas
+pub mod AncestryReachLemmas
+pub mod FilesLemmas
+pub mod FilesLineLemmas
+pub mod HooksLemmas
+pub mod MergeLemmas
+pub mod OrderPlaceLemmas
+pub mod RetentionKeptLemmas
+pub mod RetentionLemmas
+pub mod SegmentLastLemmas
+pub mod SegmentRunLemmas
+pub mod SegmentsLemmas

@@ -1,5 +1,0 @@
-use Rattle.step_laws.proofs.SwapStepLemmas.{swap_allowed}
-use Rattle.step_laws.proofs.swaps.law_of_swap_steps.Goals as goal
-
-pub returns : goal.returns
-returns c = record { swap = swap_allowed }

@@ -1,5 +1,0 @@
-use Rattle.step_laws.proofs.AllowanceLemmas.{ticket_drop_allowed, ticket_take_allowed}
-use Rattle.step_laws.proofs.tickets.law_of_ticket_steps.Goals as goal
-
-pub returns : goal.returns
-returns c = record { take = ticket_take_allowed; drop = ticket_drop_allowed }
