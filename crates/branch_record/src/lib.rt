@@ -27,8 +27,6 @@ mod ordered;
 mod overlaying;
 mod placed;
 mod record;
-#[cfg(test)]
-mod tests;
 mod threads;
 mod tokens;
 

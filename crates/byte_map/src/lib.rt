@@ -12,8 +12,6 @@
 mod key;
 mod laws;
 mod rows;
-#[cfg(test)]
-mod tests;
 
 pub use key::ByteKey;
 pub use laws::{laws_of_map_values, laws_of_maps, laws_of_some_values};

@@ -20,8 +20,6 @@ mod expression;
 mod fault;
 pub mod graph;
 pub mod log;
-#[cfg(test)]
-mod tests;
 pub mod threads;
 
 pub use decoding::{commit_read, read_commit};

@@ -10,6 +10,5 @@ pub mod NamingLemmas
 pub mod PlaceLemmas
 pub mod ProvenanceLemmas
 pub mod RepositoriesLemmas
-pub mod SmallLakeLemmas
 pub mod TwinLemmas
 pub mod WritingLemmas

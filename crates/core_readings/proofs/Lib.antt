@@ -3,14 +3,12 @@ pub mod HexLemmas
 pub mod IdLemmas
 pub mod LogLemmas
 pub mod NamedLemmas
-pub mod OnlyLemmas
 pub mod PageLemmas
 pub mod PlacesLemmas
 pub mod PointLemmas
 pub mod PreparingLemmas
 pub mod ReplyLemmas
 pub mod RowsLemmas
-pub mod SmallLakeLemmas
 pub mod TargetLemmas
 pub mod TreesLemmas
 pub mod VersionLemmas

@@ -14,8 +14,6 @@ mod hook_type;
 pub mod hooks;
 pub mod pattern;
 pub mod protection;
-#[cfg(test)]
-mod tests;
 
 pub use decision::{Decision, Event, decide, protects};
 pub use hooks::{law_of_hooks, read_hooks, write_hooks};

@@ -15,8 +15,6 @@ pub mod memory;
 mod pairs;
 pub mod put;
 pub mod sure;
-#[cfg(test)]
-mod tests;
 pub mod threads;
 
 pub use keeper::Keeper;

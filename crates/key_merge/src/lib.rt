@@ -13,8 +13,6 @@ mod fault;
 mod front;
 mod laws;
 mod rows;
-#[cfg(test)]
-mod tests;
 mod walk;
 
 pub use fault::MergeFault;

@@ -103,21 +103,3 @@ impl Clock for ScriptClock {
         moment
     }
 }
-
-#[cfg(test)]
-mod tests {
-    use super::*;
-    use std::test::Fail;
-
-    fn four_readings<C: Clock + Send>(mut clock: C) -> [u64; 4] {
-        [clock.now(), clock.now(), clock.now(), clock.now()]
-    }
-
-    #[test]
-    fn clocks_give_their_moments(rt: HostRuntime) -> Result<(), Fail> {
-        let moments = [3, 1, 4].to_vec(rt.alloc())?;
-        assert_eq!(rt; four_readings(ScriptClock::new(moments)), [3, 1, 4, 4]);
-        assert_eq!(rt; four_readings(FixedClock::new(5)), [5, 5, 5, 5]);
-        Ok(())
-    }
-}

@@ -20,8 +20,6 @@ pub mod names;
 mod order;
 pub mod outside;
 pub mod sequence;
-#[cfg(test)]
-mod tests;
 pub mod text;
 
 pub use clocks::{FixedClock, ScriptClock};

@@ -12,8 +12,6 @@ pub mod cut;
 pub mod encoding;
 pub mod fields;
 pub mod range_line;
-#[cfg(test)]
-mod tests;
 
 pub use cut::{Cut, USUAL_CUT};
 pub use encoding::{entry_bytes, entry_read, own_address};

@@ -5,4 +5,3 @@ pub mod ListingPageLemmas
 pub mod ListingPrefixLemmas
 pub mod ListingStartLemmas
 pub mod ListingStepLemmas
-pub mod OverlayLemmas

@@ -5,7 +5,5 @@
 #![tactic(auto)]
 
 pub mod listing;
-#[cfg(test)]
-mod tests;
 
 pub use listing::{Item, Page, PageQuery, page_of, page_over};

@@ -20,7 +20,5 @@ pub mod output;
 pub mod run;
 pub mod serving;
 pub mod status;
-#[cfg(test)]
-mod tests;
 pub mod words;
 pub mod write;

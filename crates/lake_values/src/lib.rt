@@ -24,8 +24,6 @@ pub mod pairs;
 pub mod retention;
 pub mod settings;
 mod sorted;
-#[cfg(test)]
-mod tests;
 pub mod threads;
 
 pub use changes::Changes;

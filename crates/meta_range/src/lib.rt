@@ -27,8 +27,6 @@ mod provenance;
 mod reading;
 mod searching;
 mod shared_range;
-#[cfg(test)]
-mod tests;
 mod threads;
 mod tree;
 mod tree_files;

@@ -20,8 +20,6 @@ mod keys;
 mod kind;
 pub mod pair;
 pub mod stored;
-#[cfg(test)]
-mod tests;
 mod values;
 
 pub use decoding::decode_pair;

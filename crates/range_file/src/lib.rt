@@ -15,8 +15,6 @@ mod encoding;
 mod fault;
 mod laws;
 mod rows;
-#[cfg(test)]
-mod tests;
 pub mod threads;
 
 pub use decoding::decode;

@@ -7,8 +7,6 @@
 #![tactic(auto)]
 
 mod run;
-#[cfg(test)]
-mod tests;
 
 use crate::run::{RunFault, no_memory, run_lines};
 use keeper::SureKeeper;

@@ -11,8 +11,6 @@
 mod fault;
 mod list;
 mod object;
-#[cfg(test)]
-mod tests;
 
 pub use fault::RuleFault;
 pub use list::rule_list;

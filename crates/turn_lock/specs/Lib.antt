@@ -1,3 +1,2 @@
 pub mod Seats
 pub mod Rule
-pub mod SmallLake

@@ -28,6 +28,3 @@ pub use seat::Seat;
 pub use standing::Standing;
 pub use threads::{seats_cross, turns_cross};
 pub use turn::{NoMemory, SplitFault, Turn};
-
-#[cfg(test)]
-mod tests;

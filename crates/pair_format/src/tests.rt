@@ -1,2 +1,0 @@
-//! Tests of pairs.
-mod pairs;

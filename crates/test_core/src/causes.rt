@@ -1,0 +1,146 @@
+//! Refusals: of two causes that hold, the one that is answered.
+
+use crate::scripts::check_scripts;
+use std::test::Fail;
+
+static CAUSES: [&str; 4] = [
+    // At names: NoRepo, DefaultBranch, Protected; NoRef, NoParent, Exists.
+    r#"["create_branch",1,1,"quickstart","mate","main"]
+{"ok":{"at":1,"commit":"a52d600cf8f59ab14da57bd6123a7d90026916379eec82cad90310c61423b7c1"}}
+["create_tag",1,2,"quickstart","v1","main"]
+{"ok":{"at":2,"commit":"a52d600cf8f59ab14da57bd6123a7d90026916379eec82cad90310c61423b7c1"}}
+["set_note",1,3,"quickstart",null,"protection",[{"pattern":"ma*"}]]
+{"ok":3}
+["create_repo",1,4,"quickstart","main",0]
+{"refused":"Exists"}
+["create_branch",1,5,"none","main","none"]
+{"refused":"NoRepo"}
+["create_branch",1,6,"quickstart","main","none"]
+{"refused":"NoRef"}
+["create_branch",1,7,"quickstart","main","main~5"]
+{"move":0,"refused":"NoParent"}
+["create_branch",1,8,"quickstart","main","main"]
+{"refused":"Exists"}
+["delete_branch",1,9,"none","none"]
+{"refused":"NoRepo"}
+["delete_branch",1,10,"quickstart","mai"]
+{"refused":"NoRef"}
+["delete_branch",1,11,"quickstart","main"]
+{"refused":"DefaultBranch"}
+["delete_branch",1,12,"quickstart","mate"]
+{"refused":"Protected","rule":0}
+["create_tag",1,13,"none","v1","none"]
+{"refused":"NoRepo"}
+["create_tag",1,14,"quickstart","v1","none"]
+{"refused":"NoRef"}
+["create_tag",1,15,"quickstart","v1","main~5"]
+{"move":0,"refused":"NoParent"}
+["create_tag",1,16,"quickstart","v1","main"]
+{"refused":"Exists"}
+["delete_tag",1,17,"none","main"]
+{"refused":"NoRepo"}
+["delete_tag",1,18,"quickstart","main"]
+{"refused":"NoRef"}
+"#,
+    // At writes: NoRepo, NoRef, NoParent, Protected, Changed, NoPath.
+    r#"["create_branch",1,1,"quickstart","dev","main"]
+{"ok":{"at":1,"commit":"a52d600cf8f59ab14da57bd6123a7d90026916379eec82cad90310c61423b7c1"}}
+["set_note",1,2,"quickstart",null,"protection",[{"pattern":"ma*"}]]
+{"ok":2}
+["take_ticket",1,3,"none","none"]
+{"refused":"NoRepo"}
+["take_ticket",1,4,"quickstart","mai"]
+{"refused":"NoRef"}
+["take_ticket",1,5,"quickstart","main"]
+{"refused":"Protected","rule":0}
+["stage",1,6,"none","none",9,"a","delete"]
+{"refused":"NoRepo"}
+["stage",1,7,"quickstart","mai",9,"a","delete"]
+{"refused":"NoRef"}
+["stage",1,8,"quickstart","main",9,"a","delete"]
+{"refused":"Protected","rule":0}
+["stage",1,9,"quickstart","dev",9,"a","delete"]
+{"refused":"Changed","settings":3,"version":2}
+["copy",1,10,"none","none",9,"b","none","a"]
+{"refused":"NoRepo"}
+["copy",1,11,"quickstart","mai",9,"b","main~2","a"]
+{"refused":"NoRef"}
+["copy",1,12,"quickstart","main",9,"b","none","a"]
+{"refused":"NoRef"}
+["copy",1,13,"quickstart","main",9,"b","main~2","a"]
+{"move":0,"refused":"NoParent"}
+["copy",1,14,"quickstart","main",9,"b","main","a"]
+{"refused":"Protected","rule":0}
+["copy",1,15,"quickstart","dev",9,"b","main","a"]
+{"refused":"Changed","settings":3,"version":2}
+["copy",1,16,"quickstart","dev",2,"b","main","a"]
+{"refused":"NoPath"}
+["seal",1,17,"none","none","commit"]
+{"refused":"NoRepo"}
+["seal",1,18,"quickstart","mai","commit"]
+{"refused":"NoRef"}
+["seal",1,19,"quickstart","main","commit"]
+{"refused":"Protected","rule":0}
+["seal",1,20,"quickstart","main","other"]
+{"ok":{"at":3,"settings":3,"version":4}}
+["reset",1,21,"none","none","all"]
+{"refused":"NoRepo"}
+["reset",1,22,"quickstart","mai","all"]
+{"refused":"NoRef"}
+["reset",1,23,"quickstart","main","all"]
+{"refused":"Protected","rule":0}
+"#,
+    // At settings: NoRepo, NoNote, Changed.
+    r#"["set_note",1,1,"none",9,"hooks",null]
+{"refused":"NoRepo"}
+["set_note",1,2,"quickstart",9,"hooks",null]
+{"refused":"NoNote"}
+["set_note",1,3,"quickstart",9,"hooks",[]]
+{"refused":"Changed","settings":0,"version":0}
+["note","quickstart","hooks"]
+{"refused":"NoNote"}
+"#,
+    // At new heads: NoRepo, NoRef, Protected, Changed.
+    r#"["prepare","none","none",null]
+{"refused":"NoRepo"}
+["prepare","quickstart","none",null]
+{"refused":"NoRef"}
+["create_branch",1,1,"quickstart","dev","main"]
+{"ok":{"at":1,"commit":"a52d600cf8f59ab14da57bd6123a7d90026916379eec82cad90310c61423b7c1"}}
+["prepare","quickstart","main",null]
+{"ok":{"at":1,"cut":{"max_bytes":300,"modulus":4},
+  "head":"a52d600cf8f59ab14da57bd6123a7d90026916379eec82cad90310c61423b7c1","rules":[],"sealed":[],"settings":0,
+  "tree":"957b88b12730e646e0f33d3618b77dfa579e8231e3c59c7104be7165611c8027","trio":null,"version":1}}
+["prepare","quickstart","dev",null]
+{"ok":{"at":1,"cut":{"max_bytes":300,"modulus":4},
+  "head":"a52d600cf8f59ab14da57bd6123a7d90026916379eec82cad90310c61423b7c1","rules":[],"sealed":[],"settings":0,
+  "tree":"957b88b12730e646e0f33d3618b77dfa579e8231e3c59c7104be7165611c8027","trio":null,"version":2}}
+["set_note",1,2,"quickstart",null,"protection",[{"pattern":"ma*"}]]
+{"ok":2}
+["commit_old",1,3,"quickstart","main",{"committer":"c","date":1700000000,"message":"x","metadata":{}}]
+{"refused":"Protected","rule":0}
+["commit_old",1,4,"quickstart","dev",{"committer":"c","date":1700000000,"message":"x","metadata":{}}]
+{"refused":"Changed","settings":3,"version":2}
+["prepare","quickstart","dev",null]
+{"ok":{"at":2,"cut":{"max_bytes":300,"modulus":4},
+  "head":"a52d600cf8f59ab14da57bd6123a7d90026916379eec82cad90310c61423b7c1","rules":[],"sealed":[],"settings":3,
+  "tree":"957b88b12730e646e0f33d3618b77dfa579e8231e3c59c7104be7165611c8027","trio":null,"version":2}}
+["seal",1,5,"quickstart","dev","other"]
+{"ok":{"at":3,"settings":3,"version":4}}
+["commit_old",1,6,"quickstart","dev",{"committer":"c","date":1700000000,"message":"x","metadata":{}}]
+{"refused":"Changed","settings":3,"version":4}
+["prepare","quickstart","dev",null]
+{"ok":{"at":3,"cut":{"max_bytes":300,"modulus":4},
+  "head":"a52d600cf8f59ab14da57bd6123a7d90026916379eec82cad90310c61423b7c1","rules":[],"sealed":[],"settings":3,
+  "tree":"957b88b12730e646e0f33d3618b77dfa579e8231e3c59c7104be7165611c8027","trio":null,"version":4}}
+["delete_branch",1,7,"quickstart","dev"]
+{"ok":4}
+["commit_old",1,8,"quickstart","dev",{"committer":"c","date":1700000000,"message":"x","metadata":{}}]
+{"refused":"NoRef"}
+"#,
+];
+
+#[test]
+fn the_first_cause_is_answered(rt: HostRuntime) -> Result<(), Fail> {
+    check_scripts(&rt, rt.alloc(), &CAUSES)
+}

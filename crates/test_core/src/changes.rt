@@ -1,0 +1,177 @@
+//! Changes of a lake: each one where nothing refuses it, and what is read after it.
+
+use crate::scripts::check_scripts;
+use std::test::Fail;
+
+static CHANGES: [&str; 5] = [
+    // Tickets and objects: a number is taken for its object, is used up, or is given back.
+    r#"["take_ticket",1,1,"quickstart","main"]
+{"ok":{"at":1,"number":0}}
+["take_ticket",1,2,"quickstart","main"]
+{"ok":{"at":2,"number":1}}
+["take_ticket",1,3,"quickstart","main"]
+{"ok":{"at":3,"number":2}}
+["drop_ticket",2,1,1]
+{"refused":"Condition"}
+["stage",1,4,"quickstart","main",1,"a",
+  "0000000000000000006b86b273ff34fce19d6b804eff5a3f5747ada4eaa22f1d49c01e52ddb7875b4b0000000000000005000000000000000
+  000000000"]
+{"ok":4}
+["drop_ticket",1,5,1]
+{"ok":5}
+["drop_ticket",1,6,1]
+{"refused":"Condition"}
+["stage",2,2,"quickstart","main",1,"b",
+  "0000000000000000026b86b273ff34fce19d6b804eff5a3f5747ada4eaa22f1d49c01e52ddb7875b4b0000000000000005000000000000000
+  000000000"]
+{"refused":"Condition"}
+["copy",1,7,"quickstart","main",1,"b","main","a"]
+{"ok":{"at":6,"entry":"0000000000000000006b86b273ff34fce19d6b804eff5a3f5747ada4eaa22f1d49c01e52ddb7875b4b00000000000
+  00005000000000000000000000000"}}
+["stage",1,8,"quickstart","main",1,"c","delete"]
+{"ok":7}
+["look","quickstart","main","b"]
+{"ok":{"at":7,"found":"0000000000000000006b86b273ff34fce19d6b804eff5a3f5747ada4eaa22f1d49c01e52ddb7875b4b00000000000
+  00005000000000000000000000000","gone":false}}
+["look","quickstart","main","c"]
+{"ok":{"at":7,"found":null,"gone":false}}
+["reset",1,9,"quickstart","main",{"object":"a"}]
+{"ok":8}
+["page","quickstart","main",{"after":"","amount":9,"delimiter":"","prefix":""}]
+{"ok":{"at":8,"has_more":false,
+  "items":[{"entry":"0000000000000000006b86b273ff34fce19d6b804eff5a3f5747ada4eaa22f1d49c01e52ddb7875b4b0000000000000
+  005000000000000000000000000","path":"b"}]}}
+["seal",1,10,"quickstart","main","other"]
+{"ok":{"at":9,"settings":0,"version":3}}
+["reset",1,11,"quickstart","main","all"]
+{"ok":10}
+["page","quickstart","main",{"after":"","amount":9,"delimiter":"","prefix":""}]
+{"ok":{"at":10,"has_more":false,"items":[]}}
+["state"]
+{"ok":{"at":10,"garbage":[0,1],"gone":[],"kinds":{"Copy":1,"Reset":2,"Seal":1,"Stage":2,"TicketDrop":1,
+  "TicketTake":3},"next_number":3,"next_version":5,
+  "repos":[{"branches":[{"head":"a52d600cf8f59ab14da57bd6123a7d90026916379eec82cad90310c61423b7c1","name":"main",
+  "now":"e3b0c44298fc1c149afbf4c8996fb92427ae41e4649b934ca495991b7852b855","sealed":0,"staged":0,"version":4}],
+  "commits":1,"created":0,"default_branch":"main","expired":[],"name":"quickstart","settings":0,"tags":[]}],
+  "tickets":[2]}}
+"#,
+    // Names: repositories, branches and tags come and go.
+    r#"["create_repo",1,1,"books","trunk",30]
+{"ok":1}
+["create_branch",1,2,"books","dev","trunk"]
+{"ok":{"at":2,"commit":"4f549c61ed3cb18e319a69cca328ee8f7f469117ecef4c8e94fd203bf357c7bf"}}
+["create_tag",1,3,"books","v1","dev"]
+{"ok":{"at":3,"commit":"4f549c61ed3cb18e319a69cca328ee8f7f469117ecef4c8e94fd203bf357c7bf"}}
+["names","books",false,"",9]
+{"ok":{"at":3,"has_more":false,"names":[["dev","4f549c61ed3cb18e319a69cca328ee8f7f469117ecef4c8e94fd203bf357c7bf"],
+  ["trunk","4f549c61ed3cb18e319a69cca328ee8f7f469117ecef4c8e94fd203bf357c7bf"]]}}
+["names","books",true,"",9]
+{"ok":{"at":3,"has_more":false,"names":[["v1","4f549c61ed3cb18e319a69cca328ee8f7f469117ecef4c8e94fd203bf357c7bf"]]}}
+["versions","books","trunk"]
+{"ok":{"at":3,"settings":0,"version":2}}
+["versions","books","dev"]
+{"ok":{"at":3,"settings":0,"version":3}}
+["delete_branch",1,4,"books","dev"]
+{"ok":4}
+["delete_tag",1,5,"books","v1"]
+{"ok":5}
+["names","books",false,"",9]
+{"ok":{"at":5,"has_more":false,"names":[["trunk",
+  "4f549c61ed3cb18e319a69cca328ee8f7f469117ecef4c8e94fd203bf357c7bf"]]}}
+["names","books",true,"",9]
+{"ok":{"at":5,"has_more":false,"names":[]}}
+["create_branch",1,6,"books","dev","trunk"]
+{"ok":{"at":6,"commit":"4f549c61ed3cb18e319a69cca328ee8f7f469117ecef4c8e94fd203bf357c7bf"}}
+["versions","books","dev"]
+{"ok":{"at":6,"settings":0,"version":4}}
+["repos","",9]
+{"ok":{"at":6,"has_more":false,"repos":[{"created":30,"default_branch":"trunk","name":"books"},{"created":0,
+  "default_branch":"main","name":"quickstart"}]}}
+"#,
+    // Settings: by their version, and by none.
+    r#"["set_note",1,1,"quickstart",null,"protection",[{"pattern":"ma*"}]]
+{"ok":1}
+["note","quickstart","protection"]
+{"ok":{"at":1,"note":[{"pattern":"ma*"}],"settings":2}}
+["versions","quickstart","main"]
+{"ok":{"at":1,"settings":2,"version":1}}
+["take_ticket",0,1,"quickstart","main"]
+{"refused":"Protected","rule":0}
+["set_note",0,2,"quickstart",0,"protection",null]
+{"refused":"Changed","settings":2,"version":0}
+["set_note",0,4,"quickstart",2,"protection",null]
+{"ok":2}
+["note","quickstart","protection"]
+{"refused":"NoNote"}
+["set_note",0,5,"quickstart",3,"hooks",[{"branch":"ma*","key":"owner","type":"require_meta"}]]
+{"ok":3}
+["note","quickstart","hooks"]
+{"ok":{"at":3,"note":[{"branch":"ma*","key":"owner","type":"require_meta"}],"settings":4}}
+["take_ticket",0,6,"quickstart","main"]
+{"ok":{"at":4,"number":0}}
+"#,
+    // A write by a version that was: another seat sealed.
+    r#"["versions","quickstart","main"]
+{"ok":{"at":0,"settings":0,"version":1}}
+["seal",1,1,"quickstart","main","other"]
+{"ok":{"at":1,"settings":0,"version":2}}
+["stage",0,1,"quickstart","main",1,"a","01000673333a2f2f7800000000000000000005000000000000000000000000"]
+{"refused":"Changed","settings":0,"version":2}
+["versions","quickstart","main"]
+{"ok":{"at":1,"settings":0,"version":2}}
+["look","quickstart","main","a"]
+{"ok":{"at":1,"found":null,"gone":false}}
+["stage",0,2,"quickstart","main",2,"a","01000673333a2f2f7800000000000000000005000000000000000000000000"]
+{"ok":2}
+["look","quickstart","main","a"]
+{"ok":{"at":2,"found":"01000673333a2f2f7800000000000000000005000000000000000000000000","gone":false}}
+"#,
+    // A branch's changes: staged ones over sealed ones over its head's map.
+    r#"["stage",0,1,"quickstart","main",1,"a",
+  "01000673333a2f2f7800000000000000000005000000000000000000000000"]
+{"ok":1}
+["seal",0,2,"quickstart","main","commit"]
+{"ok":{"at":2,"settings":0,"version":2}}
+["commit",0,3,"quickstart","main",{"committer":"c","date":1700000000,"message":"C","metadata":{}}]
+{"ok":{"at":3,"commit":"7c9348fdf7fa8597f14dc665e837010f4720a2df7aee3f2da04f9c585d353bab","record":{"committer":"c",
+  "date":1700000000,"generation":2,"message":"C",
+  "meta_range":"ec7c4104ab601755278a893c44187ce524906252e92253505a7bdf715a12f116","metadata":{},
+  "parents":["a52d600cf8f59ab14da57bd6123a7d90026916379eec82cad90310c61423b7c1"]}}}
+["stage",0,4,"quickstart","main",3,"b/1","01000673333a2f2f7800000000000000000001000000000000000000000000"]
+{"ok":4}
+["stage",0,5,"quickstart","main",3,"b/3","01000673333a2f2f7800000000000000000001000000000000000000000000"]
+{"ok":5}
+["seal",0,6,"quickstart","main","other"]
+{"ok":{"at":6,"settings":0,"version":4}}
+["stage",0,7,"quickstart","main",4,"a","delete"]
+{"ok":7}
+["stage",0,8,"quickstart","main",4,"b/2","01000673333a2f2f7800000000000000000002000000000000000000000000"]
+{"ok":8}
+["stage",0,9,"quickstart","main",4,"b/3","delete"]
+{"ok":9}
+["stage",0,10,"quickstart","main",4,"c","01000673333a2f2f7800000000000000000002000000000000000000000000"]
+{"ok":10}
+["page","quickstart","main",{"after":"","amount":9,"delimiter":"/","prefix":""}]
+{"ok":{"at":10,"has_more":false,"items":[{"prefix":"b/"},
+  {"entry":"01000673333a2f2f7800000000000000000002000000000000000000000000","path":"c"}]}}
+["page","quickstart","main",{"after":"b/1","amount":1,"delimiter":"","prefix":""}]
+{"ok":{"at":10,"has_more":true,"items":[{"entry":"01000673333a2f2f7800000000000000000002000000000000000000000000",
+  "path":"b/2"}]}}
+["page","quickstart","main",{"after":"","amount":9,"delimiter":"","prefix":"b/"}]
+{"ok":{"at":10,"has_more":false,"items":[{"entry":"01000673333a2f2f7800000000000000000001000000000000000000000000",
+  "path":"b/1"},{"entry":"01000673333a2f2f7800000000000000000002000000000000000000000000","path":"b/2"}]}}
+["page","quickstart","main@",{"after":"","amount":9,"delimiter":"/","prefix":""}]
+{"ok":{"at":10,"has_more":false,"items":[{"entry":"01000673333a2f2f7800000000000000000005000000000000000000000000",
+  "path":"a"}]}}
+["reset",0,11,"quickstart","main",{"prefix":"b/"}]
+{"ok":11}
+["page","quickstart","main",{"after":"","amount":9,"delimiter":"","prefix":""}]
+{"ok":{"at":11,"has_more":false,"items":[{"entry":"01000673333a2f2f7800000000000000000002000000000000000000000000",
+  "path":"c"}]}}
+"#,
+];
+
+#[test]
+fn changes_are_made(rt: HostRuntime) -> Result<(), Fail> {
+    check_scripts(&rt, rt.alloc(), &CHANGES)
+}

@@ -1,0 +1,271 @@
+//! Commits, merges and picks.
+
+use crate::scripts::check_scripts;
+use std::test::Fail;
+
+static HEADS: [&str; 5] = [
+    // A commit takes what was sealed, and leaves what was staged after that.
+    r#"["stage",0,1,"quickstart","main",1,"a",
+  "01000673333a2f2f7800000000000000000005000000000000000000000000"]
+{"ok":1}
+["seal",0,2,"quickstart","main","commit"]
+{"ok":{"at":2,"settings":0,"version":2}}
+["stage",1,1,"quickstart","main",2,"b","01000673333a2f2f7800000000000000000005000000000000000000000000"]
+{"ok":3}
+["prepare","quickstart","main",null]
+{"ok":{"at":3,"cut":{"max_bytes":300,"modulus":4},
+  "head":"a52d600cf8f59ab14da57bd6123a7d90026916379eec82cad90310c61423b7c1","rules":[],"sealed":[["a",
+  "01000673333a2f2f7800000000000000000005000000000000000000000000"]],"settings":0,
+  "tree":"957b88b12730e646e0f33d3618b77dfa579e8231e3c59c7104be7165611c8027","trio":null,"version":2}}
+["commit_old",0,3,"quickstart","main",{"committer":"c","date":1700000000,"message":"C","metadata":{}}]
+{"ok":{"at":4,"commit":"7c9348fdf7fa8597f14dc665e837010f4720a2df7aee3f2da04f9c585d353bab","record":{"committer":"c",
+  "date":1700000000,"generation":2,"message":"C",
+  "meta_range":"ec7c4104ab601755278a893c44187ce524906252e92253505a7bdf715a12f116","metadata":{},
+  "parents":["a52d600cf8f59ab14da57bd6123a7d90026916379eec82cad90310c61423b7c1"]}}}
+["look","quickstart","main","b"]
+{"ok":{"at":4,"found":"01000673333a2f2f7800000000000000000005000000000000000000000000","gone":false}}
+["page","quickstart","main@",{"after":"","amount":9,"delimiter":"","prefix":""}]
+{"ok":{"at":4,"has_more":false,"items":[{"entry":"01000673333a2f2f7800000000000000000005000000000000000000000000",
+  "path":"a"}]}}
+["versions","quickstart","main"]
+{"ok":{"at":4,"settings":0,"version":3}}
+"#,
+    // A head by an old version isn't made and clears nothing; then nothing is sealed any more.
+    r#"["stage",0,1,"quickstart","main",1,"a",
+  "01000673333a2f2f7800000000000000000005000000000000000000000000"]
+{"ok":1}
+["seal",0,2,"quickstart","main","commit"]
+{"ok":{"at":2,"settings":0,"version":2}}
+["seal",1,1,"quickstart","main","commit"]
+{"ok":{"at":3,"settings":0,"version":3}}
+["prepare","quickstart","main",null]
+{"ok":{"at":3,"cut":{"max_bytes":300,"modulus":4},
+  "head":"a52d600cf8f59ab14da57bd6123a7d90026916379eec82cad90310c61423b7c1","rules":[],"sealed":[["a",
+  "01000673333a2f2f7800000000000000000005000000000000000000000000"]],"settings":0,
+  "tree":"957b88b12730e646e0f33d3618b77dfa579e8231e3c59c7104be7165611c8027","trio":null,"version":3}}
+["commit",0,3,"quickstart","main",{"committer":"c","date":1700000000,"message":"C","metadata":{}}]
+{"ok":{"at":4,"commit":"7c9348fdf7fa8597f14dc665e837010f4720a2df7aee3f2da04f9c585d353bab","record":{"committer":"c",
+  "date":1700000000,"generation":2,"message":"C",
+  "meta_range":"ec7c4104ab601755278a893c44187ce524906252e92253505a7bdf715a12f116","metadata":{},
+  "parents":["a52d600cf8f59ab14da57bd6123a7d90026916379eec82cad90310c61423b7c1"]}}}
+["commit_old",1,2,"quickstart","main",{"committer":"c","date":1700000000,"message":"D","metadata":{}}]
+{"refused":"Changed","settings":0,"version":4}
+["prepare","quickstart","main",null]
+{"ok":{"at":4,"cut":{"max_bytes":300,"modulus":4},
+  "head":"7c9348fdf7fa8597f14dc665e837010f4720a2df7aee3f2da04f9c585d353bab","rules":[],"sealed":[],"settings":0,
+  "tree":"ec7c4104ab601755278a893c44187ce524906252e92253505a7bdf715a12f116","trio":null,"version":4}}
+["commit",1,3,"quickstart","main",{"committer":"c","date":1700000000,"message":"D","metadata":{}}]
+{"refused":"NoChanges"}
+"#,
+    // A merge with a conflict: refused, and by both strategies; and a merge and a pick by what was handed out.
+    r#"["stage",0,1,"quickstart","main",1,"a",
+  "01000673333a2f2f7800000000000000000001000000000000000000000000"]
+{"ok":1}
+["stage",0,2,"quickstart","main",1,"b","01000673333a2f2f7800000000000000000001000000000000000000000000"]
+{"ok":2}
+["stage",0,3,"quickstart","main",1,"c","01000673333a2f2f7800000000000000000001000000000000000000000000"]
+{"ok":3}
+["seal",0,4,"quickstart","main","commit"]
+{"ok":{"at":4,"settings":0,"version":2}}
+["commit",0,5,"quickstart","main",{"committer":"c","date":1700000000,"message":"base","metadata":{}}]
+{"ok":{"at":5,"commit":"c9a463a0306547bdaa6bf571106b811e0eabdb9f4656f7e3f2cffd3a0940c99c","record":{"committer":"c",
+  "date":1700000000,"generation":2,"message":"base",
+  "meta_range":"84e76998b12cb66c77612af43ad4de73231b7f3f097078d15bf30fe25d6d0d9b","metadata":{},
+  "parents":["a52d600cf8f59ab14da57bd6123a7d90026916379eec82cad90310c61423b7c1"]}}}
+["create_branch",0,6,"quickstart","dev","main"]
+{"ok":{"at":6,"commit":"c9a463a0306547bdaa6bf571106b811e0eabdb9f4656f7e3f2cffd3a0940c99c"}}
+["stage",0,7,"quickstart","dev",4,"a","delete"]
+{"ok":7}
+["stage",0,8,"quickstart","dev",4,"b","01000673333a2f2f7800000000000000000002000000000000000000000000"]
+{"ok":8}
+["stage",0,9,"quickstart","dev",4,"d","01000673333a2f2f7800000000000000000002000000000000000000000000"]
+{"ok":9}
+["seal",0,10,"quickstart","dev","commit"]
+{"ok":{"at":10,"settings":0,"version":5}}
+["commit",0,11,"quickstart","dev",{"committer":"c","date":1700000000,"message":"source","metadata":{}}]
+{"ok":{"at":11,"commit":"e77ca1499e418e7d56485458ef2b277d9db0f106120b2466ce8053da401f29b1",
+  "record":{"committer":"c","date":1700000000,"generation":3,"message":"source",
+  "meta_range":"779bb07e7733659cb36e8624afef75992d959b71335b3052d911816635b1e0d6","metadata":{},
+  "parents":["c9a463a0306547bdaa6bf571106b811e0eabdb9f4656f7e3f2cffd3a0940c99c"]}}}
+["stage",0,12,"quickstart","main",3,"b","01000673333a2f2f7800000000000000000003000000000000000000000000"]
+{"ok":12}
+["stage",0,13,"quickstart","main",3,"c","delete"]
+{"ok":13}
+["seal",0,14,"quickstart","main","commit"]
+{"ok":{"at":14,"settings":0,"version":7}}
+["commit",0,15,"quickstart","main",{"committer":"c","date":1700000000,"message":"dest","metadata":{}}]
+{"ok":{"at":15,"commit":"da7ed9b52c863ff7a29caf6384ed42e5485472a23917c2370581db82aa886a0e",
+  "record":{"committer":"c","date":1700000000,"generation":3,"message":"dest",
+  "meta_range":"7b75de769ea4e353d7a578cfb6dce056a32b1440dfa85e0945e02b99927e1aee","metadata":{},
+  "parents":["c9a463a0306547bdaa6bf571106b811e0eabdb9f4656f7e3f2cffd3a0940c99c"]}}}
+["create_branch",0,16,"quickstart","same","main"]
+{"ok":{"at":16,"commit":"da7ed9b52c863ff7a29caf6384ed42e5485472a23917c2370581db82aa886a0e"}}
+["create_branch",0,17,"quickstart","third","main"]
+{"ok":{"at":17,"commit":"da7ed9b52c863ff7a29caf6384ed42e5485472a23917c2370581db82aa886a0e"}}
+["create_branch",0,18,"quickstart","fourth","main"]
+{"ok":{"at":18,"commit":"da7ed9b52c863ff7a29caf6384ed42e5485472a23917c2370581db82aa886a0e"}}
+["merge",0,19,"quickstart","main",{"id_of":["quickstart","dev"]},"refuse",{"committer":"c","date":1700000000,
+  "message":"merge","metadata":{}}]
+{"paths":["b"],"refused":"Conflicts","total":1}
+["merge",0,20,"quickstart","main",{"id_of":["quickstart","dev"]},"source-wins",{"committer":"c","date":1700000000,
+  "message":"merge","metadata":{}}]
+{"ok":{"at":19,"commit":"cbff6cd618ac71e912486e3f94dd533ecc5f74b6ec49fef643a305ab88adf18c",
+  "record":{"committer":"c","date":1700000000,"generation":4,"message":"merge",
+  "meta_range":"e639c9b7864bb66715512d8b42e9f4394dbf87946e3d9707053cc982cf0e7af1","metadata":{},
+  "parents":["da7ed9b52c863ff7a29caf6384ed42e5485472a23917c2370581db82aa886a0e",
+  "e77ca1499e418e7d56485458ef2b277d9db0f106120b2466ce8053da401f29b1"]}}}
+["merge",0,21,"quickstart","same",{"id_of":["quickstart","dev"]},"dest-wins",{"committer":"c","date":1700000000,
+  "message":"merge","metadata":{}}]
+{"ok":{"at":20,"commit":"2fab36ec59c84285d033b9a6b140fed5f4a5e4a59e722a343fcc9dc89e31014b",
+  "record":{"committer":"c","date":1700000000,"generation":4,"message":"merge",
+  "meta_range":"90bd028a41e5191c96ba044526f3cc8a36c7705956c2b2da2a51b43eac62df3f","metadata":{},
+  "parents":["da7ed9b52c863ff7a29caf6384ed42e5485472a23917c2370581db82aa886a0e",
+  "e77ca1499e418e7d56485458ef2b277d9db0f106120b2466ce8053da401f29b1"]}}}
+["page","quickstart","main@",{"after":"","amount":9,"delimiter":"","prefix":""}]
+{"ok":{"at":20,"has_more":false,"items":[{"entry":"01000673333a2f2f7800000000000000000002000000000000000000000000",
+  "path":"b"},{"entry":"01000673333a2f2f7800000000000000000002000000000000000000000000","path":"d"}]}}
+["page","quickstart","same@",{"after":"","amount":9,"delimiter":"","prefix":""}]
+{"ok":{"at":20,"has_more":false,"items":[{"entry":"01000673333a2f2f7800000000000000000003000000000000000000000000",
+  "path":"b"},{"entry":"01000673333a2f2f7800000000000000000002000000000000000000000000","path":"d"}]}}
+["prepare","quickstart","third",{"merge":{"id_of":["quickstart","dev"]}}]
+{"ok":{"at":20,"cut":{"max_bytes":300,"modulus":4},
+  "head":"da7ed9b52c863ff7a29caf6384ed42e5485472a23917c2370581db82aa886a0e","rules":[],"sealed":[],"settings":0,
+  "tree":"7b75de769ea4e353d7a578cfb6dce056a32b1440dfa85e0945e02b99927e1aee",
+  "trio":{"base":"84e76998b12cb66c77612af43ad4de73231b7f3f097078d15bf30fe25d6d0d9b",
+  "dest":"7b75de769ea4e353d7a578cfb6dce056a32b1440dfa85e0945e02b99927e1aee",
+  "source":"779bb07e7733659cb36e8624afef75992d959b71335b3052d911816635b1e0d6"},"version":10}}
+["merge_old",0,22,"quickstart","third","source-wins",{"committer":"c","date":1700000000,"message":"merge",
+  "metadata":{}}]
+{"ok":{"at":21,"commit":"cbff6cd618ac71e912486e3f94dd533ecc5f74b6ec49fef643a305ab88adf18c",
+  "record":{"committer":"c","date":1700000000,"generation":4,"message":"merge",
+  "meta_range":"e639c9b7864bb66715512d8b42e9f4394dbf87946e3d9707053cc982cf0e7af1","metadata":{},
+  "parents":["da7ed9b52c863ff7a29caf6384ed42e5485472a23917c2370581db82aa886a0e",
+  "e77ca1499e418e7d56485458ef2b277d9db0f106120b2466ce8053da401f29b1"]}}}
+["prepare","quickstart","fourth",{"pick":[{"id_of":["quickstart","dev~1"]},{"id_of":["quickstart","dev"]}]}]
+{"ok":{"at":21,"cut":{"max_bytes":300,"modulus":4},
+  "head":"da7ed9b52c863ff7a29caf6384ed42e5485472a23917c2370581db82aa886a0e","rules":[],"sealed":[],"settings":0,
+  "tree":"7b75de769ea4e353d7a578cfb6dce056a32b1440dfa85e0945e02b99927e1aee",
+  "trio":{"base":"84e76998b12cb66c77612af43ad4de73231b7f3f097078d15bf30fe25d6d0d9b",
+  "dest":"7b75de769ea4e353d7a578cfb6dce056a32b1440dfa85e0945e02b99927e1aee",
+  "source":"779bb07e7733659cb36e8624afef75992d959b71335b3052d911816635b1e0d6"},"version":11}}
+["pick_old",0,23,"quickstart","fourth","dest-wins",{"committer":"c","date":1700000000,"message":"pick",
+  "metadata":{}}]
+{"ok":{"at":22,"commit":"1b79715a266be666e43392c7327a3cc0d9bcc9432337ec12708142c2618f8591",
+  "record":{"committer":"c","date":1700000000,"generation":4,"message":"pick",
+  "meta_range":"90bd028a41e5191c96ba044526f3cc8a36c7705956c2b2da2a51b43eac62df3f","metadata":{},
+  "parents":["da7ed9b52c863ff7a29caf6384ed42e5485472a23917c2370581db82aa886a0e"]}}}
+["page","quickstart","fourth@",{"after":"","amount":9,"delimiter":"","prefix":""}]
+{"ok":{"at":22,"has_more":false,"items":[{"entry":"01000673333a2f2f7800000000000000000003000000000000000000000000",
+  "path":"b"},{"entry":"01000673333a2f2f7800000000000000000002000000000000000000000000","path":"d"}]}}
+["find","quickstart",false,"main"]
+{"ok":{"at":22,"commit":"cbff6cd618ac71e912486e3f94dd533ecc5f74b6ec49fef643a305ab88adf18c"}}
+["find","quickstart",false,"third"]
+{"ok":{"at":22,"commit":"cbff6cd618ac71e912486e3f94dd533ecc5f74b6ec49fef643a305ab88adf18c"}}
+"#,
+    // What has no draft, sides that are no commits of the repository, and hooks.
+    r#"["commit",0,1,"quickstart","main",{"committer":"c","date":1700000000,"message":"x",
+  "metadata":{}}]
+{"refused":"NoChanges"}
+["merge",0,2,"quickstart","main",{"id_of":["quickstart","main"]},"refuse",{"committer":"c","date":1700000000,
+  "message":"x","metadata":{}}]
+{"refused":"NoChanges"}
+["create_repo",0,20,"books","main",30]
+{"ok":1}
+["prepare","quickstart","main",{"merge":{"id_of":["books","main"]}}]
+{"refused":"Condition"}
+["prepare","quickstart","main",{"pick":[{"id_of":["quickstart","main"]},{"id_of":["books","main"]}]}]
+{"refused":"Condition"}
+["stage",0,3,"quickstart","main",1,"a","01000673333a2f2f7800000000000000000001000000000000000000000000"]
+{"ok":2}
+["commit",0,4,"quickstart","main",{"committer":"c","date":1700000000,"message":"x","metadata":{}}]
+{"refused":"NoChanges"}
+["seal",0,5,"quickstart","main","commit"]
+{"ok":{"at":3,"settings":0,"version":3}}
+["create_branch",0,6,"quickstart","dev","main"]
+{"ok":{"at":4,"commit":"a52d600cf8f59ab14da57bd6123a7d90026916379eec82cad90310c61423b7c1"}}
+["merge",0,7,"quickstart","main",{"id_of":["quickstart","dev"]},"refuse",{"committer":"c","date":1700000000,
+  "message":"x","metadata":{}}]
+{"path":"a","refused":"Dirty"}
+["set_note",0,8,"quickstart",null,"hooks",[{"branch":"ma*","key":"owner","type":"require_meta"}]]
+{"ok":5}
+["commit",0,9,"quickstart","main",{"committer":"c","date":1700000000,"message":"x","metadata":{}}]
+{"hook":0,"refused":"HookDenied"}
+["commit",0,10,"quickstart","main",{"committer":"c","date":1700000000,"message":"x","metadata":{"owner":"me"}}]
+{"ok":{"at":6,"commit":"d3661f1b63f49b78be1aec7a1bbda4787ded86cdc10d19040589d6ecfd9ab8db","record":{"committer":"c",
+  "date":1700000000,"generation":2,"message":"x",
+  "meta_range":"a8df15c31e3bc27f8990fba4616776da5e66e4012a39b65e54dbdff0788fac78","metadata":{"owner":"me"},
+  "parents":["a52d600cf8f59ab14da57bd6123a7d90026916379eec82cad90310c61423b7c1"]}}}
+["stage",0,13,"quickstart","dev",4,"b","01000673333a2f2f7800000000000000000002000000000000000000000000"]
+{"ok":7}
+["seal",0,14,"quickstart","dev","commit"]
+{"ok":{"at":8,"settings":5,"version":7}}
+["commit",0,15,"quickstart","dev",{"committer":"c","date":1700000000,"message":"y","metadata":{}}]
+{"ok":{"at":9,"commit":"fe574ca09872ab908e8464ec4d779f664e54f230df2de90268b901af878a92be","record":{"committer":"c",
+  "date":1700000000,"generation":2,"message":"y",
+  "meta_range":"92dc34695180d023ccd85fa14637ca7a3c380aa7732cff6eee947f0b1b97013c","metadata":{},
+  "parents":["a52d600cf8f59ab14da57bd6123a7d90026916379eec82cad90310c61423b7c1"]}}}
+["merge",0,17,"quickstart","main",{"id_of":["quickstart","dev"]},"refuse",{"committer":"c","date":1700000000,
+  "message":"z","metadata":{}}]
+{"hook":0,"refused":"HookDenied"}
+["merge",0,18,"quickstart","main",{"id_of":["quickstart","dev"]},"refuse",{"committer":"c","date":1700000000,
+  "message":"z","metadata":{"owner":"me"}}]
+{"ok":{"at":10,"commit":"815fa7f9485bb5fb5ea5ed91bce1ea9c46c98c2145ac7765499a163a065c47b2",
+  "record":{"committer":"c","date":1700000000,"generation":3,"message":"z",
+  "meta_range":"285727f3e581d9adf98c3208ae28e301afdf6763b92bcb56a534e2ad225b5399","metadata":{"owner":"me"},
+  "parents":["d3661f1b63f49b78be1aec7a1bbda4787ded86cdc10d19040589d6ecfd9ab8db",
+  "fe574ca09872ab908e8464ec4d779f664e54f230df2de90268b901af878a92be"]}}}
+["pick",0,19,"quickstart","dev",{"id_of":["quickstart","dev~1"]},{"id_of":["quickstart","dev"]},"refuse",
+  {"committer":"c","date":1700000000,"message":"w","metadata":{}}]
+{"ok":{"at":11,"commit":"b56fcdb873a313ccec4a84086e1f37cad1bb1ab410668f39c1c60a1ed6ff7dd0",
+  "record":{"committer":"c","date":1700000000,"generation":3,"message":"w",
+  "meta_range":"92dc34695180d023ccd85fa14637ca7a3c380aa7732cff6eee947f0b1b97013c","metadata":{},
+  "parents":["fe574ca09872ab908e8464ec4d779f664e54f230df2de90268b901af878a92be"]}}}
+["log","quickstart","main",null,null,2]
+{"ok":{"at":11,"commits":[["815fa7f9485bb5fb5ea5ed91bce1ea9c46c98c2145ac7765499a163a065c47b2",{"committer":"c",
+  "date":1700000000,"generation":3,"message":"z",
+  "meta_range":"285727f3e581d9adf98c3208ae28e301afdf6763b92bcb56a534e2ad225b5399","metadata":{"owner":"me"},
+  "parents":["d3661f1b63f49b78be1aec7a1bbda4787ded86cdc10d19040589d6ecfd9ab8db",
+  "fe574ca09872ab908e8464ec4d779f664e54f230df2de90268b901af878a92be"]}],
+  ["d3661f1b63f49b78be1aec7a1bbda4787ded86cdc10d19040589d6ecfd9ab8db",{"committer":"c","date":1700000000,
+  "generation":2,"message":"x","meta_range":"a8df15c31e3bc27f8990fba4616776da5e66e4012a39b65e54dbdff0788fac78",
+  "metadata":{"owner":"me"},"parents":["a52d600cf8f59ab14da57bd6123a7d90026916379eec82cad90310c61423b7c1"]}]],
+  "has_more":true}}
+"#,
+    // A commit whose id stands already becomes the head of another branch.
+    r#"["create_branch",0,1,"quickstart","dev","main"]
+{"ok":{"at":1,"commit":"a52d600cf8f59ab14da57bd6123a7d90026916379eec82cad90310c61423b7c1"}}
+["stage",0,2,"quickstart","main",1,"a","01000673333a2f2f7800000000000000000001000000000000000000000000"]
+{"ok":2}
+["seal",0,3,"quickstart","main","commit"]
+{"ok":{"at":3,"settings":0,"version":3}}
+["commit",0,4,"quickstart","main",{"committer":"c","date":1700000000,"message":"x","metadata":{}}]
+{"ok":{"at":4,"commit":"b5272598dd65a7408266002e8c0f34afe1ac95044db04f283127c3cf741017db","record":{"committer":"c",
+  "date":1700000000,"generation":2,"message":"x",
+  "meta_range":"a8df15c31e3bc27f8990fba4616776da5e66e4012a39b65e54dbdff0788fac78","metadata":{},
+  "parents":["a52d600cf8f59ab14da57bd6123a7d90026916379eec82cad90310c61423b7c1"]}}}
+["stage",0,5,"quickstart","dev",2,"a","01000673333a2f2f7800000000000000000001000000000000000000000000"]
+{"ok":5}
+["seal",0,6,"quickstart","dev","commit"]
+{"ok":{"at":6,"settings":0,"version":5}}
+["commit",0,7,"quickstart","dev",{"committer":"c","date":1700000000,"message":"x","metadata":{}}]
+{"ok":{"at":7,"commit":"b5272598dd65a7408266002e8c0f34afe1ac95044db04f283127c3cf741017db","record":{"committer":"c",
+  "date":1700000000,"generation":2,"message":"x",
+  "meta_range":"a8df15c31e3bc27f8990fba4616776da5e66e4012a39b65e54dbdff0788fac78","metadata":{},
+  "parents":["a52d600cf8f59ab14da57bd6123a7d90026916379eec82cad90310c61423b7c1"]}}}
+["look","quickstart","dev@","a"]
+{"ok":{"at":7,"found":"01000673333a2f2f7800000000000000000001000000000000000000000000","gone":false}}
+["log","quickstart","dev",null,null,5]
+{"ok":{"at":7,"commits":[["b5272598dd65a7408266002e8c0f34afe1ac95044db04f283127c3cf741017db",{"committer":"c",
+  "date":1700000000,"generation":2,"message":"x",
+  "meta_range":"a8df15c31e3bc27f8990fba4616776da5e66e4012a39b65e54dbdff0788fac78","metadata":{},
+  "parents":["a52d600cf8f59ab14da57bd6123a7d90026916379eec82cad90310c61423b7c1"]}],
+  ["a52d600cf8f59ab14da57bd6123a7d90026916379eec82cad90310c61423b7c1",{"committer":"lakefs","date":0,"generation":1,
+  "message":"Repository created","meta_range":"957b88b12730e646e0f33d3618b77dfa579e8231e3c59c7104be7165611c8027",
+  "metadata":{},"parents":[]}]],"has_more":false}}
+"#,
+];
+
+#[test]
+fn new_heads_are_made(rt: HostRuntime) -> Result<(), Fail> {
+    check_scripts(&rt, rt.alloc(), &HEADS)
+}

@@ -1,0 +1,194 @@
+//! Readings of a lake.
+
+use crate::scripts::check_scripts;
+use std::test::Fail;
+
+static READINGS: [&str; 3] = [
+    // Repositories, names, settings and versions: those above a name, so many, and one.
+    r#"["create_repo",1,1,"books","main",30]
+{"ok":1}
+["create_repo",1,2,"plans","trunk",40]
+{"ok":2}
+["create_branch",1,3,"books","side","main"]
+{"ok":{"at":3,"commit":"4f549c61ed3cb18e319a69cca328ee8f7f469117ecef4c8e94fd203bf357c7bf"}}
+["create_tag",1,4,"books","v1","main"]
+{"ok":{"at":4,"commit":"4f549c61ed3cb18e319a69cca328ee8f7f469117ecef4c8e94fd203bf357c7bf"}}
+["create_tag",1,5,"books","v3","side"]
+{"ok":{"at":5,"commit":"4f549c61ed3cb18e319a69cca328ee8f7f469117ecef4c8e94fd203bf357c7bf"}}
+["set_note",1,6,"books",null,"protection",[{"pattern":"ma*"}]]
+{"ok":6}
+["repos","",9]
+{"ok":{"at":6,"has_more":false,"repos":[{"created":30,"default_branch":"main","name":"books"},{"created":40,
+  "default_branch":"trunk","name":"plans"},{"created":0,"default_branch":"main","name":"quickstart"}]}}
+["repos","",1]
+{"ok":{"at":6,"has_more":true,"repos":[{"created":30,"default_branch":"main","name":"books"}]}}
+["repos","books",9]
+{"ok":{"at":6,"has_more":false,"repos":[{"created":40,"default_branch":"trunk","name":"plans"},{"created":0,
+  "default_branch":"main","name":"quickstart"}]}}
+["repos","b",1]
+{"ok":{"at":6,"has_more":true,"repos":[{"created":30,"default_branch":"main","name":"books"}]}}
+["repos","quickstart",9]
+{"ok":{"at":6,"has_more":false,"repos":[]}}
+["names","books",false,"",2]
+{"ok":{"at":6,"has_more":false,"names":[["main","4f549c61ed3cb18e319a69cca328ee8f7f469117ecef4c8e94fd203bf357c7bf"],
+  ["side","4f549c61ed3cb18e319a69cca328ee8f7f469117ecef4c8e94fd203bf357c7bf"]]}}
+["names","books",false,"",1]
+{"ok":{"at":6,"has_more":true,"names":[["main",
+  "4f549c61ed3cb18e319a69cca328ee8f7f469117ecef4c8e94fd203bf357c7bf"]]}}
+["names","books",false,"main",9]
+{"ok":{"at":6,"has_more":false,"names":[["side",
+  "4f549c61ed3cb18e319a69cca328ee8f7f469117ecef4c8e94fd203bf357c7bf"]]}}
+["names","none",false,"",9]
+{"refused":"NoRepo"}
+["names","books",true,"v1",9]
+{"ok":{"at":6,"has_more":false,"names":[["v3","4f549c61ed3cb18e319a69cca328ee8f7f469117ecef4c8e94fd203bf357c7bf"]]}}
+["names","books",true,"",0]
+{"ok":{"at":6,"has_more":true,"names":[]}}
+["names","plans",true,"",0]
+{"ok":{"at":6,"has_more":false,"names":[]}}
+["find","books",false,"side"]
+{"ok":{"at":6,"commit":"4f549c61ed3cb18e319a69cca328ee8f7f469117ecef4c8e94fd203bf357c7bf"}}
+["find","books",false,"v1"]
+{"refused":"NoRef"}
+["find","books",true,"v1"]
+{"ok":{"at":6,"commit":"4f549c61ed3cb18e319a69cca328ee8f7f469117ecef4c8e94fd203bf357c7bf"}}
+["find","books",true,"side"]
+{"refused":"NoRef"}
+["find","none",true,"v1"]
+{"refused":"NoRepo"}
+["note","books","protection"]
+{"ok":{"at":6,"note":[{"pattern":"ma*"}],"settings":5}}
+["note","books","hooks"]
+{"refused":"NoNote"}
+["note","none","hooks"]
+{"refused":"NoRepo"}
+["versions","books","side"]
+{"ok":{"at":6,"settings":5,"version":4}}
+["versions","books","v1"]
+{"refused":"NoRef"}
+["versions","none","main"]
+{"refused":"NoRepo"}
+"#,
+    // What expressions lead to, and what stands at paths.
+    r#"["stage",1,1,"quickstart","main",1,"a",
+  "01000673333a2f2f7800000000000000000001000000000000000000000000"]
+{"ok":1}
+["stage",1,2,"quickstart","main",1,"b","01000673333a2f2f7800000000000000000001000000000000000000000000"]
+{"ok":2}
+["seal",1,3,"quickstart","main","commit"]
+{"ok":{"at":3,"settings":0,"version":2}}
+["commit",1,4,"quickstart","main",{"committer":"c","date":1700000000,"message":"C","metadata":{}}]
+{"ok":{"at":4,"commit":"7b1f01cb10c87de91c6f7c6ed8e188913858fd3f440b743eda0e328c431e7ffb","record":{"committer":"c",
+  "date":1700000000,"generation":2,"message":"C",
+  "meta_range":"4dda92fc3164733cfcbea72815ac48ffa48a1e96206d65b4e06bdb169b301662","metadata":{},
+  "parents":["a52d600cf8f59ab14da57bd6123a7d90026916379eec82cad90310c61423b7c1"]}}}
+["create_tag",1,5,"quickstart","v1","main"]
+{"ok":{"at":5,"commit":"7b1f01cb10c87de91c6f7c6ed8e188913858fd3f440b743eda0e328c431e7ffb"}}
+["create_tag",1,6,"quickstart","main","main~1"]
+{"ok":{"at":6,"commit":"a52d600cf8f59ab14da57bd6123a7d90026916379eec82cad90310c61423b7c1"}}
+["stage",1,7,"quickstart","main",3,"c","01000673333a2f2f7800000000000000000002000000000000000000000000"]
+{"ok":7}
+["stage",1,8,"quickstart","main",3,"a","delete"]
+{"ok":8}
+["look","quickstart","main","a"]
+{"ok":{"at":8,"found":null,"gone":false}}
+["look","quickstart","main","b"]
+{"ok":{"at":8,"found":"01000673333a2f2f7800000000000000000001000000000000000000000000","gone":false}}
+["look","quickstart","main","c"]
+{"ok":{"at":8,"found":"01000673333a2f2f7800000000000000000002000000000000000000000000","gone":false}}
+["look","quickstart","main@","a"]
+{"ok":{"at":8,"found":"01000673333a2f2f7800000000000000000001000000000000000000000000","gone":false}}
+["look","quickstart","main@","c"]
+{"ok":{"at":8,"found":null,"gone":false}}
+["look","quickstart","v1","a"]
+{"ok":{"at":8,"found":"01000673333a2f2f7800000000000000000001000000000000000000000000","gone":false}}
+["look","quickstart","v1~1","a"]
+{"ok":{"at":8,"found":null,"gone":false}}
+["look","quickstart","7b1f01cb10c87de91c6f7c6ed8e188913858fd3f440b743eda0e328c431e7ffb","b"]
+{"ok":{"at":8,"found":"01000673333a2f2f7800000000000000000001000000000000000000000000","gone":false}}
+["look","quickstart","v1~2","a"]
+{"move":0,"refused":"NoParent"}
+["look","quickstart","main^2","a"]
+{"move":0,"refused":"NoParent"}
+["look","quickstart","v1~1~1","a"]
+{"move":1,"refused":"NoParent"}
+["look","quickstart","v2","a"]
+{"refused":"NoRef"}
+["look","none","main","a"]
+{"refused":"NoRepo"}
+["resolve","quickstart","main"]
+{"ok":{"at":8,"commit":"7b1f01cb10c87de91c6f7c6ed8e188913858fd3f440b743eda0e328c431e7ffb","message":"C",
+  "parents":["a52d600cf8f59ab14da57bd6123a7d90026916379eec82cad90310c61423b7c1"],"plain_branch":true}}
+["resolve","quickstart","main@"]
+{"ok":{"at":8,"commit":"7b1f01cb10c87de91c6f7c6ed8e188913858fd3f440b743eda0e328c431e7ffb","message":"C",
+  "parents":["a52d600cf8f59ab14da57bd6123a7d90026916379eec82cad90310c61423b7c1"],"plain_branch":false}}
+["resolve","quickstart","v1~1"]
+{"ok":{"at":8,"commit":"a52d600cf8f59ab14da57bd6123a7d90026916379eec82cad90310c61423b7c1",
+  "message":"Repository created","parents":[],"plain_branch":false}}
+["resolve","quickstart","7b1f01cb10c87de91c6f7c6ed8e188913858fd3f440b743eda0e328c431e7ffb"]
+{"ok":{"at":8,"commit":"7b1f01cb10c87de91c6f7c6ed8e188913858fd3f440b743eda0e328c431e7ffb","message":"C",
+  "parents":["a52d600cf8f59ab14da57bd6123a7d90026916379eec82cad90310c61423b7c1"],"plain_branch":false}}
+["resolve","quickstart","v1~2"]
+{"move":0,"refused":"NoParent"}
+["resolve","none","main"]
+{"refused":"NoRepo"}
+["page","quickstart","v2",{"after":"","amount":9,"delimiter":"","prefix":""}]
+{"refused":"NoRef"}
+["page","quickstart","v1~2",{"after":"","amount":9,"delimiter":"","prefix":""}]
+{"move":0,"refused":"NoParent"}
+["page","none","main",{"after":"","amount":9,"delimiter":"","prefix":""}]
+{"refused":"NoRepo"}
+["find","quickstart",true,"main"]
+{"ok":{"at":8,"commit":"a52d600cf8f59ab14da57bd6123a7d90026916379eec82cad90310c61423b7c1"}}
+["find","quickstart",false,"main"]
+{"ok":{"at":8,"commit":"7b1f01cb10c87de91c6f7c6ed8e188913858fd3f440b743eda0e328c431e7ffb"}}
+"#,
+    // A log: all, the first ones, those after a commit, and those since a moment.
+    r#"["stage",1,1,"quickstart","main",1,"a",
+  "01000673333a2f2f7800000000000000000001000000000000000000000000"]
+{"ok":1}
+["seal",1,2,"quickstart","main","commit"]
+{"ok":{"at":2,"settings":0,"version":2}}
+["commit",1,3,"quickstart","main",{"committer":"c","date":1700000000,"message":"C","metadata":{}}]
+{"ok":{"at":3,"commit":"539cded4a900b5626dd3f7d12b35c1c45954d724141a13fe74a8422fd44e897f","record":{"committer":"c",
+  "date":1700000000,"generation":2,"message":"C",
+  "meta_range":"a8df15c31e3bc27f8990fba4616776da5e66e4012a39b65e54dbdff0788fac78","metadata":{},
+  "parents":["a52d600cf8f59ab14da57bd6123a7d90026916379eec82cad90310c61423b7c1"]}}}
+["log","quickstart","main",null,null,9]
+{"ok":{"at":3,"commits":[["539cded4a900b5626dd3f7d12b35c1c45954d724141a13fe74a8422fd44e897f",{"committer":"c",
+  "date":1700000000,"generation":2,"message":"C",
+  "meta_range":"a8df15c31e3bc27f8990fba4616776da5e66e4012a39b65e54dbdff0788fac78","metadata":{},
+  "parents":["a52d600cf8f59ab14da57bd6123a7d90026916379eec82cad90310c61423b7c1"]}],
+  ["a52d600cf8f59ab14da57bd6123a7d90026916379eec82cad90310c61423b7c1",{"committer":"lakefs","date":0,"generation":1,
+  "message":"Repository created","meta_range":"957b88b12730e646e0f33d3618b77dfa579e8231e3c59c7104be7165611c8027",
+  "metadata":{},"parents":[]}]],"has_more":false}}
+["log","quickstart","main",null,null,1]
+{"ok":{"at":3,"commits":[["539cded4a900b5626dd3f7d12b35c1c45954d724141a13fe74a8422fd44e897f",{"committer":"c",
+  "date":1700000000,"generation":2,"message":"C",
+  "meta_range":"a8df15c31e3bc27f8990fba4616776da5e66e4012a39b65e54dbdff0788fac78","metadata":{},
+  "parents":["a52d600cf8f59ab14da57bd6123a7d90026916379eec82cad90310c61423b7c1"]}]],"has_more":true}}
+["log","quickstart","main","539cded4a900b5626dd3f7d12b35c1c45954d724141a13fe74a8422fd44e897f",null,9]
+{"ok":{"at":3,"commits":[["a52d600cf8f59ab14da57bd6123a7d90026916379eec82cad90310c61423b7c1",{"committer":"lakefs",
+  "date":0,"generation":1,"message":"Repository created",
+  "meta_range":"957b88b12730e646e0f33d3618b77dfa579e8231e3c59c7104be7165611c8027","metadata":{},"parents":[]}]],
+  "has_more":false}}
+["log","quickstart","main",null,1,9]
+{"ok":{"at":3,"commits":[["539cded4a900b5626dd3f7d12b35c1c45954d724141a13fe74a8422fd44e897f",{"committer":"c",
+  "date":1700000000,"generation":2,"message":"C",
+  "meta_range":"a8df15c31e3bc27f8990fba4616776da5e66e4012a39b65e54dbdff0788fac78","metadata":{},
+  "parents":["a52d600cf8f59ab14da57bd6123a7d90026916379eec82cad90310c61423b7c1"]}]],"has_more":false}}
+["log","quickstart","main","0000000000000000000000000000000000000000000000000000000000000000",null,9]
+{"refused":"NoRef"}
+["log","quickstart","main~2",null,null,9]
+{"move":0,"refused":"NoParent"}
+["log","quickstart","v1",null,null,9]
+{"refused":"NoRef"}
+["log","none","main",null,null,9]
+{"refused":"NoRepo"}
+"#,
+];
+
+#[test]
+fn readings_answer_what_stands(rt: HostRuntime) -> Result<(), Fail> {
+    check_scripts(&rt, rt.alloc(), &READINGS)
+}

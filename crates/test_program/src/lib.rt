@@ -1,0 +1,29 @@
+//! Tests of the program and of what it stands on outside the lake: what no clause says. Calls succeed where there is
+//! memory, lines print the texts that they should, real files and the real clock answer, and two threads can share a
+//! turn.
+//!
+//! - `streams`: a run of the program over streams in memory, and what it comes to.
+//! - `batches`, `failures`, `words`: tables of such runs. `limits`: how long lines, texts and batches may be.
+//! - `adapters`: the real streams and the real clock.
+//! - `objects`: a block store.
+//! - `turns`: a turn over a log. `small_lake`: a turn over a small lake, the form to copy for a value under a turn.
+#![tactic(auto)]
+
+#[cfg(test)]
+mod adapters;
+#[cfg(test)]
+mod batches;
+#[cfg(test)]
+mod failures;
+#[cfg(test)]
+mod limits;
+#[cfg(test)]
+mod objects;
+#[cfg(test)]
+mod small_lake;
+#[cfg(test)]
+mod streams;
+#[cfg(test)]
+mod turns;
+#[cfg(test)]
+mod words;
