@@ -6,6 +6,7 @@ ghost use Rattle.commit_graph.specs.Scanning.{takes_digit, number_from, read_num
 ghost use Rattle.commit_graph.specs.declared.expression.ExprFault.TheVariants.{NoMemory as expr_no_memory};
 
 use lake_base::names::{NameFault, RefName};
+use lake_base::outside::NoMemory;
 use lake_base::sequence::Sequence;
 use std::alloc::{AllocFailed, Global};
 use std::marker::Model;
@@ -49,6 +50,14 @@ pub enum ExprFault {
     /// No memory was left, or there are 2^32 moves and more.
     #[error("out of memory")]
     NoMemory,
+}
+
+impl From<NoMemory> for ExprFault {
+    ghost from_gives = { λ _ e. e ≡ expr_no_memory };
+
+    fn from(_: NoMemory) -> Self {
+        ExprFault::NoMemory
+    }
 }
 
 impl<T: Drop> From<AllocFailed<T>> for ExprFault {

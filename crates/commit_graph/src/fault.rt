@@ -1,6 +1,7 @@
 //! Why bytes aren't the spelling of a commit, and why a commit can't join a graph.
 ghost use Rattle.std.specs.Prelude.{◌≡◌};
 ghost use Rattle.commit_graph.specs.CommitReading.{fault_of};
+ghost use Rattle.commit_graph.specs.declared.fault.CommitFault.TheVariants.{NoMemory as commit_no_memory};
 ghost use Rattle.commit_graph.specs.declared.fault.GraphFault.TheVariants.{NoMemory as graph_no_memory};
 
 use lake_base::digest::Digest;
@@ -29,6 +30,14 @@ pub enum CommitFault {
     /// No memory was left.
     #[error("out of memory")]
     NoMemory,
+}
+
+impl From<NoMemory> for CommitFault {
+    ghost from_gives = { λ _ e. e ≡ commit_no_memory };
+
+    fn from(_: NoMemory) -> Self {
+        CommitFault::NoMemory
+    }
 }
 
 // What a field's fault is to an input of `len` bytes.

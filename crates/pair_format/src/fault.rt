@@ -1,4 +1,8 @@
 //! Why a pair spells nothing.
+ghost use Rattle.std.specs.Prelude.{◌≡◌};
+ghost use Rattle.pair_format.specs.declared.fault.PairFault.TheVariants.{NoMemory as pair_no_memory};
+
+use lake_base::outside::NoMemory;
 use thiserror::Error;
 
 /// Why a pair spells nothing: the first fault, of the key before the value. The place is where the innermost field
@@ -15,4 +19,12 @@ pub enum PairFault {
     /// No memory was left.
     #[error("out of memory")]
     NoMemory,
+}
+
+impl From<NoMemory> for PairFault {
+    ghost from_gives = { λ _ e. e ≡ pair_no_memory };
+
+    fn from(_: NoMemory) -> Self {
+        PairFault::NoMemory
+    }
 }

@@ -3,6 +3,7 @@ ghost use Rattle.std.specs.Prelude.{◌≡◌};
 ghost use Rattle.range_file.specs.RangeReading.{fault_of};
 ghost use Rattle.range_file.specs.declared.fault.RangeFault.TheVariants.{NoMemory as range_no_memory};
 
+use lake_base::outside::NoMemory;
 use lake_format::FieldFault;
 use std::alloc::AllocFailed;
 use thiserror::Error;
@@ -31,6 +32,14 @@ pub enum RangeFault {
     /// No memory was left.
     #[error("out of memory")]
     NoMemory,
+}
+
+impl From<NoMemory> for RangeFault {
+    ghost from_gives = { λ _ e. e ≡ range_no_memory };
+
+    fn from(_: NoMemory) -> Self {
+        RangeFault::NoMemory
+    }
 }
 
 impl<T: Drop> From<AllocFailed<T>> for RangeFault {
