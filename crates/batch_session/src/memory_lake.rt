@@ -12,11 +12,11 @@ ghost use Rattle.batch_session.specs.Batch.{usual_cut};
 ghost use Rattle.batch_session.specs.SureSteps.{IsStep, state_at};
 
 use commit_graph::RefExpr;
+use core_puts::laws_of_founding;
 use keeper::SureKeeper;
 use lake_base::{NoMemory, Path, RefName, RepoName};
 use lake_core::{Lake, OpenFault};
 use lake_format::USUAL_CUT;
-use core_puts::laws_of_founding;
 use lake_model::{By, Seen, StepFault};
 use lake_values::Change;
 use std::alloc::Global;
@@ -47,7 +47,7 @@ impl MemoryLake {
     pub fn new(alloc: Global) -> Result<MemoryLake, NoMemory>
         ensures { IfOk result (λ lake. lake ≡ []) }
     {
-        let keeper = SureKeeper::holding(alloc, Vec::new(alloc))?;
+        let keeper = SureKeeper::holding(alloc, Vec::new(alloc));
         match Lake::opened(alloc, keeper, USUAL_CUT) {
             Ok(lake) => Ok(MemoryLake { lake }),
             Err((fault, _)) => Err(opening_fault(fault)),

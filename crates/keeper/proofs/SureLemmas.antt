@@ -7,13 +7,8 @@ use Rattle.std.specs.declared.cmp.Ordering.{Ordering}
 use Rattle.lake_base.specs.Maps.{byte_order, HasAscendingKeys}
 use Rattle.pair_format.specs.declared.pair.Pair.{Pair}
 use Rattle.keeper.specs.declared.put.Put.{Put}
-use Rattle.keeper.specs.Keepers.{KeptPairs, entries_of, pairs_with, pairs_after}
+use Rattle.keeper.specs.Keepers.{KeptPairs, entries_of, pairs_with, pairs_after, pairs_over}
 use Rattle.keeper.proofs.PairsLemmas.{same}
-
--- these pairs over others, of those of one key the first
-abbrev pub pairs_over : List (List ℕ × List ℕ) → KeptPairs → KeptPairs
-pairs_over [] before = before
-pairs_over (e ∷ es) before = insert (pairs_over es before) e.0 e.1
 
 over_last : (es : List (List ℕ × List ℕ)) (e : List ℕ × List ℕ) (before : KeptPairs) → pairs_over (es ++ e ∷ []) before ≡ pairs_over es (insert before e.0 e.1)
 over_last [] e before = refl
@@ -46,9 +41,15 @@ entries_held pairs h =
     ap entries (same (from_entries es) (from_sorted es) (λ q. get-from_entries nat_list_cmp_total es q ∙ sym (get-from_sorted byte_order es q h)))
     ∙ entries-from_sorted byte_order es h
 
--- where nothing waits, the pairs are those in place
-pub settled : (waiting : List Put) (pairs : KeptPairs) → waiting ≡ [] → pairs_after (reverse waiting) pairs ≡ pairs
-settled waiting pairs none = ap (λ l. pairs_after (reverse l) pairs) none ∙ none_after pairs
+-- where no put waits, none is to come
+pub none_waits : (waiting : List Put) (pairs : KeptPairs) → waiting ≡ [] → pairs_after (reverse waiting) pairs ≡ pairs
+none_waits waiting pairs none = ap (λ l. pairs_after (reverse l) pairs) none ∙ none_after pairs
+
+-- where nothing is to come, the pairs are those in place
+pub settled : (waiting : List Put) (given : List Pair) (pairs : KeptPairs) → waiting ≡ [] → given ≡ []
+    → pairs_after (reverse waiting) (pairs_over (entries_of given) pairs) ≡ pairs
+settled waiting given pairs none no_more =
+    none_waits waiting (pairs_over (entries_of given) pairs) none ∙ ap (λ l. pairs_over (entries_of l) pairs) no_more
 
 -- ---- whether keys ascend
 

@@ -27,6 +27,11 @@ unfoldable pub pairs_after : List Put → KeptPairs → KeptPairs
 pairs_after [] pairs = pairs
 pairs_after (put ∷ puts) pairs = pairs_after puts (pairs_with put pairs)
 
+-- the pairs after some that stand over those before, of these of one key the first
+abbrev pub pairs_over : List (List ℕ × List ℕ) → KeptPairs → KeptPairs
+pairs_over [] before = before
+pairs_over (e ∷ es) before = map.insert (pairs_over es before) e.0 e.1
+
 -- the last put of a key
 abbrev pub last_put : List ℕ → List Put → Option Put
 last_put key puts = find (λ put. bytes_eq key put.key) (reverse puts)

@@ -53,25 +53,20 @@ impl Model for MemoryKeeper {
 }
 
 impl MemoryKeeper {
-    /// A keeper of these pairs, whose keys strictly ascend, with the calls that are to fail.
-    pub fn new(
-        alloc: Global,
-        pairs: Vec<Pair>,
-        fails: Vec<KeeperFail>,
-    ) -> Result<MemoryKeeper, NoMemory>
+    /// A keeper of these pairs, whose keys strictly ascend, with the calls that are to fail. It takes no memory.
+    pub fn new(alloc: Global, pairs: Vec<Pair>, fails: Vec<KeeperFail>) -> MemoryKeeper
         requires { HasAscendingKeys (entries_of pairs.items) }
-        ensures pairs { IfOk result (λ keeper. map.entries keeper.pairs ≡ entries_of pairs.items) }
-        ensures counts { IfOk result (λ keeper. keeper
-            ≡ record { pairs = keeper.pairs; fails = fails.items; loads = 0; puts = 0; faults = 0 }) }
+        ensures pairs { map.entries result.pairs ≡ entries_of pairs.items }
+        ensures counts { result
+            ≡ record { pairs = result.pairs; fails = fails.items; loads = 0; puts = 0; faults = 0 } }
     {
-        let keeper = SureKeeper::holding(alloc, pairs)?;
-        Ok(MemoryKeeper {
-            keeper,
+        MemoryKeeper {
+            keeper: SureKeeper::holding(alloc, pairs),
             fails,
             loads: 0,
             puts: 0,
             faults: 0,
-        })
+        }
     }
 }
 

@@ -3,7 +3,7 @@ ghost use Rattle.std.specs.Prelude.{◌≡◌, ◌<◌, ◌↔◌, [], reverse, 
 ghost use Rattle.std.specs.FinMap as map;
 ghost use Rattle.lake_base.specs.Maps.{HasAscendingKeys};
 ghost use Rattle.lake_base.specs.declared.outside.Trouble.TheVariants.{NoMemory as trouble_no_memory};
-ghost use Rattle.keeper.specs.Keepers.{FailsByFault, entries_of, pairs_after};
+ghost use Rattle.keeper.specs.Keepers.{FailsByFault, entries_of, pairs_after, pairs_over};
 
 use crate::keeper::Keeper;
 use crate::pairs::OrderedPairs;
@@ -19,7 +19,9 @@ use std::marker::Model;
 pub struct SureKeeper {
     alloc: Global,
     pairs: OrderedPairs,
-    // Puts that count and aren't in place yet, since a map has no room that was made before; the next one last.
+    // Pairs that it was made with and puts made since that count and aren't in place yet, since a map has no room that
+    // was made before; of each the next one last.
+    given: Vec<Pair>,
     waiting: Vec<Put>,
 }
 
@@ -27,42 +29,29 @@ impl Model for SureKeeper {
     ghost use Rattle.std.specs.Prelude.{reverse};
     ghost use Rattle.std.specs.Coded.{coded_list, coded_ℕ};
     ghost use Rattle.std.specs.FinMap as map;
-    ghost use Rattle.keeper.specs.Keepers.{KeptPairs, pairs_after};
+    ghost use Rattle.keeper.specs.Keepers.{KeptPairs, entries_of, pairs_after, pairs_over};
 
     ghost Value = { KeptPairs };
 
     ghost coded = { map.code (coded_list coded_ℕ) (coded_list coded_ℕ) };
 
-    ghost view = { λ keeper. pairs_after (reverse keeper.waiting.items) keeper.pairs };
+    ghost view = { λ keeper. pairs_after (reverse keeper.waiting.items)
+        (pairs_over (entries_of keeper.given.items) keeper.pairs) };
 }
 
 impl SureKeeper {
-    /// A keeper of these pairs, whose keys strictly ascend: `are_ascending` tells.
-    pub fn holding(alloc: Global, pairs: Vec<Pair>) -> Result<SureKeeper, NoMemory>
+    /// A keeper of these pairs, whose keys strictly ascend: `are_ascending` tells. It takes no memory.
+    pub fn holding(alloc: Global, pairs: Vec<Pair>) -> SureKeeper
         requires { HasAscendingKeys (entries_of pairs.items) }
-        ensures { IfOk result (λ keeper. map.entries keeper ≡ entries_of pairs.items) }
+        ensures { map.entries result ≡ entries_of pairs.items }
     {
-        let pairs = ordered(alloc, pairs)?;
-        Ok(SureKeeper {
+        SureKeeper {
             alloc,
-            pairs,
+            pairs: OrderedPairs::new(alloc),
+            given: pairs,
             waiting: Vec::new(alloc),
-        })
-    }
-}
-
-// These pairs in an ordered map; of those of one key the first.
-fn ordered(alloc: Global, mut pairs: Vec<Pair>) -> Result<OrderedPairs, NoMemory>
-    ensures { IfOk result (λ ordered. ordered ≡ map.from_entries (entries_of pairs.items)) }
-{
-    let mut ordered = OrderedPairs::new(alloc);
-    while let Some(pair) = pairs.pop() {
-        match ordered.set(pair.key, pair.value) {
-            Ok(()) => {}
-            Err(_) => return Err(NoMemory),
         }
     }
-    Ok(ordered)
 }
 
 /// Whether the keys of the pairs strictly ascend, as bytes. It takes no memory.
@@ -82,8 +71,41 @@ pub fn are_ascending(pairs: &[Pair]) -> bool
     true
 }
 
-// Puts what waits in place, the last first, as far as memory goes.
-fn settle(pairs: &mut OrderedPairs, waiting: &mut Vec<Put>) -> Result<(), NoMemory>
+// Puts all in place that isn't yet: first the pairs, then the puts, as far as memory goes.
+fn settle(
+    pairs: &mut OrderedPairs,
+    given: &mut Vec<Pair>,
+    waiting: &mut Vec<Put>,
+) -> Result<(), NoMemory>
+    ensures same { pairs_after (reverse waiting.new.items) (pairs_over (entries_of given.new.items) pairs.new)
+        ≡ pairs_after (reverse waiting.old.items) (pairs_over (entries_of given.old.items) pairs.old) }
+    ensures given { OnOk result (given.new.items ≡ []) }
+    ensures waiting { OnOk result (waiting.new.items ≡ []) }
+{
+    settle_pairs(pairs, given)?;
+    settle_puts(pairs, waiting)
+}
+
+// Puts the pairs in place, the last first.
+fn settle_pairs(pairs: &mut OrderedPairs, given: &mut Vec<Pair>) -> Result<(), NoMemory>
+    ensures same { pairs_over (entries_of given.new.items) pairs.new
+        ≡ pairs_over (entries_of given.old.items) pairs.old }
+    ensures settled { OnOk result (given.new.items ≡ []) }
+{
+    while let Some(pair) = given.pop() {
+        match pairs.set(pair.key, pair.value) {
+            Ok(()) => {}
+            Err((key, value)) => {
+                give_back(given, Pair { key, value });
+                return Err(NoMemory);
+            }
+        }
+    }
+    Ok(())
+}
+
+// Puts the puts in place, the last first.
+fn settle_puts(pairs: &mut OrderedPairs, waiting: &mut Vec<Put>) -> Result<(), NoMemory>
     ensures same { pairs_after (reverse waiting.new.items) pairs.new
         ≡ pairs_after (reverse waiting.old.items) pairs.old }
     ensures settled { OnOk result (waiting.new.items ≡ []) }
@@ -101,11 +123,11 @@ fn settle(pairs: &mut OrderedPairs, waiting: &mut Vec<Put>) -> Result<(), NoMemo
 }
 
 // Puts one that was taken from the end back there.
-fn give_back(waiting: &mut Vec<Put>, put: Put)
-    requires { vec_len waiting.old < vec_capacity waiting.old }
-    ensures { waiting.new.items ≡ waiting.old.items ++ put ∷ [] }
+fn give_back<T: Drop>(items: &mut Vec<T>, item: T)
+    requires { vec_len items.old < vec_capacity items.old }
+    ensures { items.new.items ≡ items.old.items ++ item ∷ [] }
 {
-    match waiting.push(put) {
+    match items.push(item) {
         Ok(()) => {}
         Err(_) => unreachable!(),
     }
@@ -136,7 +158,7 @@ impl Keeper for SureKeeper {
         // It fails for memory alone.
         ensures sure { IfErr result (λ trouble. trouble ≡ trouble_no_memory) }
     {
-        settle(&mut self.pairs, &mut self.waiting)?;
+        settle(&mut self.pairs, &mut self.given, &mut self.waiting)?;
         let pairs = self.pairs.all(self.alloc)?;
         Ok(pairs)
     }
@@ -149,9 +171,9 @@ impl Keeper for SureKeeper {
         // It fails for memory alone.
         ensures sure { IfErr result (λ trouble. trouble ≡ trouble_no_memory) }
     {
-        settle(&mut self.pairs, &mut self.waiting)?;
+        settle(&mut self.pairs, &mut self.given, &mut self.waiting)?;
         self.waiting = reversed(self.alloc, puts)?;
-        let _ = settle(&mut self.pairs, &mut self.waiting);
+        let _ = settle(&mut self.pairs, &mut self.given, &mut self.waiting);
         Ok(())
     }
 }

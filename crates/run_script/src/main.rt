@@ -16,9 +16,7 @@ use std::process::ExitCode;
 // Runs the script of standard input, with its replies to standard output.
 fn run_script(rt: &HostRuntime) -> Result<(), RunFault> {
     let alloc = rt.alloc();
-    let Ok(keeper) = SureKeeper::holding(alloc, Vec::new(alloc)) else {
-        return Err(no_memory());
-    };
+    let keeper = SureKeeper::holding(alloc, Vec::new(alloc));
     let mut reader = BufReader::new(alloc, rt.stdin()).map_err(RunFault::Reading)?;
     let mut out = BufWriter::new(alloc, rt.stdout()).map_err(RunFault::Writing)?;
     run_lines(alloc, keeper, &mut reader, &mut out)

@@ -1,7 +1,7 @@
 use Rattle.std.proofs.Common.{ap, sym, ◌∙◌, reverse}
 use Rattle.keeper.specs.Keepers.{pairs_after}
 use Rattle.keeper.proofs.SureLemmas.{next_put}
-use Rattle.keeper.proofs.sure.settle.Goals as goal
+use Rattle.keeper.proofs.sure.settle_puts.Goals as goal
 
 pub loop-put-preserved : goal.loop-put-preserved
 loop-put-preserved c =

@@ -1,7 +1,7 @@
 use Rattle.std.proofs.Common.{reverse, ◌≡◌}
 use Rattle.std.specs.Vec.{vec_len}
 use Rattle.keeper.specs.Keepers.{pairs_after}
-use Rattle.keeper.proofs.sure.settle.Given as goal
+use Rattle.keeper.proofs.sure.settle_puts.Given as goal
 
 -- the puts to come, after those in place, are all
 abbrev pub invariant-loop-put : goal.invariant-loop-put
