@@ -9,7 +9,7 @@ pub mod OwnEntriesLemmas
 pub mod PathlessLemmas
 pub mod ServedLemmas
 pub mod SessionLemmas
-pub mod StepsLemmas
+pub mod SureStepsLemmas
 pub mod TextLemmas
 pub mod TicketLemmas
 pub mod UploadLemmas

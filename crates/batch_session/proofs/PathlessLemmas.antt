@@ -1,10 +1,10 @@
 -- A write isn't refused for a path.
-use Rattle.std.proofs.Common.{◌≡◌, ◌≢◌, Bool, true, false, not, nat_lt, ℕ, List, [], ◌∷◌, subst}
-use Rattle.std.specs.Prelude.{Option, Some, None, IfSome, is_some, option_and_then, option_map}
+use Rattle.std.proofs.Common.{inl, inr, ◌≡◌, ◌≢◌, Bool, true, false, not, nat_lt, ℕ, List, [], ◌∷◌, subst}
+use Rattle.std.specs.Prelude.{◌⊎◌, Option, Some, None, IfSome, is_some, option_and_then, option_map}
 use Rattle.std.specs.FinMap.{contains_key, get}
 use Rattle.std.specs.Option.{option_or}
 use Rattle.lake_model.specs.declared.fault.StepFault.{StepFault}
-use Rattle.lake_model.specs.declared.fault.StepFault.TheVariants.{Stopped, HistoryFull, NoRepo, NoRef, Protected, NoPath}
+use Rattle.lake_model.specs.declared.fault.StepFault.TheVariants.{Stopped, HistoryFull, NoRepo, NoRef, Protected, NoPath, NoMemory}
 use Rattle.lake_model.specs.Branches.{protected_by}
 use Rattle.lake_model.specs.State.{Repository, State, branch_of}
 use Rattle.lake_model.specs.Refusals.{Causes, cause_if, first_cause, first_of}
@@ -81,10 +81,14 @@ or_told None b is other = other
 told : (cause : Option StepFault) (fault : StepFault) → IfSome cause IsPathless → cause ≡ Some fault → fault ≢ NoPath
 told cause fault all is path = subst IsPathless path (subst (λ c. IfSome c IsPathless) is all)
 
--- what a write is refused for is none for a path
-pub write_pathless : (s : State) (repo branch : List ℕ) (fault : StepFault) → first_cause (write_causes s repo branch) ≡ Some fault → fault ≢ NoPath
-write_pathless s repo branch fault = told _ fault (write_told s repo branch)
+-- a write that is refused, or runs out of memory, isn't refused for a path
+pub write_pathless : (s : State) (repo branch : List ℕ) (fault : StepFault)
+    → (fault ≡ NoMemory) ⊎ (first_cause (write_causes s repo branch) ≡ Some fault) → fault ≢ NoPath
+write_pathless s repo branch fault (inl out) = λ path. cc
+write_pathless s repo branch fault (inr is) = told _ fault (write_told s repo branch) is
 
--- nor is what a guarded one is refused for
-pub guarded_pathless : (s : State) (repo branch : List ℕ) (fault : StepFault) → guarded_refusal s repo branch ≡ Some fault → fault ≢ NoPath
-guarded_pathless s repo branch fault = told _ fault (or_told _ _ (reading_told s repo branch) (write_told s repo branch))
+-- nor is a guarded one
+pub guarded_pathless : (s : State) (repo branch : List ℕ) (fault : StepFault)
+    → (fault ≡ NoMemory) ⊎ (guarded_refusal s repo branch ≡ Some fault) → fault ≢ NoPath
+guarded_pathless s repo branch fault (inl out) = λ path. cc
+guarded_pathless s repo branch fault (inr is) = told _ fault (or_told _ _ (reading_told s repo branch) (write_told s repo branch)) is

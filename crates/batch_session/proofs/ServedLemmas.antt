@@ -15,12 +15,11 @@ use Rattle.lake_calls.specs.Effects.{nothing}
 use Rattle.lake_calls.specs.Replies.{CallReply, seen_reply}
 use Rattle.batch_session.specs.declared.reply.Reply.{Reply}
 use Rattle.batch_session.specs.Batch.{CutShort, IsCallServed, IsValueServed, Lake, LineEffect, Served, Unread, after_call, call_line_effect, next_request, starved_effect, state_of, usual_cut}
-use Rattle.batch_session.specs.Calling.{IsAnswered, IsCutOff, ServesCall, ShowsReply}
+use Rattle.batch_session.specs.Calling.{IsAnswered, IsCutOff, ServesCall, ShowsReply, upload_request}
 use Rattle.batch_session.specs.Command.{LineValue, Skipped, NotBuilt, Asks, call_of, cat_call, is_skipped, line_of_call, line_value, upload_call}
-use Rattle.batch_session.specs.Reply.{batch_names, text_bytes}
-use Rattle.batch_session.specs.Text.{out_of_memory_text, reply_text}
+use Rattle.batch_session.specs.Text.{batch_names, out_of_memory_text, reply_text}
+use Rattle.batch_session.specs.TextView.{text_bytes}
 use Rattle.batch_session.specs.Command.{upload_of}
-use Rattle.batch_session.specs.Uploads.{upload_request}
 
 -- ---- calls
 

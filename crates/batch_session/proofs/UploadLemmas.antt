@@ -1,5 +1,5 @@
 -- What an upload shows and leaves, by how far it came.
-use Rattle.std.proofs.Common.{inl, inr, ◌≡◌, ◌≢◌, ◌++◌, ◌∷◌, [], ◌+◌, ℕ, true, false, List, length, append_assoc, cond, lit<, refl, sym, ap, ◌∙◌, subst}
+use Rattle.std.proofs.Common.{inl, inr, ◌≡◌, ◌++◌, ◌∷◌, [], ◌+◌, ℕ, true, false, List, length, append_assoc, cond, lit<, refl, sym, ap, ◌∙◌, subst}
 use Rattle.std.proofs.lemmas.List.{append-nil}
 use Rattle.std.specs.Prelude.{◌⊎◌, Option, Some, None, IfOk, IsErrAnd, Result, Ok, Err, codes, if◌then◌else◌}
 use Rattle.std.specs.FinMap.{get, insert}
@@ -10,7 +10,7 @@ use Rattle.lake_base.specs.declared.outside.NoMemory.{NoMemory as no_memory}
 use Rattle.lake_values.specs.declared.entry.Change.{Change}
 use Rattle.lake_values.specs.declared.entry.Change.TheVariants.{Put}
 use Rattle.lake_model.specs.declared.fault.StepFault.{StepFault}
-use Rattle.lake_model.specs.declared.fault.StepFault.TheVariants.{NoMemory, NoPath}
+use Rattle.lake_model.specs.declared.fault.StepFault.TheVariants.{NoMemory}
 use Rattle.lake_model.specs.declared.history.By.{By}
 use Rattle.lake_model.specs.declared.history.HistoryEntry.{HistoryEntry}
 use Rattle.lake_model.specs.declared.history.Operation.TheVariants.{Stage, TicketTake}
@@ -25,13 +25,11 @@ use Rattle.lake_calls.specs.Effects.{drop_entries, drop_entry, entries_alone, no
 use Rattle.lake_calls.specs.Replies.{CallReply, UploadReply, guarded_refusal, is_done, reply_or, stage_refusal, ticket_entry, ticket_refusal}
 use Rattle.batch_session.specs.declared.reply.Reply.{Reply}
 use Rattle.batch_session.specs.Batch.{Lake, after_call, usual_cut}
-use Rattle.batch_session.specs.Calling.{IsAnswered, IsCutOff, IsRefused, IsStaged, ServesCall, ShowsReply, with_entry, with_held}
-use Rattle.batch_session.specs.Reply.{batch_names, text_bytes}
+use Rattle.batch_session.specs.Calling.{IsAnswered, IsCutOff, IsRefused, IsStaged, ServesCall, ShowsReply, with_entry, with_held, upload_request}
 use Rattle.batch_session.specs.SureSteps.{IsStep, state_at}
-use Rattle.batch_session.specs.Text.{CallNames, names_of, refusal_text, reply_text, upload_text}
-use Rattle.batch_session.specs.Uploads.{upload_request}
+use Rattle.batch_session.specs.Text.{CallNames, batch_names, names_of, refusal_text, reply_text, upload_text}
+use Rattle.batch_session.specs.TextView.{text_bytes}
 use Rattle.batch_session.proofs.TicketLemmas.{drops_are, ticket_tied}
-use Rattle.batch_session.proofs.PathlessLemmas.{guarded_pathless, write_pathless}
 
 -- a lake by its parts
 abbrev lake_by : List HistoryEntry → HeldObjects → ℕ → Lake
@@ -206,8 +204,8 @@ module _ (h : List HistoryEntry) (objects : HeldObjects) (calls : ℕ) (by : By)
 
   module _ (repo : u.repo ≡ codes "quickstart") (branch : u.branch ≡ codes "main") where
     -- the text of a refusal
-    text_of : (fault : StepFault) (r : Reply) → IsRefused fault r → fault ≢ NoPath → text_bytes r.text ≡ refusal_text (names_of (Upload u)) fault
-    text_of fault r is other = is.text u.path other ∙ ap (λ n. refusal_text n fault) (names_are u repo branch)
+    text_of : (fault : StepFault) (r : Reply) → IsRefused fault r → text_bytes r.text ≡ refusal_text (names_of (Upload u)) fault
+    text_of fault r is = is.text u.path ∙ ap (λ n. refusal_text n fault) (names_are u repo branch)
 
     -- the ticket was refused, or memory ran out before it
     pub serves_no_ticket : (fault : StepFault) (result : Result Reply no_memory) (h1 : List HistoryEntry)
@@ -215,7 +213,7 @@ module _ (h : List HistoryEntry) (objects : HeldObjects) (calls : ℕ) (by : By)
         → ServesCall old request result (lake_by h1 objects (calls + 1))
     serves_no_ticket fault (Ok r) h1 (inl out, same) is = absurd (is.memory out)
     serves_no_ticket fault (Ok r) h1 (inr why, same) is =
-        refused_ticket fault r _ why is.done (text_of fault r is (write_pathless s u.repo u.branch fault why)) (ap (λ e. lake_by e objects (calls + 1)) same)
+        refused_ticket fault r _ why is.done (text_of fault r is) (ap (λ e. lake_by e objects (calls + 1)) same)
     serves_no_ticket fault (Err x) h1 step is = cut_first _ (ap (λ e. lake_by e objects (calls + 1)) step.1)
 
   -- what staging left
@@ -272,7 +270,7 @@ module _ (h : List HistoryEntry) (objects : HeldObjects) (calls : ℕ) (by : By)
     shows_refusal repo branch fault r l2 h3 left (inr why) is refused =
         let second_is : second ≡ Some fault = ap (λ t. guarded_refusal t u.repo u.branch) (sym after_ticket) ∙ why.0 in
         refused_stage fault r _ step.0 second_is refused.done
-        (text_of repo branch fault r refused (guarded_pathless (after s take) u.repo u.branch fault second_is))
+        (text_of repo branch fault r refused)
         (ap (λ o. lake_by h3 o (calls + 1)) (why.1 ∙ ap (λ n. insert objects n u.body) step.1.0)
         ∙ ap (λ e. lake_by e (insert objects s.next_number u.body) (calls + 1)) (given_up l2.history h3 left.same is))
 

@@ -5,15 +5,20 @@ use Rattle.std.specs.List.{Contains}
 use Rattle.block_store.specs.Sure.{SureBlocksValue}
 use Rattle.lake_base.specs.declared.outside.NoMemory.{NoMemory as no_memory}
 use Rattle.lake_model.specs.declared.fault.StepFault.{StepFault}
-use Rattle.lake_model.specs.declared.fault.StepFault.TheVariants.{NoMemory, NoPath}
+use Rattle.lake_model.specs.declared.fault.StepFault.TheVariants.{NoMemory}
+use Rattle.lake_model.specs.declared.history.By.{By}
 use Rattle.lake_model.specs.declared.history.HistoryEntry.{HistoryEntry}
-use Rattle.lake_calls.specs.Calls.{Request}
+use Rattle.lake_calls.specs.Calls.{UploadCall, Upload, Request}
 use Rattle.lake_calls.specs.Replies.{CallReply, is_done}
 use Rattle.lake_calls.specs.Effects.{CallEffect, effect, fronts}
 use Rattle.batch_session.specs.declared.reply.Reply.{Reply}
 use Rattle.batch_session.specs.Batch.{Lake, state_of, reply_of, after_call}
-use Rattle.batch_session.specs.Reply.{batch_names, text_bytes}
-use Rattle.batch_session.specs.Text.{call_text, refusal_text}
+use Rattle.batch_session.specs.Text.{batch_names, call_text, refusal_text}
+use Rattle.batch_session.specs.TextView.{text_bytes}
+
+-- an upload is made at a moment
+abbrev pub upload_request : By → ℕ → UploadCall → Request
+upload_request by moment u = record { call = Upload u; moment = moment; by = by }
 
 -- the lake of entries and objects, at which so many requests were made
 abbrev pub lake_at : ℕ → List HistoryEntry → SureBlocksValue → Lake
@@ -40,11 +45,11 @@ abbrev pub ServesCall : Lake → Request → Result Reply no_memory → Lake →
 ServesCall old request result new =
     MatchResult result (λ r. IsAnswered old request r new) (λ _. IsCutOff old request new)
 
--- what is printed of a refused upload
+-- what is printed of a refused upload, whatever its path
 pub record IsRefused (fault : StepFault) (r : Reply) : Type 0 where
   pub done : r.done ≡ false
   pub memory : fault ≢ NoMemory
-  pub text : (path : List ℕ) → fault ≢ NoPath → text_bytes r.text ≡ refusal_text (batch_names path) fault
+  pub text : (path : List ℕ) → text_bytes r.text ≡ refusal_text (batch_names path) fault
 
 -- a body under a number
 abbrev pub with_held : ℕ → List ℕ → Lake → Lake

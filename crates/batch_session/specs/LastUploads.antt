@@ -1,11 +1,11 @@
 -- What the lines of a batch uploaded, line by line.
-use Rattle.std.specs.Prelude.{◌≡◌, ◌&&◌, ℕ, Bool, false, List, [], ◌∷◌, ◌++◌, Option, Some, None, if◌then◌else◌, codes}
+use Rattle.std.specs.Prelude.{◌≡◌, ◌&&◌, ℕ, Bool, false, List, [], ◌∷◌, Option, Some, None, if◌then◌else◌}
 use Rattle.std.specs.Option.{option_or}
 use Rattle.std.specs.Str.{bytes_eq}
 use Rattle.lake_calls.specs.Calls.{Upload, Object}
 use Rattle.batch_session.specs.Batch.{LineEffect, any_starved}
 use Rattle.batch_session.specs.Command.{LineValue, Skipped, NotBuilt, Asks, line_value}
-use Rattle.batch_session.specs.Text.{line}
+use Rattle.batch_session.specs.Text.{no_path_text}
 
 -- no line ran out of memory
 abbrev pub HasMemory : List LineEffect → Type 0
@@ -28,4 +28,4 @@ last_upload path (text ∷ texts) (one ∷ lines) =
 -- what is shown of a path with such a body, or with none
 abbrev pub cat_text : List ℕ → Option (List ℕ) → List ℕ
 cat_text path (Some body) = body
-cat_text path None = line (codes "Error: path not found: " ++ path ++ codes " [404]")
+cat_text path None = no_path_text path

@@ -5,8 +5,7 @@ pub mod CommandView
 pub mod LastUploads
 pub mod Moments
 pub mod OwnEntries
-pub mod Reply
 pub mod Session
 pub mod SureSteps
 pub mod Text
-pub mod Uploads
+pub mod TextView

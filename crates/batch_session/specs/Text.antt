@@ -39,6 +39,10 @@ abbrev pub upload_text : List ℕ → ℕ → List ℕ → List ℕ
 upload_text path size checksum =
     line (codes "Path: " ++ path) ++ line (codes "Size: " ++ decimal size) ++ line (codes "Checksum: " ++ checksum)
 
+-- nothing stands at the path
+abbrev pub no_path_text : List ℕ → List ℕ
+no_path_text path = line (codes "Error: path not found: " ++ path ++ codes " [404]")
+
 -- the object at the path is gone, stands outside, or has no bytes that are held
 abbrev pub gone_text : List ℕ → List ℕ
 gone_text path = line (codes "Error: object gone: " ++ path ++ codes " [410]")
@@ -59,6 +63,10 @@ abbrev pub names_of : Call → CallNames
 names_of (Upload u) = record { repo = u.repo; reference = u.branch; path = u.path }
 names_of (Object o) = record { repo = o.repo; reference = o.text; path = o.path }
 
+-- the names of a call on the branch `main` of `quickstart`
+abbrev pub batch_names : List ℕ → CallNames
+batch_names path = record { repo = codes "quickstart"; reference = codes "main"; path = path }
+
 -- A call was refused. A branch that changed at each try is answered as too many tries.
 abbrev pub refusal_text : CallNames → StepFault → List ℕ
 refusal_text names Stopped = line (codes "Error: store stopped [503]")
@@ -72,7 +80,7 @@ refusal_text names DefaultBranch = line (codes "Error: default branch can't be d
 refusal_text names (Protected number) =
     line (codes "Error: branch protected by rule " ++ decimal number ++ codes " [403]")
 refusal_text names (Changed version settings) = line (codes "Error: too many tries [423]")
-refusal_text names NoPath = line (codes "Error: path not found: " ++ names.path ++ codes " [404]")
+refusal_text names NoPath = no_path_text names.path
 refusal_text names (Expired id) = line (codes "Error: commit expired: " ++ encode_lower id.0 ++ codes " [410]")
 refusal_text names (NameClash name kept new) =
     line (codes "Error: two contents for name " ++ encode_lower name.0 ++ codes " [500]")

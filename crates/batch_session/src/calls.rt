@@ -1,5 +1,5 @@
 //! The calls of a session, each on its lake and its objects.
-ghost use Rattle.std.specs.Prelude.{◌≡◌, ◌+◌, ◌++◌, ℕ, List, false, IfOk, MatchResult, length, codes};
+ghost use Rattle.std.specs.Prelude.{◌≡◌, ◌≢◌, ◌+◌, ◌++◌, ℕ, List, false, IfOk, MatchResult, length, codes};
 ghost use Rattle.std.specs.FinMap.{get};
 ghost use Rattle.lake_base.specs.Digest.{sha256, encode_lower};
 ghost use Rattle.lake_values.specs.declared.entry.Change.TheVariants.{Put};
@@ -10,12 +10,11 @@ ghost use Rattle.lake_model.specs.Uncommitted.{HasTicket};
 ghost use Rattle.lake_calls.specs.Courses.{upload_entry};
 ghost use Rattle.lake_calls.specs.Effects.{drop_entries};
 ghost use Rattle.lake_calls.specs.Replies.{guarded_refusal, found_reply, place_reply, held_reply, seen_reply};
-ghost use Rattle.batch_session.specs.Calling.{IsRefused, IsStaged, ServesCall, ShowsReply, lake_at};
-ghost use Rattle.batch_session.specs.Reply.{batch_names, text_bytes};
+ghost use Rattle.batch_session.specs.Calling.{IsRefused, IsStaged, ServesCall, ShowsReply, lake_at, upload_request};
 ghost use Rattle.batch_session.specs.SureSteps.{state_at};
-ghost use Rattle.batch_session.specs.Text.{reply_text, upload_text};
+ghost use Rattle.batch_session.specs.Text.{batch_names, reply_text, upload_text};
+ghost use Rattle.batch_session.specs.TextView.{text_bytes};
 ghost use Rattle.batch_session.specs.Command.{upload_of};
-ghost use Rattle.batch_session.specs.Uploads.{upload_request};
 
 use crate::memory_lake::MemoryLake;
 use crate::reply::Reply;
@@ -141,8 +140,9 @@ fn give_up(lake: &mut MemoryLake, by: By, number: u64) -> Result<(), NoMemory>
     }
 }
 
-// What is printed of a refused upload.
+// What is printed of a refused upload. No upload is refused because nothing stands at its path.
 fn refuse(alloc: Global, fault: &StepFault) -> Result<Reply, NoMemory>
+    requires { fault.now ≢ StepFault.NoPath }
     ensures { IfOk result (IsRefused fault.now) }
 {
     let text = step_refusal_text(alloc, fault)?;

@@ -3,9 +3,9 @@ ghost use Rattle.std.specs.Prelude.{◌≡◌, ◌+◌, ◌<◌, ◌≤◌, ◌^
 ghost use Rattle.batch_session.specs.Batch.{IsCallServed, IsLineServed, LineEffect};
 ghost use Rattle.batch_session.specs.CommandView.{command_view};
 ghost use Rattle.batch_session.specs.Moments.{AreMoments};
-ghost use Rattle.batch_session.specs.Reply.{text_bytes};
 ghost use Rattle.batch_session.specs.Session.{lake_of};
 ghost use Rattle.batch_session.specs.Text.{out_of_memory_text};
+ghost use Rattle.batch_session.specs.TextView.{text_bytes};
 
 use crate::command::{Command, Line, read_line};
 use crate::session::Session;

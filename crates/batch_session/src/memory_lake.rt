@@ -12,7 +12,6 @@ ghost use Rattle.batch_session.specs.Batch.{usual_cut};
 ghost use Rattle.batch_session.specs.SureSteps.{IsStep, state_at};
 
 use commit_graph::RefExpr;
-use core_puts::laws_of_founding;
 use keeper::SureKeeper;
 use lake_base::{NoMemory, Path, RefName, RepoName};
 use lake_core::{Lake, OpenFault};

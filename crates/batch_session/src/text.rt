@@ -1,8 +1,8 @@
 //! What a batch prints.
 ghost use Rattle.std.specs.Prelude.{◌≡◌, ◌≢◌, ◌++◌, ℕ, List, IfOk};
 ghost use Rattle.lake_base.specs.Digest.{encode_lower};
-ghost use Rattle.batch_session.specs.Text.{CallNames, gone_text, lost_text, outside_text, refusal_text, upload_text};
-ghost use Rattle.batch_session.specs.Reply.{text_bytes, batch_names};
+ghost use Rattle.batch_session.specs.Text.{CallNames, batch_names, gone_text, lost_text, no_path_text, outside_text, refusal_text, upload_text};
+ghost use Rattle.batch_session.specs.TextView.{text_bytes};
 
 use lake_base::{Digest, NoMemory, Path};
 use lake_model::StepFault;
@@ -86,7 +86,7 @@ fn about_name(alloc: Global, front: &[u8], name: &Digest, end: &[u8]) -> Result<
 
 /// What is printed where nothing stands at the path.
 pub fn no_path_text(alloc: Global, path: &Path) -> Result<LineText, NoMemory>
-    ensures { IfOk result (λ printed. text_bytes printed ≡ refusal_text (batch_names path.now) StepFault.NoPath) }
+    ensures { IfOk result (λ printed. text_bytes printed ≡ no_path_text path.now) }
 {
     about_path(alloc, b"Error: path not found: ", path, b" [404]\n")
 }
@@ -125,11 +125,11 @@ fn protected_text(alloc: Global, number: usize) -> Result<LineText, NoMemory>
     Ok(LineText::Own(printed))
 }
 
-/// What is printed of a refused call on the branch, where its refusal isn't that nothing stands at the path.
+/// What is printed of a refused call on the branch, whatever its path: its refusal isn't that nothing stands there.
 pub fn step_refusal_text(alloc: Global, fault: &StepFault) -> Result<LineText, NoMemory>
+    requires { fault.now ≢ StepFault.NoPath }
     ensures { IfOk result (λ printed. (fault.now ≢ StepFault.NoMemory)
-        × ((path : List ℕ) → fault.now ≢ StepFault.NoPath
-        → text_bytes printed ≡ refusal_text (batch_names path) fault.now)) }
+        × ((path : List ℕ) → text_bytes printed ≡ refusal_text (batch_names path) fault.now)) }
 {
     match fault {
         StepFault::Stopped => Ok(LineText::Fixed(b"Error: store stopped [503]\n")),
@@ -151,7 +151,7 @@ pub fn step_refusal_text(alloc: Global, fault: &StepFault) -> Result<LineText, N
             about_name(alloc, b"Error: two contents for name ", name, b" [500]\n")
         }
         StepFault::StoreFault => Ok(LineText::Fixed(b"Error: store failed [503]\n")),
-        StepFault::NoPath => Ok(LineText::Fixed(b"Error: path not found [404]\n")),
+        StepFault::NoPath => unreachable!(),
         StepFault::NoMemory => Err(NoMemory),
     }
 }

@@ -62,9 +62,9 @@ fn keeper(alloc: Global, row: &Row) -> Result<MemoryKeeper, NoMemory> {
         fails.push(fail)?;
     }
     if row.has_pair {
-        return MemoryKeeper::new(alloc, vec![in alloc; pair(alloc)?]?, fails);
+        return Ok(MemoryKeeper::new(alloc, vec![in alloc; pair(alloc)?]?, fails));
     }
-    MemoryKeeper::new(alloc, Vec::new(alloc), fails)
+    Ok(MemoryKeeper::new(alloc, Vec::new(alloc), fails))
 }
 
 fn told(alloc: Global, row: &Row) -> Result<String, Fail> {

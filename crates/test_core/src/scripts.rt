@@ -11,7 +11,7 @@ use std::test::Fail;
 /// puts are made all the same.
 pub(crate) fn fresh(alloc: Global, call: u64, lands: bool) -> Result<Script<MemoryKeeper>, Fail> {
     let fails = vec![in alloc; KeeperFail::Put { call, lands }]?;
-    let keeper = MemoryKeeper::new(alloc, Vec::new(alloc), fails)?;
+    let keeper = MemoryKeeper::new(alloc, Vec::new(alloc), fails);
     match open(alloc, keeper, b"[\"fresh\",300,4]") {
         Ok(script) => Ok(script),
         Err(_) => Err("the lake isn't opened")?,

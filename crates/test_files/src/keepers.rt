@@ -103,7 +103,7 @@ fn keepers_keep_what_is_put(rt: HostRuntime) -> Result<(), Fail> {
     if !are_ascending(pairs.as_slice()) {
         return Err("the pairs don't ascend")?;
     }
-    let mut keeper = SureKeeper::holding(alloc, pairs)?;
+    let mut keeper = SureKeeper::holding(alloc, pairs);
     for (step, due) in &SURE {
         assert_eq!(rt; told(alloc, &mut keeper, step)?.as_str(), *due);
     }
@@ -118,7 +118,7 @@ fn keepers_fail_where_they_are_told(rt: HostRuntime) -> Result<(), Fail> {
         return Err("the pairs don't ascend")?;
     }
     let fails = Vec::from_slice(alloc, &FAILS)?;
-    let mut keeper = MemoryKeeper::new(alloc, pairs, fails)?;
+    let mut keeper = MemoryKeeper::new(alloc, pairs, fails);
     for (step, due) in &FAILING {
         assert_eq!(rt; told(alloc, &mut keeper, step)?.as_str(), *due);
     }

@@ -3,7 +3,7 @@ use Rattle.core_state.specs.LakeStates.{lake_value}
 use Rattle.lake_core.specs.Lakes.{versions}
 use Rattle.lake_core.specs.Makings.{stage}
 use Rattle.batch_session.specs.Batch.{usual_cut}
-use Rattle.batch_session.proofs.StepsLemmas.{staged_step, state_of_entries, unread_branch}
+use Rattle.batch_session.proofs.SureStepsLemmas.{staged_step, state_of_entries, unread_branch}
 use Rattle.batch_session.proofs.memory_lake.MemoryLake.stage.Goals as goal
 
 pub returns-in-Ok : goal.returns-in-Ok

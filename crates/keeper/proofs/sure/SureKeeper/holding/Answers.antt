@@ -7,6 +7,6 @@ use Rattle.keeper.proofs.sure.SureKeeper.holding.Goals as goal
 pub returns : goal.returns
 returns c =
     let es = entries_of c.args.pairs.items in
-    ap (λ l. entries (pairs_after (reverse l) (pairs_over es c.new.result))) c.new-Vec.ensures.items
+    ap (λ l. entries (pairs_after (reverse l) (pairs_over es c.new.result))) c.new-2.ensures.items
     ∙ ap entries (none_after (pairs_over es c.new.result) ∙ ap (pairs_over es) c.new.ensures ∙ over_none es)
     ∙ entries_held c.args.pairs.items c.requires
