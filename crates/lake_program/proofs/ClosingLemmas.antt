@@ -6,13 +6,14 @@ use Rattle.std.proofs.lemmas.Bool.Decides.{nat_tests}
 use Rattle.std.proofs.lemmas.List.{append-nil, take_all}
 use Rattle.std.specs.Str.Lines.{lines}
 use Rattle.lake_base.specs.declared.outside.Failed.{Failed}
-use Rattle.batch_session.specs.Batch.{IsLineServed}
+use Rattle.batch_session.specs.Batch.{IsLineServed, LineEffect}
 use Rattle.batch_session.specs.Text.{too_long_text}
 use Rattle.lake_program.specs.Feeding.{line_room, HasShown, ShowsLines, HasServed}
 use Rattle.lake_program.specs.Front.{WroteFront, Shows}
 use Rattle.lake_program.specs.Lines.{ended_lines, last_part, batch_lines, end_text}
 use Rattle.lake_program.specs.Progress.{ServerState}
 use Rattle.lake_program.specs.Serving.{Serves}
+use Rattle.lake_program.specs.SourceReading.{IsFed}
 use Rattle.lake_program.specs.Streams.{Trace}
 use Rattle.lake_program.proofs.BatchLemmas.{served_same}
 use Rattle.lake_program.proofs.FeedingLemmas.{line_shown}
@@ -30,10 +31,16 @@ pub tested_within : {m n : ℕ} → nat_le m n ≡ true → m ≤ n
 tested_within {m = m} {n = n} is = grind (arith, nat_tests)
 
 -- a batch within its limit was served whole
-pub served_whole : {before : Trace} {limit : ℕ} {input : List ℕ} {now : ServerState} {kept : List ℕ}
-    → length input ≤ limit → HasServed before input now kept → HasServed before (take limit input) now kept
-served_whole {before = before} {limit = limit} {input = input} {now = now} {kept = kept} within served =
-    subst (λ (l : List ℕ). HasServed before l now kept) (sym (take_all limit input within)) served
+served_whole : {before : Trace} {first : List LineEffect} {limit : ℕ} {input : List ℕ} {now : ServerState} {kept : List ℕ}
+    → length input ≤ limit → HasServed before first input now kept → HasServed before first (take limit input) now kept
+served_whole {before = before} {first = first} {limit = limit} {input = input} {now = now} {kept = kept} within served =
+    subst (λ (l : List ℕ). HasServed before first l now kept) (sym (take_all limit input within)) served
+
+pub fed_whole : {before : Trace} {limit most : ℕ} {input : List ℕ} {source : Option (List ℕ)} {now : ServerState}
+    {kept : List ℕ} → length input ≤ limit → IsFed before most input source limit input now kept
+    → IsFed before most input source limit (take limit input) now kept
+fed_whole within fed =
+    record { out = fed.out; first = fed.first; read = fed.read; served = served_whole within fed.served }
 
 nothing_kept : (n : ℕ) (xs : List ℕ) → 0 < n → take n xs ≡ [] → xs ≡ []
 nothing_kept n [] some is = refl
@@ -47,25 +54,25 @@ something_kept zero (x ∷ xs) some = omega arith
 something_kept (suc n) (x ∷ xs) some = omega arith
 
 -- the lines of a batch and the text at its end, by whether it is within its limit
-by_test : (limit : ℕ) (input : List ℕ) (before : Trace) (now : ServerState) (result : Result (Unit {0}) Failed)
+by_test : (limit : ℕ) (input : List ℕ) (before : Trace) (first : List LineEffect) (now : ServerState) (result : Result (Unit {0}) Failed)
     (within : Bool) → nat_le (length input) limit ≡ within
-    → ShowsLines before (cond within (lines input) (ended_lines (take limit input))) (cond within [] too_long_text)
-    now result → ShowsLines before (batch_lines limit input) (end_text limit input []) now result
-by_test limit input before now result within test shows =
-    subst (λ b. ShowsLines before (cond b (lines input) (ended_lines (take limit input))) (cond b [] too_long_text)
+    → ShowsLines before first (cond within (lines input) (ended_lines (take limit input))) (cond within [] too_long_text)
+    now result → ShowsLines before first (batch_lines limit input) (end_text limit input []) now result
+by_test limit input before first now result within test shows =
+    subst (λ b. ShowsLines before first (cond b (lines input) (ended_lines (take limit input))) (cond b [] too_long_text)
     now result) (sym test) shows
 
 -- what comes last of a batch whose lines that ended were served
-module _ (limit : ℕ) (input : List ℕ) {before : Trace} {old : ServerState} {kept : List ℕ}
-    (served : HasServed before (take limit input) old kept) where
+module _ (limit : ℕ) (input : List ℕ) {before : Trace} {first : List LineEffect} {old : ServerState} {kept : List ℕ}
+    (served : HasServed before first (take limit input) old kept) where
   -- it is too long
   pub shows_too_long : nat_le (length input) limit ≡ false
       → (written : Option (List ℕ)) (pending : List ℕ) (result : Result (Unit {0}) Failed)
       → OnOk result (Shows old.trace.written written old.progress.pending too_long_text pending)
       → OnErr result (WroteFront old.trace.written written (old.progress.pending ++ too_long_text))
-      → ShowsLines before (batch_lines limit input) (end_text limit input []) (with_output old written pending) result
+      → ShowsLines before first (batch_lines limit input) (end_text limit input []) (with_output old written pending) result
   shows_too_long beyond written pending result shows part =
-      by_test limit input before (with_output old written pending) result false beyond
+      by_test limit input before first (with_output old written pending) result false beyond
       (text_shown served.ended too_long_text written pending result shows part)
 
   module _ (within : nat_le (length input) limit ≡ true) where
@@ -76,7 +83,7 @@ module _ (limit : ℕ) (input : List ℕ) {before : Trace} {old : ServerState} {
     whole = take_all limit input (tested_within within)
 
     -- no line is under way
-    pub shows_nothing : kept ≡ [] → ShowsLines before (batch_lines limit input) (end_text limit input []) old (Ok tt)
+    pub shows_nothing : kept ≡ [] → ShowsLines before first (batch_lines limit input) (end_text limit input []) old (Ok tt)
     shows_nothing none =
         let empty : last_part given ≡ [] =
         nothing_kept line_room (last_part given) (lit< tt) (sym served.under_way ∙ none) in
@@ -84,13 +91,13 @@ module _ (limit : ℕ) (input : List ℕ) {before : Trace} {old : ServerState} {
         sym (append-nil (ended_lines given))
         ∙ ap (λ (l : List (List ℕ)). ended_lines given ++ l) (sym (last_line-none (last_part given) empty))
         ∙ sym (lines_is given) ∙ ap lines whole in
-        by_test limit input before old (Ok tt) true within
-        (subst (λ (l : List (List ℕ)). HasShown before l [] old) all served.ended)
+        by_test limit input before first old (Ok tt) true within
+        (subst (λ (l : List (List ℕ)). HasShown before first l [] old) all served.ended)
 
     -- one is, and it was served
     pub shows_line : {now : ServerState} {line : List ℕ} {result : Result (Unit {0}) Failed} → line ≡ kept
         → 0 < length kept → Serves old now line result
-        → ShowsLines before (batch_lines limit input) (end_text limit input []) now result
+        → ShowsLines before first (batch_lines limit input) (end_text limit input []) now result
     shows_line {now = now} {line = line} {result = result} is some serves =
         let more : 0 < length (last_part given) = something_kept line_room (last_part given)
         (subst (λ (l : List ℕ). 0 < length l) served.under_way some) in
@@ -102,6 +109,6 @@ module _ (limit : ℕ) (input : List ℕ) {before : Trace} {old : ServerState} {
         (value_last (last_part given))
         (subst (λ (l : List ℕ). IsLineServed l old.progress.lake serves.effect) (is ∙ served.under_way)
         serves.served) in
-        by_test limit input before now result true within
-        (subst (λ (l : List (List ℕ)). ShowsLines before l [] now result) all
-        (line_shown before (ended_lines given) old now line (last_part given) served.ended result serves last))
+        by_test limit input before first now result true within
+        (subst (λ (l : List (List ℕ)). ShowsLines before first l [] now result) all
+        (line_shown before first (ended_lines given) old now line (last_part given) served.ended result serves last))

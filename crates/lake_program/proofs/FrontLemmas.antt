@@ -1,7 +1,7 @@
 -- What is written follows what was written.
 use Rattle.std.proofs.Common.{◌≡◌, List, ℕ, [], ◌++◌, Option, Some, None, IfSome, refl, sym, ◌∙◌, ap, subst, append_assoc}
 use Rattle.std.proofs.lemmas.List.{append-nil}
-use Rattle.lake_program.specs.Front.{IsPrefix, Wrote, WroteFront, Shows}
+use Rattle.lake_program.specs.Front.{IsPrefix, Wrote, WroteFirst, WroteFront, Shows}
 
 pub front_of_self : (xs : List ℕ) → IsPrefix xs xs
 front_of_self xs = ([], append-nil xs)
@@ -29,6 +29,11 @@ wrote_then (Some w) b c x y f g = subst (λ (o : Option (List ℕ)). IfSome o (�
 
 pub wrote_as : (a b : Option (List ℕ)) (x y : List ℕ) → x ≡ y → Wrote a b x → Wrote a b y
 wrote_as a b x y is wrote = subst (λ (l : List ℕ). Wrote a b l) is wrote
+
+-- what was written first stays so
+pub first_then : (a b c : Option (List ℕ)) (x y : List ℕ) → WroteFirst a b x → Wrote b c y → WroteFirst a c x
+first_then a b c x y early wrote =
+    (early.0 ++ y, wrote_as a c ((x ++ early.0) ++ y) (x ++ (early.0 ++ y)) (append_assoc x early.0 y) (wrote_then a b c (x ++ early.0) y early.1 wrote))
 
 -- a front behind what was written whole
 pub front_then : (a b c : Option (List ℕ)) (x y : List ℕ) → Wrote a b x → WroteFront b c y → WroteFront a c (x ++ y)

@@ -5,7 +5,7 @@ use Rattle.std.proofs.lemmas.List.{append-nil, take_all}
 use Rattle.std.specs.Str.Lines.{lines}
 use Rattle.batch_session.specs.declared.timing.Timing.{Timing}
 use Rattle.batch_session.specs.Moments.{AreMoments}
-use Rattle.batch_session.specs.Batch.{any_starved}
+use Rattle.batch_session.specs.Batch.{LineEffect, any_starved}
 use Rattle.lake_program.specs.declared.status.ExitStatus.{ExitStatus}
 use Rattle.lake_program.specs.declared.status.ExitStatus.TheVariants.{SourceFailed, SinkFailed}
 use Rattle.lake_program.specs.LineEffects.{text_of, all_done}
@@ -13,9 +13,9 @@ use Rattle.lake_program.specs.Front.{IsPrefix, Wrote}
 use Rattle.lake_program.specs.Lines.{ended_lines, batch_lines, end_text}
 use Rattle.lake_program.specs.Progress.{ServerState}
 use Rattle.lake_program.specs.Feeding.{HasShown, IsBrokenOff}
-use Rattle.lake_program.specs.SourceReading.{IsBroken}
+use Rattle.lake_program.specs.SourceReading.{IsBroken, IsCutAt}
 use Rattle.lake_program.specs.Status.{status_of}
-use Rattle.lake_program.specs.Outcome.{Extent, batch_status, IsWhole, EndsWith, Outcome}
+use Rattle.lake_program.specs.Outcome.{Extent, batch_status, IsReadOut, IsReadTo, IsWhole, EndsWith, Outcome}
 use Rattle.lake_program.specs.Streams.{Trace}
 use Rattle.lake_program.proofs.ClosingLemmas.{tested_within}
 use Rattle.lake_program.proofs.FrontLemmas.{front_of_self, front_of_append, front_more, wrote_as, shows_all}
@@ -39,12 +39,12 @@ first_lines limit input part front =
     ] refl
 
 -- what is said of a batch by the status of its effects
-whole_ends : (timing : Timing) (limit : ℕ) (before after : Trace) (input : List ℕ) (source : Option (List ℕ))
-    (extent : Extent) (starved done : Bool) → IsWhole limit input extent (status_of starved done)
-    → EndsWith timing limit before after input source extent (status_of starved done)
-whole_ends timing limit before after input source extent true done whole = whole
-whole_ends timing limit before after input source extent false true whole = whole
-whole_ends timing limit before after input source extent false false whole = whole
+whole_ends : (timing : Timing) (limit most : ℕ) (before after : Trace) (input : List ℕ) (source : Option (List ℕ))
+    (extent : Extent) (starved done : Bool) → IsWhole limit most input source extent (status_of starved done)
+    → EndsWith timing limit most before after input source extent (status_of starved done)
+whole_ends timing limit most before after input source extent true done whole = whole
+whole_ends timing limit most before after input source extent false true whole = whole
+whole_ends timing limit most before after input source extent false false whole = whole
 
 took_as : (t u : Timing) (before after : Trace) (moments : List ℕ) → t ≡ u
     → AreMoments t before.readings after.readings moments → AreMoments u before.readings after.readings moments
@@ -52,23 +52,24 @@ took_as t u before after moments same took =
     subst (λ (v : Timing). AreMoments v before.readings after.readings moments) same took
 
 -- nothing is pending of what was shown
-wrote_all : (before : Trace) (all : List (List ℕ)) (text : List ℕ) (now : ServerState)
-    (shown : HasShown before all text now) → now.progress.pending ≡ [] → Wrote before.written now.trace.written (text_of shown.effects ++ text)
-wrote_all before all text now shown none =
+wrote_all : (before : Trace) (first : List LineEffect) (all : List (List ℕ)) (text : List ℕ) (now : ServerState)
+    (shown : HasShown before first all text now) → now.progress.pending ≡ [] → Wrote before.written now.trace.written (text_of shown.effects ++ text)
+wrote_all before first all text now shown none =
     shows_all before.written now.trace.written [] (text_of shown.effects ++ text) now.progress.pending none shown.shown
 
-module _ {timing : Timing} {limit : ℕ} {before : Trace} {input : List ℕ} {source : Option (List ℕ)} {now : ServerState}
-    (same : now.timing ≡ timing) where
+module _ {timing : Timing} {limit most : ℕ} {before : Trace} {input : List ℕ} {source : Option (List ℕ)}
+    {now : ServerState} (same : now.timing ≡ timing) where
   -- the sink failed before all lines were served
-  pub outcome_cut : (part : List ℕ) × IsPrefix part (take limit input) × IsBrokenOff before (ended_lines part) [] now
-      → Outcome timing limit before now.trace input source SinkFailed
-  outcome_cut (part, front, cut) =
-      let more = first_lines limit input part front in
+  pub outcome_cut : IsCutAt before most input source limit now
+      → Outcome timing limit most before now.trace input source SinkFailed
+  outcome_cut at =
+      let cut = at.cut in
+      let more = first_lines limit input at.part at.front in
       let out : IsPrefix cut.front.out (text_of cut.effects) =
       subst (λ (l : List ℕ). IsPrefix cut.front.out l) (append-nil (text_of cut.effects)) cut.front.front in
       record {
         extent = record {
-          served = ended_lines part;
+          served = ended_lines at.part;
           unserved = more.0;
           effects = cut.effects;
           out = cut.front.out;
@@ -78,12 +79,12 @@ module _ {timing : Timing} {limit : ℕ} {before : Trace} {input : List ℕ} {so
         took = took_as now.timing timing before now.trace _ same cut.took;
         wrote = cut.front.wrote;
         front = front_more cut.front.out (text_of cut.effects) (end_text limit input more.0) out;
-        ended = tt;
+        ended = record { first = at.first; later = cut.later; begun = cut.begun; read = at.read; early = cut.early };
       }
 
   -- the source failed
-  pub outcome_broken : IsBroken before input source limit now
-      → Outcome timing limit before now.trace input source SourceFailed
+  pub outcome_broken : IsBroken before most input source limit now
+      → Outcome timing limit most before now.trace input source SourceFailed
   outcome_broken broken =
       let part : IsPrefix broken.given (take limit input) =
       front_within limit broken.given broken.rest input broken.whole broken.within in
@@ -100,7 +101,7 @@ module _ {timing : Timing} {limit : ℕ} {before : Trace} {input : List ℕ} {so
         each = broken.shown.each;
         took = took_as now.timing timing before now.trace _ same broken.shown.took;
         wrote = wrote_as before.written now.trace.written (text_of effects ++ []) (text_of effects)
-            (append-nil (text_of effects)) (wrote_all before _ [] now broken.shown broken.written);
+            (append-nil (text_of effects)) (wrote_all before broken.first _ [] now broken.shown broken.written);
         front = front_of_append (text_of effects) (end_text limit input more.0);
         ended = record {
           given = broken.given;
@@ -114,11 +115,12 @@ module _ {timing : Timing} {limit : ℕ} {before : Trace} {input : List ℕ} {so
       }
 
   -- all lines were served, and all was written
-  pub outcome_whole : {within : Bool} {status : ExitStatus} → nat_le (length input) limit ≡ within
+  pub outcome_whole : {first : List LineEffect} {within : Bool} {status : ExitStatus}
+      → nat_le (length input) limit ≡ within → IsReadOut limit most input source
       → status ≡ status_of now.progress.starved (now.progress.done && within) → now.progress.pending ≡ []
-      → HasShown before (batch_lines limit input) (end_text limit input []) now
-      → Outcome timing limit before now.trace input source status
-  outcome_whole {within = within} {status = status} test tells none shown =
+      → HasShown before first (batch_lines limit input) (end_text limit input []) now
+      → Outcome timing limit most before now.trace input source status
+  outcome_whole {first = first} {within = within} {status = status} test read tells none shown =
       let effects = shown.effects in
       let text : List ℕ = text_of effects ++ end_text limit input [] in
       let extent : Extent =
@@ -132,17 +134,19 @@ module _ {timing : Timing} {limit : ℕ} {before : Trace} {input : List ℕ} {so
         lines = append-nil (batch_lines limit input);
         each = shown.each;
         took = took_as now.timing timing before now.trace _ same shown.took;
-        wrote = wrote_all before _ (end_text limit input []) now shown none;
+        wrote = wrote_all before first _ (end_text limit input []) now shown none;
         front = front_of_self text;
-        ended = subst (λ (s : ExitStatus). EndsWith timing limit before now.trace input source extent s) (sym stands)
-            (whole_ends timing limit before now.trace input source extent (any_starved effects)
-            (all_done effects && nat_le (length input) limit) (record { all = refl; text = refl; tells = refl }));
+        ended = subst (λ (s : ExitStatus). EndsWith timing limit most before now.trace input source extent s) (sym stands)
+            (whole_ends timing limit most before now.trace input source extent (any_starved effects)
+            (all_done effects && nat_le (length input) limit)
+            (record { read = read; all = refl; text = refl; tells = refl }));
       }
 
   -- all lines were served, and the sink failed at what was to be written last
-  pub outcome_end_cut : IsBrokenOff before (batch_lines limit input) (end_text limit input []) now
-      → Outcome timing limit before now.trace input source SinkFailed
-  outcome_end_cut cut = record {
+  pub outcome_end_cut : {first : List LineEffect} → IsReadTo most input source first
+      → IsBrokenOff before first (batch_lines limit input) (end_text limit input []) now
+      → Outcome timing limit most before now.trace input source SinkFailed
+  outcome_end_cut {first = first} read cut = record {
     extent = record {
       served = batch_lines limit input;
       unserved = [];
@@ -154,5 +158,5 @@ module _ {timing : Timing} {limit : ℕ} {before : Trace} {input : List ℕ} {so
     took = took_as now.timing timing before now.trace _ same cut.took;
     wrote = cut.front.wrote;
     front = cut.front.front;
-    ended = tt;
+    ended = record { first = first; later = cut.later; begun = cut.begun; read = read; early = cut.early };
   }

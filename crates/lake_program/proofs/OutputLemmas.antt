@@ -2,12 +2,13 @@
 use Rattle.std.proofs.Common.{◌≡◌, ℕ, List, [], ◌++◌, Option, Result, Ok, Err, OnOk, OnErr, sym, ap, subst}
 use Rattle.std.proofs.lemmas.List.{append-nil}
 use Rattle.lake_base.specs.declared.outside.Failed.{Failed}
+use Rattle.batch_session.specs.Batch.{LineEffect}
 use Rattle.lake_program.specs.LineEffects.{text_of}
 use Rattle.lake_program.specs.Feeding.{HasShown, IsBrokenOff, ShowsLines}
 use Rattle.lake_program.specs.Front.{Wrote, WroteFront, Shows}
 use Rattle.lake_program.specs.Progress.{ServerState}
 use Rattle.lake_program.specs.Streams.{Trace}
-use Rattle.lake_program.proofs.FrontLemmas.{wrote_none, front_as, shows_then, shows_cut, shows_written, shows_flushed}
+use Rattle.lake_program.proofs.FrontLemmas.{wrote_none, first_then, front_as, shows_all, shows_then, shows_cut, shows_written, shows_flushed}
 
 -- the same state, but for what the sink got and what is pending
 abbrev pub with_output : ServerState → Option (List ℕ) → List ℕ → ServerState
@@ -22,11 +23,11 @@ with_output old written pending = record {
   };
 }
 
-module _ {before : Trace} {lines : List (List ℕ)} {text : List ℕ} {old : ServerState}
-    (were : HasShown before lines text old) (written : Option (List ℕ)) (pending : List ℕ) where
+module _ {before : Trace} {first : List LineEffect} {lines : List (List ℕ)} {text : List ℕ} {old : ServerState}
+    (were : HasShown before first lines text old) (written : Option (List ℕ)) (pending : List ℕ) where
   -- what was pending was written
   pub shown_flushed : pending ≡ [] → Wrote old.trace.written written old.progress.pending
-      → HasShown before lines text (with_output old written pending)
+      → HasShown before first lines text (with_output old written pending)
   shown_flushed none wrote = record {
     effects = were.effects;
     each = were.each;
@@ -38,11 +39,14 @@ module _ {before : Trace} {lines : List (List ℕ)} {text : List ℕ} {old : Ser
     lake = were.lake;
     done = were.done;
     starved = were.starved;
+    later = were.later;
+    begun = were.begun;
+    early = first_then before.written old.trace.written written (text_of first) old.progress.pending were.early wrote;
   }
 
   -- writing it failed
   pub cut_flush : WroteFront old.trace.written written old.progress.pending
-      → IsBrokenOff before lines text (with_output old written pending)
+      → IsBrokenOff before first lines text (with_output old written pending)
   cut_flush part =
       let all : List ℕ = text_of were.effects ++ text in
       record {
@@ -53,15 +57,18 @@ module _ {before : Trace} {lines : List (List ℕ)} {text : List ℕ} {old : Ser
             (shows_cut before.written old.trace.written written [] all old.progress.pending [] were.shown
             (front_as old.trace.written written old.progress.pending (old.progress.pending ++ [])
             (sym (append-nil old.progress.pending)) part));
+        later = were.later;
+        begun = were.begun;
+        early = first_then before.written old.trace.written written (text_of first) part.out were.early part.wrote;
       }
 
-module _ {before : Trace} {lines : List (List ℕ)} {old : ServerState} (were : HasShown before lines [] old)
+module _ {before : Trace} {first : List LineEffect} {lines : List (List ℕ)} {old : ServerState} (were : HasShown before first lines [] old)
     (text : List ℕ) (written : Option (List ℕ)) (pending : List ℕ) where
   -- a text was shown behind the lines, or that failed
   pub text_shown : (result : Result (Unit {0}) Failed)
       → OnOk result (Shows old.trace.written written old.progress.pending text pending)
       → OnErr result (WroteFront old.trace.written written (old.progress.pending ++ text))
-      → ShowsLines before lines text (with_output old written pending) result
+      → ShowsLines before first lines text (with_output old written pending) result
   text_shown (Ok done) shows part = record {
     effects = were.effects;
     each = were.each;
@@ -73,6 +80,9 @@ module _ {before : Trace} {lines : List (List ℕ)} {old : ServerState} (were : 
     lake = were.lake;
     done = were.done;
     starved = were.starved;
+    later = were.later;
+    begun = were.begun;
+    early = first_then before.written old.trace.written written (text_of first) shows.out were.early shows.wrote;
   }
   text_shown (Err failed) shows part = record {
     effects = were.effects;
@@ -82,4 +92,23 @@ module _ {before : Trace} {lines : List (List ℕ)} {old : ServerState} (were : 
         (ap (λ (l : List ℕ). l ++ text) (append-nil (text_of were.effects)))
         (shows_cut before.written old.trace.written written [] (text_of were.effects ++ []) old.progress.pending text
         were.shown part);
+    later = were.later;
+    begun = were.begun;
+    early = first_then before.written old.trace.written written (text_of first) part.out were.early part.wrote;
   }
+
+-- where nothing is pending, the lines so far are the first of those to come
+pub shown_first : {before : Trace} {first : List LineEffect} {lines : List (List ℕ)} {now : ServerState}
+    → (were : HasShown before first lines [] now) → now.progress.pending ≡ [] → HasShown before were.effects lines [] now
+shown_first {before = before} {now = now} were none = record {
+  effects = were.effects;
+  each = were.each;
+  took = were.took;
+  shown = were.shown;
+  lake = were.lake;
+  done = were.done;
+  starved = were.starved;
+  later = [];
+  begun = append-nil were.effects;
+  early = ([], shows_all before.written now.trace.written [] (text_of were.effects ++ []) now.progress.pending none were.shown);
+}

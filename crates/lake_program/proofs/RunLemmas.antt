@@ -36,21 +36,22 @@ for_timing found timing is P p = subst (λ (o : Option Timing). IfSome o P) (sym
 without_timing : (found : Option Timing) → found ≡ None → (P : Timing → Type 0) → IfSome found P
 without_timing found is P = subst (λ (o : Option Timing). IfSome o P) (sym is) tt
 
-whole_run : (timing : Timing) (input : List ℕ) (before after : Streams) (status : ExitStatus) → (o : Outcome timing 1073741824 (trace_of before) (trace_of after) input after.left status)
-    → IsWhole 1073741824 input o.extent status → IfSome before.written (λ written. IsBatchRun timing input written before after status)
+whole_run : (timing : Timing) (input : List ℕ) (before after : Streams) (status : ExitStatus) → (o : Outcome timing 1073741824 65536 (trace_of before) (trace_of after) input after.left status)
+    → IsWhole 1073741824 65536 input after.left o.extent status → IfSome before.written (λ written. IsBatchRun timing input written before after status)
 whole_run timing input before after status o whole =
     let all : o.extent.served ≡ batch_lines 1073741824 input = sym (append-nil o.extent.served) ∙ ap (λ (l : List (List ℕ)). o.extent.served ++ l) (sym whole.all) ∙ o.lines in
     told_then before.written (λ written. after.written ≡ Some (written ++ o.extent.out)) _ (λ written wrote. record {
       effects = o.extent.effects;
       each = subst (λ (l : List (List ℕ)). AreServed l first_lake o.extent.effects) all o.each;
       took = o.took;
+      read = whole.read;
       text = wrote ∙ ap (λ (t : List ℕ). Some (written ++ t)) whole.text;
       tells = whole.tells;
     }) o.wrote
 
 -- what a run without a failed stream came to
 quiet_run : (timing : Timing) (input : List ℕ) (before after : Streams) (status : ExitStatus) → before.left ≡ Some input → (status ≡ exit.SourceFailed → ⊥) → (status ≡ exit.SinkFailed → ⊥)
-    → Outcome timing 1073741824 (trace_of before) (trace_of after) input after.left status → IfSome before.written (λ written. IsBatchRun timing input written before after status ⊎ IsUnbegun before after status)
+    → Outcome timing 1073741824 65536 (trace_of before) (trace_of after) input after.left status → IfSome before.written (λ written. IsBatchRun timing input written before after status ⊎ IsUnbegun before after status)
 quiet_run timing input before after exit.Done told source sink o = told_then before.written _ _ (λ written r. inl r) (whole_run timing input before after exit.Done o o.ended)
 quiet_run timing input before after exit.Refused told source sink o = told_then before.written _ _ (λ written r. inl r) (whole_run timing input before after exit.Refused o o.ended)
 quiet_run timing input before after exit.Usage told source sink o = absurd o.ended
@@ -65,7 +66,7 @@ told_run (Some input) P Q f p = f input refl p
 
 -- a batch was served
 pub run_of_batch : (words : List (List ℕ)) (before after : Streams) (timing : Timing) (status : ExitStatus) → timing_of words ≡ Some timing → status ≢ exit.Usage
-    → IsUnbegun before after status ⊎ IfSome before.left (λ input. Outcome timing 1073741824 (trace_of before) (trace_of after) input after.left status)
+    → IsUnbegun before after status ⊎ IfSome before.left (λ input. Outcome timing 1073741824 65536 (trace_of before) (trace_of after) input after.left status)
     → (before.source_faults ≤ after.source_faults) × (status ≡ exit.SourceFailed → Rose before.source_faults after.source_faults)
     → (before.sink_faults ≤ after.sink_faults) × (status ≡ exit.SinkFailed → Rose before.sink_faults after.sink_faults)
     → before.errors_faults ≤ after.errors_faults → Run words before after status

@@ -4,7 +4,7 @@ use Rattle.lake_base.specs.declared.outside.Failed.{Failed}
 use Rattle.batch_session.specs.Batch.{LineEffect, first_lake, AreServed, lake_left, any_starved}
 use Rattle.batch_session.specs.Moments.{AreMoments}
 use Rattle.lake_program.specs.LineEffects.{text_of, moments_of, all_done}
-use Rattle.lake_program.specs.Front.{IsPrefix, WroteFront, Shows}
+use Rattle.lake_program.specs.Front.{IsPrefix, WroteFirst, WroteFront, Shows}
 use Rattle.lake_program.specs.Lines.{ended_lines, last_part}
 use Rattle.lake_program.specs.Progress.{ServerState}
 use Rattle.lake_program.specs.Streams.{Trace}
@@ -13,7 +13,9 @@ use Rattle.lake_program.specs.Streams.{Trace}
 abbrev pub line_room : ℕ
 line_room = 65536 + 2
 
-module _ (before : Trace) where
+-- What stood before a batch, and what the lines had come to that were served when its source was read last. These are
+-- the first of the lines, and all that they showed was written before that.
+module _ (before : Trace) (first : List LineEffect) where
   -- These lines were served, from the fresh lake on. What they showed is written or pending, and this text behind it.
   pub record HasShown (lines : List (List ℕ)) (text : List ℕ) (now : ServerState) : Type 0 where
     pub effects : List LineEffect
@@ -23,6 +25,9 @@ module _ (before : Trace) where
     pub lake : now.progress.lake ≡ lake_left first_lake effects
     pub done : now.progress.done ≡ all_done effects
     pub starved : now.progress.starved ≡ any_starved effects
+    pub later : List LineEffect
+    pub begun : first ++ later ≡ effects
+    pub early : WroteFirst before.written now.trace.written (text_of first)
 
   -- These lines were served, and a front was written of what they showed and of the text behind it.
   pub record IsBrokenOff (lines : List (List ℕ)) (text : List ℕ) (now : ServerState) : Type 0 where
@@ -30,6 +35,9 @@ module _ (before : Trace) where
     pub each : AreServed lines first_lake effects
     pub took : AreMoments now.timing before.readings now.trace.readings (moments_of effects)
     pub front : WroteFront before.written now.trace.written (text_of effects ++ text)
+    pub later : List LineEffect
+    pub begun : first ++ later ≡ effects
+    pub early : WroteFirst before.written now.trace.written (text_of first)
 
   -- the one, or the other where writing failed
   abbrev pub ShowsLines : List (List ℕ) → List ℕ → ServerState → Result (Unit {0}) Failed → Type 0

@@ -9,6 +9,10 @@ IsPrefix front whole = (rest : List ℕ) × (front ++ rest ≡ whole)
 abbrev pub Wrote : Option (List ℕ) → Option (List ℕ) → List ℕ → Type 0
 Wrote before after bytes = IfSome before (λ written. after ≡ Some (written ++ bytes))
 
+-- these bytes were written, and perhaps more behind them
+abbrev pub WroteFirst : Option (List ℕ) → Option (List ℕ) → List ℕ → Type 0
+WroteFirst before after bytes = (more : List ℕ) × Wrote before after (bytes ++ more)
+
 -- a front of these bytes was written
 pub record WroteFront (before after : Option (List ℕ)) (bytes : List ℕ) : Type 0 where
   pub out : List ℕ

@@ -1,12 +1,12 @@
 -- What became of a whole batch.
-use Rattle.std.specs.Prelude.{◌≡◌, ◌≤◌, ◌&&◌, ℕ, nat_le, List, [], ◌++◌, length, Option, Some}
+use Rattle.std.specs.Prelude.{◌≡◌, ◌<◌, ◌≤◌, ◌⊎◌, ◌+◌, ◌&&◌, ℕ, nat_le, List, [], ◌++◌, length, Option, Some}
 use Rattle.batch_session.specs.declared.timing.Timing.{Timing}
 use Rattle.lake_program.specs.declared.status.ExitStatus.{ExitStatus}
 use Rattle.lake_program.specs.declared.status.ExitStatus.TheVariants.{Done, Refused, Usage}
 use Rattle.lake_program.specs.declared.status.ExitStatus.TheVariants.{SourceFailed, SinkFailed, OutOfMemory}
 use Rattle.batch_session.specs.Batch.{LineEffect, first_lake, AreServed, any_starved}
 use Rattle.lake_program.specs.LineEffects.{text_of, moments_of, all_done}
-use Rattle.lake_program.specs.Front.{IsPrefix, Wrote}
+use Rattle.lake_program.specs.Front.{IsPrefix, Wrote, WroteFirst}
 use Rattle.lake_program.specs.Lines.{ended_lines, batch_lines, end_text}
 use Rattle.batch_session.specs.Moments.{AreMoments}
 use Rattle.lake_program.specs.Status.{status_of}
@@ -25,8 +25,18 @@ pub record Extent : Type 0 where
 abbrev pub batch_status : ℕ → List ℕ → List LineEffect → ExitStatus
 batch_status limit input effects = status_of (any_starved effects) (all_done effects && nat_le (length input) limit)
 
+-- All was read: the source gave all of the input, or more than the limit, by at most what it gives at once.
+pub record IsReadOut (limit most : ℕ) (input : List ℕ) (source : Option (List ℕ)) : Type 0 where
+  pub given : List ℕ
+  pub rest : List ℕ
+  pub whole : given ++ rest ≡ input
+  pub left : source ≡ Some rest
+  pub enough : (rest ≡ []) ⊎ ((limit < length given) × (length given ≤ limit + most))
+
 -- All lines were served, and all that they show was written.
-pub record IsWhole (limit : ℕ) (input : List ℕ) (extent : Extent) (status : ExitStatus) : Type 0 where
+pub record IsWhole (limit most : ℕ) (input : List ℕ) (source : Option (List ℕ)) (extent : Extent)
+    (status : ExitStatus) : Type 0 where
+  pub read : IsReadOut limit most input source
   pub all : extent.unserved ≡ []
   pub text : extent.out ≡ text_of extent.effects ++ end_text limit input []
   pub tells : status ≡ batch_status limit input extent.effects
@@ -41,17 +51,38 @@ pub record IsGiven (limit : ℕ) (input : List ℕ) (source : Option (List ℕ))
   pub lines : extent.served ≡ ended_lines given
   pub text : extent.out ≡ text_of extent.effects
 
-module _ (timing : Timing) (limit : ℕ) (before after : Trace) (input : List ℕ) (source : Option (List ℕ)) where
-  -- how much was served and written, by the status
+-- The source gave a front of the input, and then a piece of at most so many bytes. The lines that ended in that front
+-- came to these effects.
+pub record IsReadTo (most : ℕ) (input : List ℕ) (source : Option (List ℕ)) (first : List LineEffect) : Type 0 where
+  pub earlier : List ℕ
+  pub piece : List ℕ
+  pub rest : List ℕ
+  pub whole : (earlier ++ piece) ++ rest ≡ input
+  pub left : source ≡ Some rest
+  pub few : length piece ≤ most
+  pub each : AreServed (ended_lines earlier) first_lake first
+
+-- The sink failed. All was written that the lines show that ended before the last piece, so that no more than such a
+-- piece was read after the failed write.
+pub record IsStopped (most : ℕ) (before after : Trace) (input : List ℕ) (source : Option (List ℕ))
+    (extent : Extent) : Type 0 where
+  pub first : List LineEffect
+  pub later : List LineEffect
+  pub begun : first ++ later ≡ extent.effects
+  pub read : IsReadTo most input source first
+  pub early : WroteFirst before.written after.written (text_of first)
+
+module _ (timing : Timing) (limit most : ℕ) (before after : Trace) (input : List ℕ) (source : Option (List ℕ)) where
+  -- how much was read, served and written, by the status
   abbrev pub EndsWith : Extent → ExitStatus → Type 0
-  EndsWith extent Done = IsWhole limit input extent Done
-  EndsWith extent Refused = IsWhole limit input extent Refused
+  EndsWith extent Done = IsWhole limit most input source extent Done
+  EndsWith extent Refused = IsWhole limit most input source extent Refused
   EndsWith extent Usage = ⊥
   EndsWith extent SourceFailed = IsGiven limit input source extent
-  EndsWith extent SinkFailed = Unit {0}
-  EndsWith extent OutOfMemory = IsWhole limit input extent OutOfMemory
+  EndsWith extent SinkFailed = IsStopped most before after input source extent
+  EndsWith extent OutOfMemory = IsWhole limit most input source extent OutOfMemory
 
-  -- What became of the batch of an input, of which this is left in its source.
+  -- What became of the batch of an input, of which this is left in its source, which gives at most so many bytes at once.
   pub record Outcome (status : ExitStatus) : Type 0 where
     pub extent : Extent
     -- the lines were served in their order,

@@ -9,7 +9,7 @@ use Rattle.batch_session.specs.Batch.{LineEffect, first_lake, AreServed}
 use Rattle.lake_program.specs.LineEffects.{text_of, moments_of}
 use Rattle.lake_program.specs.Lines.{batch_lines, end_text}
 use Rattle.batch_session.specs.Moments.{AreMoments}
-use Rattle.lake_program.specs.Outcome.{Outcome, batch_status}
+use Rattle.lake_program.specs.Outcome.{IsReadOut, Outcome, batch_status}
 use Rattle.lake_program.specs.Status.{status_number, ShowsUsage}
 use Rattle.lake_program.specs.Streams.{Streams, trace_of}
 
@@ -28,6 +28,8 @@ pub record IsBatchRun (timing : Timing) (input written : List ℕ) (before after
   pub took : AreMoments timing before.readings after.readings (moments_of effects)
   -- the sink got just what the lines show, one after the other, and where the batch is too long that it is
   pub text : after.written ≡ Some (written ++ (text_of effects ++ end_text 1073741824 input []))
+  -- nothing is left of the source, or it gave more than the limit, by at most what is read at once
+  pub read : IsReadOut 1073741824 65536 input after.left
   -- 7 where memory ran out at a line, else 0 where each was done and the batch isn't too long, else 1
   pub tells : status ≡ batch_status 1073741824 input effects
 
@@ -43,9 +45,9 @@ pub record Run (words : List (List ℕ)) (before after : Streams) (status : Exit
       → IfSome (timing_of words) (λ timing. IfSome before.left (λ input. IfSome before.written (λ written.
       IsBatchRun timing input written before after status ⊎ IsUnbegun before after status)))
   -- Whatever failed, the sink got a front of what the lines show that were served, and all of it where no stream
-  -- failed or the source did.
+  -- failed or the source did. Where the sink failed, no more than a piece was read after that.
   pub prefix : IfSome (timing_of words) (λ timing. IsUnbegun before after status ⊎ IfSome before.left (λ input.
-      Outcome timing 1073741824 (trace_of before) (trace_of after) input after.left status))
+      Outcome timing 1073741824 65536 (trace_of before) (trace_of after) input after.left status))
   -- Other words are a usage fault, which is shown on `errors`,
   pub usage : IsNone (timing_of words) → ShowsUsage before.errors after.errors status
   -- and only they are.

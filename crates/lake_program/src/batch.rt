@@ -3,6 +3,7 @@ ghost use Rattle.std.specs.Prelude.{◌≡◌, ◌+◌, ◌≤◌, ◌<◌, ◌^
 ghost use Rattle.std.specs.Prelude.{ℕ, List, Option, IfOk, IfErr, IfSome, OnErr, MatchResult};
 ghost use Rattle.std.specs.Prelude.{length, min, nat_le, take};
 ghost use Rattle.lake_base.specs.Outside.{HasCause, Reads, Rose};
+ghost use Rattle.batch_session.specs.Batch.{LineEffect};
 ghost use Rattle.lake_program.specs.Streams.{Trace};
 ghost use Rattle.lake_program.specs.Lines.{batch_lines, end_text};
 ghost use Rattle.lake_program.specs.Progress.{start};
@@ -39,7 +40,7 @@ pub struct Batch {
 
 impl Batch {
     ghost use Rattle.lake_program.specs.ServerView.{progress_of, server_state};
-    ghost use Rattle.lake_program.specs.SourceReading.{Reaches, Ends};
+    ghost use Rattle.lake_program.specs.SourceReading.{Reaches, IsFed, Ends};
     ghost use Rattle.lake_program.specs.Outcome.{Outcome};
 
     /// A batch on a fresh lake, of which nothing was read.
@@ -62,9 +63,9 @@ impl Batch {
         byte: u8,
     ) -> Result<(), Failed>
         requires { self.old.server.session.calls + 1 < 2 ^ 64 }
-        ensures feeds { (before : Trace) (given : List ℕ) → HasServed before given
+        ensures feeds { (before : Trace) (first : List LineEffect) (given : List ℕ) → HasServed before first given
             (server_state self.old.server (C.readings clock.old) (W.written sink.old)) self.old.line
-            → Feeds before given (byte ∷ [])
+            → Feeds before first given (byte ∷ [])
             (server_state self.new.server (C.readings clock.new) (W.written sink.new)) self.new.line result }
         ensures timing { self.new.server.timing ≡ self.old.server.timing }
         ensures calls { self.new.server.session.calls ≤ self.old.server.session.calls + 1 }
@@ -87,9 +88,9 @@ impl Batch {
         chunk: &[u8],
     ) -> Result<(), Failed>
         requires { self.old.server.session.calls + length chunk.now < 2 ^ 64 }
-        ensures feeds { (before : Trace) (given : List ℕ) → HasServed before given
+        ensures feeds { (before : Trace) (first : List LineEffect) (given : List ℕ) → HasServed before first given
             (server_state self.old.server (C.readings clock.old) (W.written sink.old)) self.old.line
-            → Feeds before given chunk.now
+            → Feeds before first given chunk.now
             (server_state self.new.server (C.readings clock.new) (W.written sink.new)) self.new.line result }
         ensures timing { self.new.server.timing ≡ self.old.server.timing }
         ensures calls { self.new.server.session.calls ≤ self.old.server.session.calls + length chunk.now }
@@ -112,12 +113,12 @@ impl Batch {
         room: &mut [u8],
     ) -> Result<usize, End>
         requires { 0 < length room.old }
-        ensures reads { (before : Trace) (readings : Option (List ℕ)) (limit total : ℕ) (input : List ℕ)
-            → total ≤ limit → Reaches before input (S.left source.old) total []
+        ensures reads { (before : Trace) (readings : Option (List ℕ)) (limit most total : ℕ) (input : List ℕ)
+            → total ≤ limit → length room.old ≤ most → Reaches before most input (S.left source.old) total []
             (server_state self.old.server readings (W.written sink.old)) self.old.line
             → let now = server_state self.new.server readings (W.written sink.new) in MatchResult result
-            (λ count. Reaches before input (S.left source.new) total (take count room.new) now self.new.line)
-            (λ end. Ends before input (S.left source.new) limit now self.new.line end) }
+            (λ count. Reaches before most input (S.left source.new) total (take count room.new) now self.new.line)
+            (λ end. Ends before most input (S.left source.new) limit now self.new.line end) }
         ensures some { IfOk result (λ count. (0 < count) × (count ≤ length room.old)) }
         ensures timing { self.new.server.timing ≡ self.old.server.timing }
         ensures calls { self.new.server.session.calls ≡ self.old.server.session.calls }
@@ -149,12 +150,12 @@ impl Batch {
     ) -> Result<u64, End>
         requires within { (total ≤ limit) × (limit < 2 ^ 63) }
         requires calls { self.old.server.session.calls ≤ total }
-        ensures feeds { (before : Trace) (input : List ℕ) (left : Option (List ℕ))
-            → Reaches before input left total piece.now
+        ensures feeds { (before : Trace) (most : ℕ) (input : List ℕ) (left : Option (List ℕ))
+            → Reaches before most input left total piece.now
             (server_state self.old.server (C.readings clock.old) (W.written sink.old)) self.old.line
             → let now = server_state self.new.server (C.readings clock.new) (W.written sink.new) in MatchResult result
-            (λ fed. Reaches before input left fed [] now self.new.line)
-            (λ end. Ends before input left limit now self.new.line end) }
+            (λ fed. Reaches before most input left fed [] now self.new.line)
+            (λ end. Ends before most input left limit now self.new.line end) }
         ensures all { IfOk result (λ fed. (fed ≡ total + length piece.now) × (fed ≤ limit)) }
         ensures timing { self.new.server.timing ≡ self.old.server.timing }
         ensures calls { self.new.server.session.calls ≤ min limit (total + length piece.now) }
@@ -188,7 +189,8 @@ impl Batch {
         requires start { progress_of self.old.server ≡ start }
         requires line { self.old.line ≡ [] }
         ensures ends { IfSome (S.left source.old) (λ input. Ends
-            (record { readings = C.readings clock.old; written = W.written sink.old }) input (S.left source.new) limit
+            (record { readings = C.readings clock.old; written = W.written sink.old })
+            (length room.old) input (S.left source.new) limit
             (server_state self.new.server (C.readings clock.new) (W.written sink.new)) self.new.line result) }
         ensures timing { self.new.server.timing ≡ self.old.server.timing }
         ensures calls { self.new.server.session.calls ≤ limit }
@@ -220,10 +222,10 @@ impl Batch {
         sink: &mut W,
     ) -> Result<(), Failed>
         requires { self.old.server.session.calls + 1 < 2 ^ 64 }
-        ensures shows { (before : Trace) (limit : ℕ) (input : List ℕ) → nat_le (length input) limit ≡ within
-            → HasServed before (take limit input)
+        ensures shows { (before : Trace) (first : List LineEffect) (limit : ℕ) (input : List ℕ)
+            → nat_le (length input) limit ≡ within → HasServed before first (take limit input)
             (server_state self.old.server (C.readings clock.old) (W.written sink.old)) self.old.line
-            → ShowsLines before (batch_lines limit input) (end_text limit input [])
+            → ShowsLines before first (batch_lines limit input) (end_text limit input [])
             (server_state self.new.server (C.readings clock.new) (W.written sink.new)) result }
         ensures timing { self.new.server.timing ≡ self.old.server.timing }
         ensures cause { HasCause (W.faults sink.old) (W.faults sink.new) result }
@@ -241,10 +243,10 @@ impl Batch {
     // Shows what comes last, writes what is pending, and answers the status.
     fn close<C: Clock, W: Sink>(&mut self, within: bool, clock: &mut C, sink: &mut W) -> ExitStatus
         requires { self.old.server.session.calls + 1 < 2 ^ 64 }
-        ensures outcome { (before : Trace) (limit : ℕ) (input : List ℕ) (left : Option (List ℕ))
-            → nat_le (length input) limit ≡ within → HasServed before (take limit input)
+        ensures outcome { (before : Trace) (limit most : ℕ) (input : List ℕ) (left : Option (List ℕ))
+            → nat_le (length input) limit ≡ within → IsFed before most input left limit (take limit input)
             (server_state self.old.server (C.readings clock.old) (W.written sink.old)) self.old.line
-            → Outcome self.old.server.timing limit before
+            → Outcome self.old.server.timing limit most before
             (record { readings = C.readings clock.new; written = W.written sink.new }) input left result }
         ensures sink { (W.faults sink.old ≤ W.faults sink.new)
             × (result ≡ ExitStatus.SinkFailed → Rose (W.faults sink.old) (W.faults sink.new)) }
@@ -263,10 +265,10 @@ impl Batch {
     /// too long, what is pending is written, and the status is answered.
     pub fn finish<C: Clock, W: Sink>(&mut self, end: End, clock: &mut C, sink: &mut W) -> ExitStatus
         requires { self.old.server.session.calls + 1 < 2 ^ 64 }
-        ensures outcome { (before : Trace) (limit : ℕ) (input : List ℕ) (left : Option (List ℕ))
-            → Ends before input left limit
+        ensures outcome { (before : Trace) (limit most : ℕ) (input : List ℕ) (left : Option (List ℕ))
+            → Ends before most input left limit
             (server_state self.old.server (C.readings clock.old) (W.written sink.old)) self.old.line end
-            → Outcome self.old.server.timing limit before
+            → Outcome self.old.server.timing limit most before
             (record { readings = C.readings clock.new; written = W.written sink.new }) input left result }
         ensures source { (result ≡ ExitStatus.SourceFailed) ↔ (end ≡ End.SourceFailed) }
         ensures sink { (W.faults sink.old ≤ W.faults sink.new) × (result ≡ ExitStatus.SinkFailed

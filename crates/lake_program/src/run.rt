@@ -98,7 +98,7 @@ pub fn serve_batch<S: Source, W: Sink, C: Clock>(
     requires { limit < 2 ^ 63 }
     ensures outcome { ((result ≡ ExitStatus.OutOfMemory) × (source.new ≡ source.old) × (sink.new ≡ sink.old)
         × (clock.new ≡ clock.old)) ⊎ IfSome (S.left source.old) (λ input.
-        Outcome timing limit
+        Outcome timing limit 65536
         (record { readings = C.readings clock.old; written = W.written sink.old })
         (record { readings = C.readings clock.new; written = W.written sink.new })
         input (S.left source.new) result) }

@@ -1,4 +1,4 @@
-use Rattle.std.proofs.Common.{inl, inr, refl, ◌∙◌, subst}
+use Rattle.std.proofs.Common.{inl, inr, ◌≡◌, refl, ◌∙◌, ap, subst, length}
 use Rattle.batch_session.specs.declared.timing.Timing.{Timing}
 use Rattle.lake_program.specs.Outcome.{Outcome}
 use Rattle.lake_program.specs.Streams.{Trace}
@@ -23,9 +23,12 @@ returns-clause-outcome g c =
       written = g.W.Sink.written c.finish.new.sink;
     } in
     let left = g.S.Source.left c.read-end.new.source in
+    let room : length c.as_mut_slice.result.now ≡ 65536 = ap length c.as_mut_slice.ensures.value ∙ c.in-Ok-room_of.ensures in
     inr (told_then (g.S.Source.left c.args.source.now) _ _ (λ input ends.
-    subst (λ (t : Timing). Outcome t c.args.limit before after input left c.finish.result)
-    (c.read-end.ensures.timing ∙ c.in-Ok.ensures.timing) (c.finish.ensures.outcome before c.args.limit input left ends))
+    subst (λ (t : Timing). Outcome t c.args.limit 65536 before after input left c.finish.result)
+    (c.read-end.ensures.timing ∙ c.in-Ok.ensures.timing)
+    (subst (λ n. Outcome c.read-end.new.self.server.timing c.args.limit n before after input left c.finish.result) room
+    (c.finish.ensures.outcome before c.args.limit _ input left ends)))
     c.read-end.ensures.ends)
 
 pub returns-clause-sink : goal.returns-clause-sink

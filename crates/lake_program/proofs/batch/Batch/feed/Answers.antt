@@ -5,22 +5,22 @@ use Rattle.lake_program.proofs.batch.Batch.feed.Goals as goal
 
 pub loop-byte-init : goal.loop-byte-init
 loop-byte-init g c =
-    record { fed = λ _ _ served. rw append-nil served; timing = refl; calls = omega arith; later = omega arith }
+    record { fed = λ _ _ _ served. rw append-nil served; timing = refl; calls = omega arith; later = omega arith }
 
 pub loop-byte-preserved : goal.loop-byte-preserved
 loop-byte-preserved g c = record {
-  fed = λ before given served. fed_at before given c.args.chunk.now c.loop-byte.byte-index _ _ c.loop-byte-test.true
-      (c.in-Ok.ensures.feeds before _ (c.loop-byte.invariant.fed before given served));
+  fed = λ before first given served. fed_at before first given c.args.chunk.now c.loop-byte.byte-index _ _ c.loop-byte-test.true
+      (c.in-Ok.ensures.feeds before first _ (c.loop-byte.invariant.fed before first given served));
   timing = c.in-Ok.ensures.timing ∙ c.loop-byte.invariant.timing;
   calls = omega (arith, c.in-Ok.ensures.calls, c.loop-byte.invariant.calls);
   later = omega (arith, c.in-Ok.ensures.cause.later, c.loop-byte.invariant.later);
 }
 
 pub returns-in-Err-clause-feeds : goal.returns-in-Err-clause-feeds
-returns-in-Err-clause-feeds g c before given served =
-    cut_at before given c.args.chunk.now c.loop-byte.byte-index _ c.feed_byte.new.self.line c.in-Err.failed
-    c.loop-byte-test.true (c.in-Err.ensures.feeds before _ (c.loop-byte.invariant.fed before given served))
+returns-in-Err-clause-feeds g c before first given served =
+    cut_at before first given c.args.chunk.now c.loop-byte.byte-index _ c.feed_byte.new.self.line c.in-Err.failed
+    c.loop-byte-test.true (c.in-Err.ensures.feeds before first _ (c.loop-byte.invariant.fed before first given served))
 
 pub returns-clause-feeds : goal.returns-clause-feeds
-returns-clause-feeds g c before given served =
-    rw (take_all _ _ c.loop-byte-test.false) at (c.loop-byte.invariant.fed before given served)
+returns-clause-feeds g c before first given served =
+    rw (take_all _ _ c.loop-byte-test.false) at (c.loop-byte.invariant.fed before first given served)

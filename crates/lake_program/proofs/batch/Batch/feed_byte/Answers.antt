@@ -3,10 +3,10 @@ use Rattle.lake_program.proofs.FeedingLemmas.{served_byte, feeds_line}
 use Rattle.lake_program.proofs.batch.Batch.feed_byte.Goals as goal
 
 pub returns-then-byte-ne10-clause-feeds : goal.returns-then-byte-ne10-clause-feeds
-returns-then-byte-ne10-clause-feeds g c before given served =
-    served_byte _ given _ _ c.push.new.self c.args.byte c.if-byte-ne10.true c.push.ensures served
+returns-then-byte-ne10-clause-feeds g c before first given served =
+    served_byte _ _ given _ _ c.push.new.self c.args.byte c.if-byte-ne10.true c.push.ensures served
 
 pub returns-clause-feeds : goal.returns-clause-feeds
-returns-clause-feeds g c before given served =
-    feeds_line _ given _ _ _ c.ended.result.now c.clear.new.self c.args.byte c.serve-served.result (omega arith)
+returns-clause-feeds g c before first given served =
+    feeds_line _ _ given _ _ _ c.ended.result.now c.clear.new.self c.args.byte c.serve-served.result (omega arith)
     c.ended.ensures c.clear.ensures served c.serve-served.ensures.serves

@@ -3,16 +3,16 @@ use Rattle.lake_program.proofs.ReadingLemmas.{reached_more, too_long, sink_faile
 use Rattle.lake_program.proofs.batch.Batch.feed_piece.Goals as goal
 
 pub returns-in-Err-clause-feeds : goal.returns-in-Err-clause-feeds
-returns-in-Err-clause-feeds g c before input left reached =
+returns-in-Err-clause-feeds g c before most input left reached =
     sink_failed reached _ c.split_at.ensures.front (omega (arith, c.split_at.ensures.front_len))
-    (c.in-Err.ensures.feeds before _ reached.served)
+    (c.in-Err.ensures.feeds before _ _ reached.served)
 
 pub returns-then-fed-piece-clause-feeds : goal.returns-then-fed-piece-clause-feeds
-returns-then-fed-piece-clause-feeds g c before input left reached =
+returns-then-fed-piece-clause-feeds g c before most input left reached =
     too_long reached _ c.split_at.ensures.front (omega (arith, c.split_at.ensures.front_len)) c.if-fed-piece.true
-    (c.in-Ok.ensures.feeds before _ reached.served)
+    (c.in-Ok.ensures.feeds before _ _ reached.served)
 
 pub returns-clause-feeds : goal.returns-clause-feeds
-returns-clause-feeds g c before input left reached =
+returns-clause-feeds g c before most input left reached =
     reached_more reached _ c.split_at.ensures.front refl c.if-fed-piece.false
-    (c.in-Ok.ensures.feeds before _ reached.served)
+    (c.in-Ok.ensures.feeds before _ _ reached.served)
