@@ -4,7 +4,7 @@ use Rattle.std.specs.Prelude.{◌⊎◌, Option, Some, None, option_and_then, is
 use Rattle.std.specs.FinMap.{get}
 use Rattle.std.specs.Option.{option_map_or, option_or}
 use Rattle.lake_model.specs.declared.fault.StepFault.{StepFault}
-use Rattle.lake_model.specs.declared.fault.StepFault.TheVariants.{Stopped, HistoryFull, NoRepo, NoRef, NoParent, NoNote, Exists, DefaultBranch, Protected, Changed, NoPath, Expired, NameClash, StoreFault, NoMemory}
+use Rattle.lake_model.specs.declared.fault.StepFault.TheVariants.{NoRepo, NoRef, StoreFault, NoMemory}
 use Rattle.lake_model.specs.declared.history.By.{By}
 use Rattle.lake_model.specs.declared.history.HistoryEntry.{HistoryEntry}
 use Rattle.lake_model.specs.declared.reply.Versions.{Versions}
@@ -24,8 +24,9 @@ use Rattle.lake_core.specs.declared.open_fault.OpenFault.{OpenFault}
 use Rattle.lake_core.specs.declared.open_fault.OpenFault.TheVariants as opening
 use Rattle.lake_core.specs.Lakes.{LakeValue, state}
 use Rattle.lake_core.specs.Opening.{IsUnopened}
-use Rattle.lake_core.specs.Leaving.{IsFaulted, Leaves, Making}
+use Rattle.lake_core.specs.Leaving.{Leaves, parts_of}
 use Rattle.core_puts.specs.KeeperViews.{KeeperView}
+use Rattle.core_puts.specs.KeptChanges.{IsFaulted, Making, Parts}
 use Rattle.lake_calls.specs.Replies.{guarded_refusal, reading_causes}
 use Rattle.batch_session.specs.Batch.{usual_cut}
 use Rattle.batch_session.specs.SureSteps.{IsFromFresh, IsStep, state_at}
@@ -56,7 +57,7 @@ pub record IsSure {K X : Type 0} (refusal : Option StepFault) (value : X) (entry
 module _ {K X : Type 0} (view : KeeperView K) (quiet : (k : K) → view.faults k ≡ 0) (by : By) (made : Making)
     (refusal : Option StepFault) (value : X) (old new : LakeValue K) where
   -- the store never failed
-  never : IsFaulted view by made old new → ⊥
+  never : IsFaulted view by made (parts_of old) (parts_of new) → ⊥
   never faulted =
       let before = quiet old.keeper in
       let now = quiet new.keeper in
@@ -64,32 +65,19 @@ module _ {K X : Type 0} (view : KeeperView K) (quiet : (k : K) → view.faults k
       absurd (omega arith)
 
   -- what is refused leaves the lake
-  same : (fault : StepFault) → Err fault ≡ unless_refused refusal value → new ≡ old
-      → (new.opened ≡ old.opened) × (((fault ≡ NoMemory) ⊎ (refusal ≡ Some fault)) × (new.history ≡ old.history))
-  same fault gives leaves =
-      (ap (λ (l : LakeValue K). l.opened) leaves, (inr (refused_by fault refusal value gives), ap (λ (l : LakeValue K). l.history) leaves))
+  same : (fault : StepFault) → Err fault ≡ unless_refused refusal value → parts_of new ≡ parts_of old
+      → ((fault ≡ NoMemory) ⊎ (refusal ≡ Some fault)) × (new.history ≡ old.history)
+  same fault gives leaves = (inr (refused_by fault refusal value gives), ap (λ (p : Parts K). p.history) leaves)
 
   -- so each step is made, is refused, or runs out of memory
   pub sure_step : (result : Result X StepFault) → GivesOrFails result (unless_refused refusal value)
       → Leaves view by (Some made) result old new → IsSure refusal value (accepted_entry by made.operation) result old new
   sure_step (Ok answer) gives leaves =
       let is = answered_by answer refusal value gives in
-      record { opened = leaves.opened; step = (is.0, (is.1, leaves.history)) }
-  sure_step (Err StoreFault) gives leaves = absurd (never leaves)
-  sure_step (Err NoMemory) gives leaves = record { opened = leaves.opened; step = (inl refl, leaves.history) }
-  sure_step (Err Stopped) gives leaves = let is = same Stopped gives leaves in record { opened = is.0; step = is.1 }
-  sure_step (Err HistoryFull) gives leaves = let is = same HistoryFull gives leaves in record { opened = is.0; step = is.1 }
-  sure_step (Err NoRepo) gives leaves = let is = same NoRepo gives leaves in record { opened = is.0; step = is.1 }
-  sure_step (Err NoRef) gives leaves = let is = same NoRef gives leaves in record { opened = is.0; step = is.1 }
-  sure_step (Err (NoParent number)) gives leaves = let is = same (NoParent number) gives leaves in record { opened = is.0; step = is.1 }
-  sure_step (Err NoNote) gives leaves = let is = same NoNote gives leaves in record { opened = is.0; step = is.1 }
-  sure_step (Err Exists) gives leaves = let is = same Exists gives leaves in record { opened = is.0; step = is.1 }
-  sure_step (Err DefaultBranch) gives leaves = let is = same DefaultBranch gives leaves in record { opened = is.0; step = is.1 }
-  sure_step (Err (Protected pattern)) gives leaves = let is = same (Protected pattern) gives leaves in record { opened = is.0; step = is.1 }
-  sure_step (Err (Changed version settings)) gives leaves = let is = same (Changed version settings) gives leaves in record { opened = is.0; step = is.1 }
-  sure_step (Err NoPath) gives leaves = let is = same NoPath gives leaves in record { opened = is.0; step = is.1 }
-  sure_step (Err (Expired id)) gives leaves = let is = same (Expired id) gives leaves in record { opened = is.0; step = is.1 }
-  sure_step (Err (NameClash name kept other)) gives leaves = let is = same (NameClash name kept other) gives leaves in record { opened = is.0; step = is.1 }
+      record { opened = leaves.0; step = (is.0, (is.1, leaves.1.history)) }
+  sure_step (Err StoreFault) gives leaves = absurd (never leaves.1)
+  sure_step (Err NoMemory) gives leaves = record { opened = leaves.0; step = (inl refl, leaves.1.history) }
+  sure_step (Err fault) gives leaves = record { opened = leaves.0; step = same fault gives leaves.1 }
 
 -- ---- a branch's version
 

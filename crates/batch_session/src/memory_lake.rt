@@ -14,7 +14,7 @@ ghost use Rattle.batch_session.specs.SureSteps.{IsStep, state_at};
 use commit_graph::RefExpr;
 use keeper::SureKeeper;
 use lake_base::{NoMemory, Path, RefName, RepoName};
-use lake_core::{Lake, OpenFault};
+use lake_core::{Lake, OpenFault, laws_of_founding};
 use lake_format::USUAL_CUT;
 use lake_model::{By, Seen, StepFault};
 use lake_values::Change;

@@ -28,13 +28,13 @@ use Rattle.core_changes.proofs.FoundingLemmas.{empty_map, file_named, founded, o
 use Rattle.core_changes.proofs.IndexLemmas.{AreKeptIn, in_state, of_state}
 
 -- what the lake keeps before a repository of no other's name is made, whose first commit is admissible
-pub record IsReady (l : LakeStateValue) (repo branch : List ℕ) (date : ℕ) : Type 0 where
+pub record AwaitsRepository (l : LakeStateValue) (repo branch : List ℕ) (date : ℕ) : Type 0 where
   pub index : HasIndex l
   pub sound : IsSound (state_of l)
   pub unused : get l.repositories repo ≡ None
   pub admissible : IsAdmissible (state_of l) (bare_repository date branch) (first_draft date)
 
-module _ (l : LakeStateValue) (repo branch : List ℕ) (date : ℕ) (ready : IsReady l repo branch date) where
+module _ (l : LakeStateValue) (repo branch : List ℕ) (date : ℕ) (ready : AwaitsRepository l repo branch date) where
   abbrev now : LakeStateValue
   now = after_repository_create repo branch date l
 

@@ -19,7 +19,8 @@ use Rattle.lake_model.specs.declared.reply.SwapKind.TheVariants.{Commit, Merge, 
 use Rattle.lake_model.specs.Commits.{Draft, record_of}
 use Rattle.core_state.specs.BranchStates.{BranchStateValue}
 use Rattle.core_state.specs.RepositoryStates.{RepositoryStateValue}
-use Rattle.core_commits.specs.HeadOperations.{IsTreeFor, draft_for, swap_parents}
+use Rattle.core_readings.specs.Trees.{IsCutTree}
+use Rattle.core_commits.specs.HeadOperations.{draft_for, swap_parents}
 
 -- ---- what is drafted for a branch of a repository
 module _ (about : AboutValue) (r : RepositoryStateValue) (b : BranchStateValue) where
@@ -35,7 +36,7 @@ module _ (about : AboutValue) (r : RepositoryStateValue) (b : BranchStateValue) 
   about_is (Merge source strategy) = refl
   about_is (Pick base source strategy) = refl
 
-module _ (cut : Cut) (draft : Draft) (tree : TreeValue) (is : IsTreeFor cut draft tree) where
+module _ (cut : Cut) (draft : Draft) (tree : TreeValue) (is : IsCutTree cut draft.objects tree) where
   -- its tree
   pub tree_is : tree ≡ record { map = draft.objects; files = files cut draft.objects }
   tree_is = λ i. record { map = is.map i; files = is.files i }

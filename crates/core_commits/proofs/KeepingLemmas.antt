@@ -18,9 +18,9 @@ use Rattle.core_state.specs.LakeStates.{LakeStateValue, lake_value}
 use Rattle.core_state.specs.NewCommits.{NewCommit, with_commit}
 use Rattle.core_state.specs.RepositoryStates.{RepositoryStateValue}
 use Rattle.core_changes.specs.LakeChanges.{after_fault, in_repository}
-use Rattle.core_puts.specs.KeptChanges.{Keeps, Parts}
+use Rattle.core_puts.specs.KeptChanges.{Keeps, Parts, unmade}
 use Rattle.core_puts.specs.KeeperViews.{KeeperView}
-use Rattle.core_commits.specs.KeptHeads.{KeepsCommit, MayHave, MayHaveIn}
+use Rattle.core_commits.specs.KeptHeads.{MayHave, MayHaveIn, commit_added}
 use Rattle.core_commits.specs.HeadOperations.{without_commit}
 use Rattle.core_commits.proofs.ChangedLemmas.{changed_back, changed_same, found_changed}
 use Rattle.core_commits.proofs.CommitLemmas.{taken_out}
@@ -80,42 +80,42 @@ module _ (repo : List ℕ) (new : NewCommit) (l : LakeStateValue) (may : MayHave
 -- ---- what the call leaves
 module _ {K X : Type 0} (view : KeeperView K) (by : By) (operation : Operation) (puts : List Put) where
   -- the same repositories
-  pub kept_repositories : (result : Result X StepFault) (before after : Parts K) → Keeps view by operation puts result before after
+  pub kept_repositories : (result : Result X StepFault) (before after : Parts K) → Keeps view by (unmade operation puts) result before after
       → (lake_value after.present).repositories ≡ (lake_value before.present).repositories
-  kept_repositories (Ok x) before after keeps = ap (λ (l : LakeState). (lake_value l).repositories) keeps.present
+  kept_repositories (Ok x) before after keeps = ap (λ (l : LakeStateValue). l.repositories) keeps.present
   kept_repositories (Err StoreFault) before after keeps = ap (λ (l : LakeStateValue). l.repositories) keeps.present
-  kept_repositories (Err NoMemory) before after keeps = ap (λ (l : LakeState). (lake_value l).repositories) keeps.present
+  kept_repositories (Err NoMemory) before after keeps = ap (λ (l : LakeStateValue). l.repositories) keeps.present
   kept_repositories (Err fault) before after keeps = absurd keeps
 
   module _ (repo : List ℕ) (new : NewCommit) where
     -- where the commit was there before
     pub keeps_known : (result : Result X StepFault) (before after : Parts K) → in_repository repo (with_commit new) (lake_value before.present) ≡ lake_value before.present
-        → Keeps view by operation puts result before after → KeepsCommit view by operation puts repo new result before after
+        → Keeps view by (unmade operation puts) result before after → Keeps view by (commit_added repo new operation puts) result before after
     keeps_known (Ok x) before after same keeps = record {
       history = keeps.history;
-      present = ap lake_value keeps.present ∙ sym same;
+      present = keeps.present ∙ sym same;
       kept = keeps.kept;
       once = keeps.once;
       quiet = keeps.quiet;
       keeper = keeps.keeper;
     }
-    keeps_known (Err StoreFault) before after same keeps = keeps
-    keeps_known (Err NoMemory) before after same keeps = record {
+    keeps_known (Err StoreFault) before after same keeps = record {
       history = keeps.history;
-      present = ap lake_value keeps.present;
+      present = keeps.present;
       kept = keeps.kept;
-      calls = keeps.calls;
-      quiet = keeps.quiet;
+      once = keeps.once;
+      rose = keeps.rose;
       keeper = keeps.keeper;
     }
+    keeps_known (Err NoMemory) before after same keeps = keeps
     keeps_known (Err fault) before after same keeps = absurd keeps
 
     -- where the commit was put in, and was taken out after the call had failed
     pub keeps_back : (result : Result X StepFault) (before after : Parts K) (first last : LakeState) → is_err result ≡ true
         → in_repository repo (without_commit new.id) (lake_value before.present) ≡ lake_value first
         → lake_value last ≡ in_repository repo (without_commit new.id) (lake_value after.present)
-        → Keeps view by operation puts result before after
-        → KeepsCommit view by operation puts repo new result (record before { present = first }) (record after { present = last })
+        → Keeps view by (unmade operation puts) result before after
+        → Keeps view by (commit_added repo new operation puts) result (record before { present = first }) (record after { present = last })
     keeps_back (Ok x) before after first last failed back out keeps = absurd (let no = failed in cc)
     keeps_back (Err StoreFault) before after first last failed back out keeps = record {
       history = keeps.history;
@@ -127,7 +127,7 @@ module _ {K X : Type 0} (view : KeeperView K) (by : By) (operation : Operation) 
     }
     keeps_back (Err NoMemory) before after first last failed back out keeps = record {
       history = keeps.history;
-      present = out ∙ ap (λ l. in_repository repo (without_commit new.id) (lake_value l)) keeps.present ∙ back;
+      present = out ∙ ap (in_repository repo (without_commit new.id)) keeps.present ∙ back;
       kept = keeps.kept;
       calls = keeps.calls;
       quiet = keeps.quiet;

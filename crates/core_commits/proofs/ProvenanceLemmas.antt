@@ -21,7 +21,8 @@ use Rattle.core_readings.proofs.EntryLemmas.{map_there}
 use Rattle.meta_range.specs.Provenance.{IsMerged, IsTrioFile}
 use Rattle.meta_range.specs.declared.provenance.Provenance.{Provenance}
 use Rattle.core_causes.specs.Clashing.{AreFound}
-use Rattle.core_commits.specs.HeadProvenance.{HasTreesOf, IsTreeFile}
+use Rattle.core_readings.specs.Trees.{IsTreeFile}
+use Rattle.core_commits.specs.HeadProvenance.{HasTreesOf}
 use Rattle.core_commits.proofs.PlaceLemmas.{on_state}
 
 module _ (r : RepositoryStateValue) where

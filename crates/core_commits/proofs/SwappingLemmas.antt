@@ -1,70 +1,111 @@
 -- What a new head answers and leaves.
 use Rattle.std.proofs.Common.{◌≡◌, ◌⊎◌, ◌+◌, ℕ, List, inl, inr, refl, sym, ap, subst, ◌∙◌, arith}
-use Rattle.std.specs.Prelude.{Option, Some, None, Result, Ok, Err, IsErrAnd, false, is_some, option_and_then, option_map}
+use Rattle.std.specs.Prelude.{Option, Some, None, Result, Ok, Err, IsErrAnd, IsSomeAnd, false, is_some, option_and_then, option_map}
 use Rattle.std.specs.FinMap.{get}
 use Rattle.byte_map.proofs.ValuesLemmas.{get_map_values}
-use Rattle.keeper.specs.declared.put.Put.{Put}
 use Rattle.lake_base.specs.Names.{is_like_id}
 use Rattle.lake_base.specs.declared.digest.Digest.{Digest}
 use Rattle.lake_values.specs.Commit.{AboutValue, CommitRecordValue}
 use Rattle.lake_format.specs.Spelling.{commit_id}
 use Rattle.lake_model.specs.declared.fault.StepFault.{StepFault}
-use Rattle.lake_model.specs.declared.fault.StepFault.TheVariants.{Stopped, HistoryFull, NoRepo, NoRef, NoParent, NoNote, Exists, DefaultBranch, Protected, Changed, NoPath, Expired, NameClash, StoreFault, NoMemory}
+use Rattle.lake_model.specs.declared.fault.StepFault.TheVariants.{StoreFault, NoMemory}
 use Rattle.lake_model.specs.declared.history.By.{By}
 use Rattle.lake_model.specs.declared.history.Operation.{Operation}
+use Rattle.keeper.specs.declared.put.Put.{Put}
 use Rattle.lake_model.specs.declared.reply.SwapKind.{SwapKind}
 use Rattle.lake_model.specs.Commits.{record_of}
 use Rattle.lake_model.specs.Refusals.{Causes, Clash, IsRefusal, first_cause}
 use Rattle.lake_model.specs.Soundness.{IsSound}
-use Rattle.lake_model.specs.Steps.{IsReplyOf, IsSwapReply, new_commit as model_commit, swap_causes, swap_rule}
+use Rattle.lake_model.specs.Steps.{IsReplyOf, IsSwapReply, new_commit as model_commit, swap_causes, swap_operation, swap_rule}
 use Rattle.lake_model.specs.Versions.{VersionsGiven}
 use Rattle.core_state.specs.BranchStates.{BranchStateValue, branch_of}
-use Rattle.core_state.specs.LakeStates.{LakeStateValue, state_of}
+use Rattle.core_state.specs.declared.lake.LakeState.{LakeState}
+use Rattle.core_state.specs.LakeStates.{LakeStateValue, lake_value, state_of}
 use Rattle.core_state.specs.NewCommits.{NewCommit, commit_of_draft}
 use Rattle.core_state.specs.RepositoryStates.{RepositoryStateValue, repository_of}
-use Rattle.core_puts.specs.KeptChanges.{Parts}
+use Rattle.core_changes.specs.LakeChanges.{after_fault, after_new_head}
+use Rattle.core_puts.specs.Puts.{new_head_puts}
+use Rattle.core_puts.specs.KeptChanges.{IsFaulted, Keeps, LeavesParts, Making, Parts}
+use Rattle.core_puts.proofs.KeptLemmas.{refused_parts, same_before, starved_parts}
 use Rattle.core_puts.specs.KeeperViews.{KeeperView}
-use Rattle.core_commits.specs.KeptHeads.{IsAsBefore, KeepsWith}
-use Rattle.core_commits.specs.Making.{HeadMaking, LeavesHead, head_answer}
+use Rattle.core_commits.specs.KeptHeads.{commit_added}
+use Rattle.core_commits.specs.Making.{MayHaveTried, head_answer, head_making}
 use Rattle.core_commits.specs.HeadOperations.{draft_for}
 use Rattle.core_commits.specs.Testing.{AsksForHead, drafted_in}
 
 -- ---- what a refusal leaves
 
-module _ {K : Type 0} (view : KeeperView K) (by : By) (repo : List ℕ) (made : Option HeadMaking) (parts : Parts K) where
-  same_left : (X : Type 0) (fault : StepFault) → IsRefusal fault → LeavesHead {X = X} view by repo made (Err fault) parts parts
-  same_left X NoMemory is = absurd is
-  same_left X StoreFault is = absurd is
-  same_left X Stopped is = refl
-  same_left X HistoryFull is = refl
-  same_left X NoRepo is = refl
-  same_left X NoRef is = refl
-  same_left X (NoParent number) is = refl
-  same_left X NoNote is = refl
-  same_left X Exists is = refl
-  same_left X DefaultBranch is = refl
-  same_left X (Protected pattern) is = refl
-  same_left X (Changed version settings) is = refl
-  same_left X NoPath is = refl
-  same_left X (Expired id) is = refl
-  same_left X (NameClash name kept new) is = refl
-
-  as_before : IsAsBefore view parts parts
-  as_before = record {
-    history = refl;
-    present = refl;
-    kept = refl;
-    calls = inl refl;
-    quiet = refl;
-    keeper = record { told = refl; later = omega arith };
-  }
-
+module _ {K : Type 0} (view : KeeperView K) (by : By) (made : Option Making) (parts : Parts K) where
   pub refused_leaves : {X : Type 0} (answer : Result X StepFault) (fault : StepFault) → IsErrAnd answer (λ e. e ≡ fault)
-      → (fault ≡ NoMemory) ⊎ IsRefusal fault → LeavesHead view by repo made answer parts parts
-  refused_leaves {X} (Err e) fault same (inl memory) =
-      subst (λ f. LeavesHead {X = X} view by repo made (Err f) parts parts) (sym (same ∙ memory)) as_before
-  refused_leaves {X} (Err e) fault same (inr refusal) = same_left X e (subst IsRefusal (sym same) refusal)
-  refused_leaves (Ok x) fault same why = absurd same
+      → (fault ≡ NoMemory) ⊎ IsRefusal fault → LeavesParts view by made answer parts parts
+  refused_leaves answer fault same (inl memory) =
+      starved_parts view parts parts by made answer (subst (λ f. IsErrAnd answer (λ e. e ≡ f)) memory same)
+      (same_before view parts parts refl refl refl)
+  refused_leaves answer fault same (inr refusal) = refused_parts view parts parts by made answer fault same refusal refl
+
+-- the change by which a new commit becomes the head
+abbrev pub head_of : (repo branch : List ℕ) → SwapKind → AboutValue → LakeState → NewCommit → Making
+head_of repo branch swap about present new = record {
+  operation = swap_operation repo branch swap about;
+  after = after_new_head repo branch new;
+  puts = new_head_puts repo branch new present.names.files (lake_value present);
+}
+
+-- the keeper refused it, which was called with room made in the lake
+module _ {K : Type 0} (view : KeeperView K) (by : By) (repo branch : List ℕ) (swap : SwapKind) (about : AboutValue) (new : NewCommit)
+    (old after : Parts K) (room : LakeState) (drafted : drafted_in repo branch swap about (lake_value old.present) ≡ Some new)
+    (same : lake_value room ≡ lake_value old.present) where
+  unkept_parts : (X : Type 0) (fault : StepFault)
+      → Keeps {X = Unit {0}} view by
+      (commit_added repo new (swap_operation repo branch swap about) (new_head_puts repo branch new old.present.names.files (lake_value old.present)))
+      (Err fault) (record old { present = room }) after
+      → LeavesParts {X = X} view by (head_making repo branch swap about old.present) (Err fault) old after
+  unkept_parts X StoreFault keeps =
+      subst (λ o. IsSomeAnd o (λ m. IsFaulted view by m old after)) (sym (ap (option_map (head_of repo branch swap about old.present)) drafted))
+      (record {
+        history = keeps.history;
+        present = keeps.present ∙ ap after_fault same;
+        kept = keeps.kept;
+        once = keeps.once;
+        rose = keeps.rose;
+        keeper = keeps.keeper;
+      })
+  unkept_parts X NoMemory keeps = record {
+    history = keeps.history;
+    present = keeps.present ∙ same;
+    kept = keeps.kept;
+    calls = keeps.calls;
+    quiet = keeps.quiet;
+    keeper = keeps.keeper;
+  }
+  unkept_parts X fault keeps = absurd keeps
+
+  pub unkept_leaves : {X : Type 0} (operation : Operation) (puts : List Put) → operation ≡ swap_operation repo branch swap about
+      → puts ≡ new_head_puts repo branch new old.present.names.files (lake_value old.present) → (fault : StepFault)
+      → Keeps {X = Unit {0}} view by (commit_added repo new operation puts) (Err fault) (record old { present = room }) after
+      → (answer : Result X StepFault) → IsErrAnd answer (λ e. e ≡ fault)
+      → LeavesParts view by (head_making repo branch swap about old.present) answer old after
+  unkept_leaves {X} operation puts made put fault keeps (Err e) is =
+      subst (λ f. LeavesParts {X = X} view by (head_making repo branch swap about old.present) (Err f) old after) (sym is)
+      (unkept_parts X fault
+      (subst (λ ps. Keeps {X = Unit {0}} view by (commit_added repo new (swap_operation repo branch swap about) ps) (Err fault)
+      (record old { present = room }) after) put
+      (subst (λ o. Keeps {X = Unit {0}} view by (commit_added repo new o puts) (Err fault) (record old { present = room }) after) made keeps)))
+  unkept_leaves operation puts made put fault keeps (Ok x) is = absurd is
+
+-- a refusal tells nothing of the repository
+module _ (repo : List ℕ) (drafted : Option NewCommit) (l : LakeStateValue) where
+  same_may : (X : Type 0) (fault : StepFault) → IsRefusal fault → MayHaveTried {X = X} repo drafted (Err fault) l
+  same_may X NoMemory is = tt
+  same_may X StoreFault is = absurd is
+  same_may X fault is = tt
+
+  pub refused_may : {X : Type 0} (answer : Result X StepFault) (fault : StepFault) → IsErrAnd answer (λ e. e ≡ fault)
+      → (fault ≡ NoMemory) ⊎ IsRefusal fault → MayHaveTried repo drafted answer l
+  refused_may {X} (Err e) fault same (inl memory) =
+      subst (λ f. MayHaveTried {X = X} repo drafted (Err f) l) (sym (same ∙ memory)) tt
+  refused_may {X} (Err e) fault same (inr refusal) = same_may X e (subst IsRefusal (sym same) refusal)
+  refused_may (Ok x) fault same why = absurd same
 
 -- ---- what is answered
 
@@ -92,19 +133,7 @@ module _ (l : LakeStateValue) (given : VersionsGiven) (repo branch : List ℕ) (
       → IsReplyOf (state_of l) (causes clash) value (Err fault)
   told clash NoMemory is refusal = absurd refusal
   told clash StoreFault is refusal = absurd refusal
-  told clash Stopped is refusal = is
-  told clash HistoryFull is refusal = is
-  told clash NoRepo is refusal = is
-  told clash NoRef is refusal = is
-  told clash (NoParent number) is refusal = is
-  told clash NoNote is refusal = is
-  told clash Exists is refusal = is
-  told clash DefaultBranch is refusal = is
-  told clash (Protected pattern) is refusal = is
-  told clash (Changed version settings) is refusal = is
-  told clash NoPath is refusal = is
-  told clash (Expired id) is refusal = is
-  told clash (NameClash name kept new) is refusal = is
+  told clash fault is refusal = is
 
   abbrev Each : Type 0
   Each = (clash : Option Clash) (fault : StepFault) → first_cause (causes clash) ≡ Some fault → IsRefusal fault
@@ -133,34 +162,22 @@ module _ (l : LakeStateValue) (given : VersionsGiven) (repo branch : List ℕ) (
     starved_reply (Ok x) same = absurd same
 
     -- or the keeper refused it
-    unkept : {K : Type 0} (view : KeeperView K) (by : By) (operation : Operation) (puts : List Put) (change : LakeStateValue → LakeStateValue)
-        (before after : Parts K) (fault : StepFault) → KeepsWith {X = Unit {0}} view by operation puts change (Err fault) before after
+    unkept : {K : Type 0} (view : KeeperView K) (by : By) (making : Making) (before after : Parts K) (fault : StepFault)
+        → Keeps {X = Unit {0}} view by making (Err fault) before after
         → IsReplyOf (state_of l) (causes asks.clash) value (Err fault)
-    unkept view by operation puts change before after StoreFault keeps = asks.tells
-    unkept view by operation puts change before after NoMemory keeps = tt
-    unkept view by operation puts change before after Stopped keeps = absurd keeps
-    unkept view by operation puts change before after HistoryFull keeps = absurd keeps
-    unkept view by operation puts change before after NoRepo keeps = absurd keeps
-    unkept view by operation puts change before after NoRef keeps = absurd keeps
-    unkept view by operation puts change before after (NoParent number) keeps = absurd keeps
-    unkept view by operation puts change before after NoNote keeps = absurd keeps
-    unkept view by operation puts change before after Exists keeps = absurd keeps
-    unkept view by operation puts change before after DefaultBranch keeps = absurd keeps
-    unkept view by operation puts change before after (Protected pattern) keeps = absurd keeps
-    unkept view by operation puts change before after (Changed version settings) keeps = absurd keeps
-    unkept view by operation puts change before after NoPath keeps = absurd keeps
-    unkept view by operation puts change before after (Expired id) keeps = absurd keeps
-    unkept view by operation puts change before after (NameClash name kept new) keeps = absurd keeps
+    unkept view by making before after StoreFault keeps = asks.tells
+    unkept view by making before after NoMemory keeps = tt
+    unkept view by making before after fault keeps = absurd keeps
 
-    pub unkept_reply : {K : Type 0} (view : KeeperView K) (by : By) (operation : Operation) (puts : List Put) (change : LakeStateValue → LakeStateValue)
-        (before after : Parts K) (fault : StepFault) → KeepsWith {X = Unit {0}} view by operation puts change (Err fault) before after
+    pub unkept_reply : {K : Type 0} (view : KeeperView K) (by : By) (making : Making) (before after : Parts K) (fault : StepFault)
+        → Keeps {X = Unit {0}} view by making (Err fault) before after
         → (answer : Answer) → IsErrAnd answer (λ e. e ≡ fault) → Replies answer
-    unkept_reply view by operation puts change before after fault keeps (Err e) same = (
+    unkept_reply view by making before after fault keeps (Err e) same = (
       asks.clash,
       asks.there,
-      subst (λ f. IsReplyOf (state_of l) (causes asks.clash) value (Err f)) (sym same) (unkept view by operation puts change before after fault keeps),
+      subst (λ f. IsReplyOf (state_of l) (causes asks.clash) value (Err f)) (sym same) (unkept view by making before after fault keeps),
     )
-    unkept_reply view by operation puts change before after fault keeps (Ok x) same = absurd same
+    unkept_reply view by making before after fault keeps (Ok x) same = absurd same
 
     -- or it was made
     pub made_reply : (new : NewCommit) → drafted_in repo branch swap about l ≡ Some new → (place : ℕ) → place ≡ l.entries + 1
@@ -180,7 +197,8 @@ module _ (l : LakeStateValue) (given : VersionsGiven) (repo branch : List ℕ) (
 
         in_repository : (o : Option RepositoryStateValue)
             → option_map with_id
-            (option_and_then (λ r. option_map (λ b. record_of l.cut r.commits ((swap_rule swap about).draft r b)) (get r.branches branch)) (option_map repository_of o))
+            (option_and_then (λ r. option_map (λ b. record_of l.cut r.commits ((swap_rule swap about).draft r b)) (get r.branches branch))
+            (option_map repository_of o))
             ≡ option_map told_of
             (option_and_then (λ r. option_map (λ b. commit_of_draft l.cut r.commits (draft_for swap about r b)) (get r.branches branch)) o)
         in_repository None = refl

@@ -33,7 +33,8 @@ use Rattle.core_causes.specs.Guarding.{guard_causes}
 use Rattle.core_causes.proofs.ClashLemmas.{any_answer}
 use Rattle.core_causes.proofs.TwinLemmas.{twins_answer}
 use Rattle.core_commits.specs.KeptHeads.{MayHave}
-use Rattle.core_commits.specs.HeadOperations.{IsDrafted, IsTreeFor, draft_for, new_commit}
+use Rattle.core_readings.specs.Trees.{IsCutTree}
+use Rattle.core_commits.specs.HeadOperations.{IsDrafted, draft_for, new_commit}
 use Rattle.core_commits.specs.HeadProvenance.{HasTreesOf}
 use Rattle.core_commits.specs.Testing.{AsksForHead, HasTreeFor, IsNewHead, drafted_in}
 use Rattle.core_commits.specs.declared.commits.NewHead.{NewHead}
@@ -194,7 +195,7 @@ module _ (l : LakeStateValue) (given : VersionsGiven) (repo branch : List ℕ) (
   -- the tree is that of what is drafted
   pub tree_drafted : (has : HasVersions given l) (swap : SwapKind) (about : AboutValue) (tree : TreeValue)
       → HasTreeFor l repo branch version settings swap about tree → (r : RepositoryStateValue) (b : BranchStateValue)
-      → get l.repositories repo ≡ Some r → get r.branches branch ≡ Some b → IsTreeFor l.cut (draft_for swap about r b) tree
+      → get l.repositories repo ≡ Some r → get r.branches branch ≡ Some b → IsCutTree l.cut (draft_for swap about r b).objects tree
   tree_drafted has swap about tree is r b at on =
       let both = both_are (version == branch_version given repo branch) (settings == settings_version given repo) versions_now in
       is r b at on (eqb-true version (branch_version given repo branch) both.0 ∙ has.branches repo r branch b at on)
@@ -253,7 +254,7 @@ module _ (l : LakeStateValue) (sound : IsSound (state_of l)) (index : HasIndex l
   pub room_found : l.entries < 4194304
   room_found = has_room l (versions_of l) repo branch version settings (swap_rule swap about).protects (passes (versions_of l) own)
 
-  tree_is : IsTreeFor l.cut (draft_for swap about r b) tree
+  tree_is : IsCutTree l.cut (draft_for swap about r b).objects tree
   tree_is =
       tree_drafted l (versions_of l) repo branch version settings (swap_rule swap about).protects (passes (versions_of l) own) own
       swap about tree due r b at on

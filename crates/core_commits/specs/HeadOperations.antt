@@ -3,7 +3,6 @@ use Rattle.std.specs.Prelude.{◌≡◌, List, [], ◌∷◌}
 use Rattle.std.specs.FinMap.{remove}
 use Rattle.lake_base.specs.declared.digest.Digest.{Digest}
 use Rattle.lake_values.specs.Commit.{AboutValue}
-use Rattle.lake_format.specs.Cutting.{files}
 use Rattle.lake_format.specs.Spelling.{commit_spelling, IsSpelledCommit}
 use Rattle.lake_format.specs.declared.cut.Cut.{Cut}
 use Rattle.meta_range.specs.Files.{file_of}
@@ -15,6 +14,7 @@ use Rattle.lake_model.specs.Steps.{swap_rule}
 use Rattle.core_state.specs.BranchStates.{BranchStateValue, branch_of}
 use Rattle.core_state.specs.NewCommits.{NewCommit, commit_of_draft}
 use Rattle.core_state.specs.RepositoryStates.{RepositoryStateValue, repository_of}
+use Rattle.core_readings.specs.Trees.{IsCutTree}
 use Rattle.core_commits.specs.declared.commits.NewHead.{NewHead}
 
 -- what a new head says, without its bytes
@@ -31,18 +31,13 @@ swap_parents (kind.Pick base source strategy) head = head ∷ []
 abbrev pub draft_for : SwapKind → AboutValue → RepositoryStateValue → BranchStateValue → Draft
 draft_for swap about r b = (swap_rule swap about).draft (repository_of r) (branch_of b)
 
--- a tree is that of a draft's map, by a cut
-pub record IsTreeFor (cut : Cut) (draft : Draft) (tree : TreeValue) : Type 0 where
-  pub map : tree.map ≡ draft.objects
-  pub files : tree.files ≡ files cut draft.objects
-
 -- A new head is the commit of what is drafted, where the tree that was built is that of the draft; it is within its limits,
 -- and its bytes are that commit's.
 pub record IsDrafted (cut : Cut) (r : RepositoryStateValue) (b : BranchStateValue) (swap : SwapKind) (about : AboutValue) (built : TreeValue) (new : NewHead) : Type 0 where
   pub content : new.content ≡ file_of (commit_spelling new.commit)
   pub limits : IsSpelledCommit new.commit
   pub tree : new.tree.value ≡ built
-  pub drafted : IsTreeFor cut (draft_for swap about r b) built → new_commit new ≡ commit_of_draft cut r.commits (draft_for swap about r b)
+  pub drafted : IsCutTree cut (draft_for swap about r b).objects built → new_commit new ≡ commit_of_draft cut r.commits (draft_for swap about r b)
 
 -- a repository without a commit
 abbrev pub without_commit : Digest → RepositoryStateValue → RepositoryStateValue

@@ -12,7 +12,7 @@ use Rattle.core_commits.specs.CommitNames.{AreNames}
 use Rattle.core_commits.specs.HeadOperations.{new_commit}
 
 -- its operation, its puts as the lake is, its names, and what is answered of its commit
-pub record IsReady (repo branch : List ℕ) (swap : SwapKind) (about : AboutValue) (new : NewHead) (lake : LakeState) (ready : ReadyHead) : Type 0 where
+pub record IsReadyHead (repo branch : List ℕ) (swap : SwapKind) (about : AboutValue) (new : NewHead) (lake : LakeState) (ready : ReadyHead) : Type 0 where
   pub operation : ready.operation ≡ swap_operation repo branch swap about
   pub puts : ready.puts.items ≡ new_head_puts repo branch (new_commit new) lake.names.files (lake_value lake)
   pub names : AreNames repo new.tree.value.files ready.names

@@ -16,7 +16,8 @@ use Rattle.core_state.specs.RepositoryStates.{RepositoryStateValue}
 use Rattle.core_causes.specs.Clashing.{TellsOrFails}
 use Rattle.core_commits.specs.declared.commits.NewHead.{NewHead}
 use Rattle.core_commits.specs.KeptHeads.{MayHaveIn}
-use Rattle.core_commits.specs.HeadOperations.{IsTreeFor, draft_for, new_commit}
+use Rattle.core_readings.specs.Trees.{IsCutTree}
+use Rattle.core_commits.specs.HeadOperations.{draft_for, new_commit}
 
 -- the commit that is drafted for a branch, where that is there
 abbrev pub drafted_in : List ℕ → List ℕ → SwapKind → AboutValue → LakeStateValue → Option NewCommit
@@ -28,7 +29,7 @@ drafted_in repo branch swap about l =
 abbrev pub HasTreeFor : LakeStateValue → List ℕ → List ℕ → ℕ → ℕ → SwapKind → AboutValue → TreeValue → Type 0
 HasTreeFor l repo branch version settings swap about tree = (r : RepositoryStateValue) (b : BranchStateValue)
     → get l.repositories repo ≡ Some r → get r.branches branch ≡ Some b → version ≡ b.version → settings ≡ r.settings
-    → IsTreeFor l.cut (draft_for swap about r b) tree
+    → IsCutTree l.cut (draft_for swap about r b).objects tree
 
 -- a new head is what is drafted for a branch of a lake, and its repository may have it
 pub record IsNewHead (l : LakeStateValue) (repo branch : List ℕ) (swap : SwapKind) (about : AboutValue) (new : NewHead) : Type 0 where

@@ -1,13 +1,11 @@
 //! The commit that is to become the head of a branch.
-ghost use Rattle.std.specs.Prelude.{◌≡◌, IfOk, OnOk};
-ghost use Rattle.lake_format.specs.Spelling.{commit_spelling, IsSpelledCommit};
+ghost use Rattle.std.specs.Prelude.{◌≡◌, IfOk};
 ghost use Rattle.lake_format.specs.declared.cut.Cut.{Cut as AnyCut};
-ghost use Rattle.meta_range.specs.Files.{file_of};
 ghost use Rattle.core_state.specs.BranchStates.{branch_value};
 ghost use Rattle.core_state.specs.RepositoryStates.{repository_value};
 ghost use Rattle.core_commits.specs.HeadOperations.{IsDrafted, swap_parents};
 
-use commit_graph::commit_bytes;
+use core_puts::commit_file;
 use lake_base::{Digest, NoMemory, Sequence};
 use lake_model::SwapKind;
 use core_state::{BranchState, RepositoryState};
@@ -57,7 +55,7 @@ pub fn new_head(
         message,
         metadata,
     };
-    let content = content_of(alloc, &commit)?;
+    let content = commit_file(alloc, &commit)?;
     let tree = Arc::new(alloc, tree)?;
     Ok(NewHead {
         commit,
@@ -76,16 +74,4 @@ fn parents_of(alloc: Global, head: CommitId, kind: SwapKind) -> Result<Vec<Diges
         parents.push(source)?;
     }
     Ok(parents)
-}
-
-// The bytes of a commit, under its id.
-fn content_of(alloc: Global, commit: &CommitRecord) -> Result<File, NoMemory>
-    ensures spelled { IfOk result (λ file. file ≡ file_of (commit_spelling commit.now)) }
-    ensures limits { OnOk result (IsSpelledCommit commit.now) }
-{
-    let bytes = commit_bytes(alloc, commit)?;
-    Ok(File {
-        name: Digest::of(bytes.as_slice()),
-        bytes: Sequence::of(bytes),
-    })
 }

@@ -7,7 +7,8 @@ ghost use Rattle.commit_graph.specs.Graphs.{IsSound as IsSoundGraph};
 ghost use Rattle.core_state.specs.Counts.{AreFew};
 ghost use Rattle.core_state.specs.LakeStates.{lake_value};
 ghost use Rattle.core_state.specs.RepositoryStates.{RepositoryStateValue};
-ghost use Rattle.core_commits.specs.KeptHeads.{KeepsCommit, MayHaveIn};
+ghost use Rattle.core_puts.specs.KeptChanges.{Keeps};
+ghost use Rattle.core_commits.specs.KeptHeads.{MayHaveIn, commit_added};
 
 use crate::adding::{add_commit, remove_commit};
 use keeper::{Keeper, Put};
@@ -39,8 +40,8 @@ pub fn keep_commit<K: Keeper>(
     requires named { id ≡ commit_id commit }
     requires may { MayHaveIn repo.now (record { id = id; content = commit; tree = tree.value })
         (lake_value present.old) }
-    ensures kept { KeepsCommit (record { kept = K.kept; faults = K.faults; calls = K.calls }) by operation puts.items
-        repo.now (record { id = id; content = commit; tree = tree.value }) result
+    ensures kept { Keeps (record { kept = K.kept; faults = K.faults; calls = K.calls }) by
+        (commit_added repo.now (record { id = id; content = commit; tree = tree.value }) operation puts.items) result
         (record { keeper = keeper.old; history = history.old.items; present = present.old })
         (record { keeper = keeper.new; history = history.new.items; present = present.new }) }
     ensures names { OnOk result (present.new.names ≡ present.old.names) }

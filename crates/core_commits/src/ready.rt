@@ -5,7 +5,7 @@ ghost use Rattle.lake_model.specs.Steps.{swap_operation};
 ghost use Rattle.core_state.specs.Counts.{AreFew};
 ghost use Rattle.core_state.specs.LakeStates.{lake_value};
 ghost use Rattle.core_commits.specs.CommitNames.{HasNamesRoom};
-ghost use Rattle.core_commits.specs.ReadyHeads.{IsReady};
+ghost use Rattle.core_commits.specs.ReadyHeads.{IsReadyHead};
 
 use crate::commits::NewHead;
 use crate::naming::{NewNames, make_names_room, names_of};
@@ -41,7 +41,7 @@ pub fn ready_head(
     requires plain { is_like_id branch.now ≡ false }
     requires few { AreFew (lake_value lake.old) }
     ensures same { lake_value lake.new ≡ lake_value lake.old }
-    ensures ready { IfOk result (IsReady repo.now branch.now kind about new.now lake.old) }
+    ensures ready { IfOk result (IsReadyHead repo.now branch.now kind about new.now lake.old) }
     ensures room { IfOk result (λ ready.
         HasNamesRoom new.now.content.name ready.names.files.items lake.new.names) }
 {

@@ -6,8 +6,9 @@ ghost use Rattle.lake_model.specs.Versions.{VersionsGiven};
 ghost use Rattle.core_state.specs.Counts.{AreCounted, HasVersions};
 ghost use Rattle.core_state.specs.Index.{HasIndex};
 ghost use Rattle.core_state.specs.LakeStates.{lake_value, state_of};
-ghost use Rattle.core_commits.specs.Making.{LeavesHead, head_answer, head_making};
-ghost use Rattle.core_commits.specs.Testing.{HasTreeFor};
+ghost use Rattle.core_puts.specs.KeptChanges.{LeavesParts};
+ghost use Rattle.core_commits.specs.Making.{MayHaveTried, head_answer, head_making};
+ghost use Rattle.core_commits.specs.Testing.{HasTreeFor, drafted_in};
 
 use crate::heading::make_head;
 use crate::keeping::keep_commit;
@@ -45,10 +46,12 @@ pub fn swap<K: Keeper>(
     ensures reply { (given : VersionsGiven) → HasVersions given (lake_value present.old)
         → IsSwapReply (state_of (lake_value present.old)) given repo.now branch.now guard.version guard.settings
         (swap_rule kind about) (head_answer result) }
-    ensures leaves { LeavesHead (record { kept = K.kept; faults = K.faults; calls = K.calls }) by repo.now
+    ensures leaves { LeavesParts (record { kept = K.kept; faults = K.faults; calls = K.calls }) by
         (head_making repo.now branch.now kind about present.old) result
         (record { keeper = keeper.old; history = history.old.items; present = present.old })
         (record { keeper = keeper.new; history = history.new.items; present = present.new }) }
+    ensures may { MayHaveTried repo.now (drafted_in repo.now branch.now kind about (lake_value present.old)) result
+        (lake_value present.old) }
 {
     laws_of_causes();
     law_of_versions();

@@ -1,4 +1,5 @@
 pub mod FilesLemmas
 pub mod FoundingLemmas
+pub mod KeptLemmas
 pub mod NewFilesLemmas
 pub mod RemovalsLemmas

@@ -1,6 +1,6 @@
-//! The first commit of a repository.
-ghost use Rattle.std.specs.Prelude.{◌≡◌, ◌<◌, IfOk, length};
-ghost use Rattle.lake_format.specs.Spelling.{commit_spelling};
+//! The bytes of a commit, and the first commit of a repository.
+ghost use Rattle.std.specs.Prelude.{◌≡◌, ◌<◌, IfOk, OnOk, length};
+ghost use Rattle.lake_format.specs.Spelling.{commit_spelling, IsSpelledCommit};
 ghost use Rattle.lake_format.specs.declared.cut.Cut.{Cut as AnyCut};
 ghost use Rattle.meta_range.specs.Files.{file_of};
 ghost use Rattle.meta_range.specs.Ranges.{first_file};
@@ -33,7 +33,7 @@ pub fn first_commit(alloc: Global, date: u64) -> Result<FirstCommit, NoMemory>
     let tree = empty_tree(alloc)?;
     let metarange = metarange_of(alloc, &tree)?;
     let commit = commit_of(alloc, &tree, date)?;
-    let content = content_of(alloc, &commit)?;
+    let content = commit_file(alloc, &commit)?;
     let tree = Arc::new(alloc, tree)?;
     Ok(FirstCommit {
         commit,
@@ -76,9 +76,10 @@ fn commit_of(alloc: Global, tree: &Tree, date: u64) -> Result<CommitRecord, NoMe
     })
 }
 
-// The bytes of a commit, under its id.
-fn content_of(alloc: Global, commit: &CommitRecord) -> Result<File, NoMemory>
-    ensures { IfOk result (λ file. file ≡ file_of (commit_spelling commit.now)) }
+/// The bytes of a commit, under its id.
+pub fn commit_file(alloc: Global, commit: &CommitRecord) -> Result<File, NoMemory>
+    ensures spelled { IfOk result (λ file. file ≡ file_of (commit_spelling commit.now)) }
+    ensures limits { OnOk result (IsSpelledCommit commit.now) }
 {
     let bytes = commit_bytes(alloc, commit)?;
     Ok(File {

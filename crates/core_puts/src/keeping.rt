@@ -2,7 +2,7 @@
 ghost use Rattle.std.specs.Prelude.{◌≡◌, ◌<◌, ◌++◌, ◌∷◌, [], vec_capacity, vec_len};
 ghost use Rattle.core_state.specs.Counts.{AreFew};
 ghost use Rattle.core_state.specs.LakeStates.{lake_value};
-ghost use Rattle.core_puts.specs.KeptChanges.{Keeps};
+ghost use Rattle.core_puts.specs.KeptChanges.{Keeps, Stays, unmade};
 
 use keeper::{Keeper, Put};
 use lake_base::Trouble;
@@ -21,9 +21,11 @@ pub fn keep<K: Keeper>(
     puts: Vec<Put>,
 ) -> Result<(), StepFault>
     requires few { AreFew (lake_value present.old) }
-    ensures { Keeps (record { kept = K.kept; faults = K.faults; calls = K.calls }) by operation puts.items result
+    ensures kept { Keeps (record { kept = K.kept; faults = K.faults; calls = K.calls }) by
+        (unmade operation puts.items) result
         (record { keeper = keeper.old; history = history.old.items; present = present.old })
         (record { keeper = keeper.new; history = history.new.items; present = present.new }) }
+    ensures room { Stays result present.old present.new }
 {
     history.reserve(1)?;
     match keeper.put_all(puts.as_slice()) {

@@ -5,7 +5,7 @@
 //! - `pushing`: puts that are appended to others; `parts`: what is put of a branch; `files`: commits, and the files of
 //!   their trees; `removing`: the changes of a branch that a reset drops.
 //! - `keeping`: the puts are made by one call, and then the entry is appended: accepted, or the fault of the store.
-//! - `commits`: the first commit of a repository, its tree, and the bytes of both; `first_repository`: a new
+//! - `commits`: the bytes of a commit, and the first one of a repository with its tree; `first_repository`: a new
 //!   repository; `lakes`: the fresh lake, and the puts by which it is kept.
 //! - `first_laws`: they stand for those of the one-thread lake, so a history that begins with the fresh lake begins
 //!   with the one of `lake_model`.
@@ -32,7 +32,7 @@ pub mod repositories;
 pub mod tags;
 
 pub use branches::{create_branch_puts, delete_branch_puts, reset_puts, seal_puts};
-pub use commits::{FirstCommit, first_commit};
+pub use commits::{FirstCommit, commit_file, first_commit};
 pub use first_laws::laws_of_founding;
 pub use first_repository::new_repository;
 pub use heads::new_head_puts;

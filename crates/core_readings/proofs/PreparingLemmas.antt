@@ -9,7 +9,7 @@ use Rattle.lake_model.specs.declared.reply.Sides.{Sides}
 use Rattle.lake_model.specs.Preparing.{PreparedValue, expired_source, preparation, prepare_reply}
 use Rattle.lake_model.specs.Refusals.{Gives, unless_refused}
 use Rattle.lake_model.specs.State.{Branch, Repository}
-use Rattle.lake_model.specs.Versions.{VersionsGiven}
+use Rattle.lake_model.specs.Versions.{VersionsGiven, branch_version, settings_version}
 use Rattle.core_state.specs.declared.branch.BranchState.{BranchState}
 use Rattle.core_state.specs.declared.repository.RepositoryState.{RepositoryState}
 use Rattle.core_state.specs.BranchStates.{branch_value}
@@ -17,7 +17,6 @@ use Rattle.core_state.specs.Counts.{HasVersions}
 use Rattle.core_state.specs.LakeStates.{LakeStateValue, state_of}
 use Rattle.core_state.specs.RepositoryStates.{repository_value}
 use Rattle.core_readings.proofs.PlacesLemmas.{branch_at, found_branch, found_repository, repository_at}
-use Rattle.core_readings.specs.Gathering.{gathered_value}
 use Rattle.core_readings.specs.Preparations.{AreCommits, HasSides}
 
 -- ---- the commits of a merge or a pick
@@ -82,15 +81,13 @@ module _ (l : LakeStateValue) (given : VersionsGiven) (repo branch : List ℕ) (
           → Err fault ≡ prepare_reply (state_of l) given repo branch sides
       no_source fault refusal = refused _ _ fault refusal ∙ at_branch
 
-      -- by the versions that were given
-      versions : HasVersions given l
-          → gathered_value l (repository_value r) (branch_value b) sides ≡ preparation (state_of l) given repo branch sides (repository_at r) (branch_at b)
-      versions has =
-          let version = sym (has.branches repo (repository_value r) branch (branch_value b) (sym there) (sym is)) in
-          let settings = sym (has.settings repo (repository_value r) (sym there)) in
-          λ i. record (gathered_value l (repository_value r) (branch_value b) sides) { version = version i; settings = settings i }
-
-      -- the answer
-      pub prepared_there : HasVersions given l → Ok tt ≡ unless_refused (option_map_or (expired_source (repository_at r)) sides None) (tt {0})
-          → Ok (gathered_value l (repository_value r) (branch_value b) sides) ≡ prepare_reply (state_of l) given repo branch sides
-      prepared_there has live = ap Ok (versions has) ∙ accepted _ _ live ∙ at_branch
+      -- the answer, by the versions that were given
+      pub prepared_there : HasVersions given l → (p : PreparedValue)
+          → (branch_version given repo branch ≡ (branch_value b).version → settings_version given repo ≡ (repository_value r).settings
+          → p ≡ preparation (state_of l) given repo branch sides (repository_at r) (branch_at b))
+          → Ok tt ≡ unless_refused (option_map_or (expired_source (repository_at r)) sides None) (tt {0})
+          → Ok p ≡ prepare_reply (state_of l) given repo branch sides
+      prepared_there has p made live =
+          let version = has.branches repo (repository_value r) branch (branch_value b) (sym there) (sym is) in
+          let settings = has.settings repo (repository_value r) (sym there) in
+          ap Ok (made version settings) ∙ accepted _ _ live ∙ at_branch

@@ -21,7 +21,7 @@ use Rattle.core_state.specs.Index.{HasIndex}
 use Rattle.core_state.specs.LakeStates.{LakeStateValue, state_of}
 use Rattle.core_state.specs.RepositoryStates.{RepositoryStateValue, repository_of}
 use Rattle.core_readings.proofs.EntryLemmas.{map_there}
-use Rattle.core_readings.specs.Trees.{HasRanges, HasTrees, IsCutBy, IsFileOf, IsTreeOf}
+use Rattle.core_readings.specs.Trees.{HasRanges, HasTrees, IsCutBy, IsTreeFile, IsTreeOf}
 
 -- ---- in a sound lake with its index
 module _ (l : LakeStateValue) (sound : IsSound (state_of l)) (index : HasIndex l) (repo : List ℕ) (r : RepositoryStateValue)
@@ -31,13 +31,13 @@ module _ (l : LakeStateValue) (sound : IsSound (state_of l)) (index : HasIndex l
       sound.repositories repo (repository_of r) (get_map_values repository_of l.repositories repo ∙ ap (option_map repository_of) is)
 
   -- a file of a tree is found by its name
-  found : (file : List ℕ) → IsFileOf r file → get l.names.files (file_name file).0 ≡ Some file
+  found : (file : List ℕ) → IsTreeFile r file → get l.names.files (file_name file).0 ≡ Some file
   found file of =
       let mapped = contains_map_values (λ (tree : TreeValue). tree.map) r.trees of.id.0 ∙ ap is_some of.there in
       let cut = index.trees repo r of.id of.tree is of.there ∙ ap (files l.cut) (map_there r of.id of.tree (sym of.there)) in
       index.files repo r of.id file is (sound_there.maps of.id mapped) (subst (λ all. Contains all file) cut of.within)
 
-  named : (file other : List ℕ) → IsFileOf r file → IsFileOf r other → file_name file ≡ file_name other → file ≡ other
+  named : (file other : List ℕ) → IsTreeFile r file → IsTreeFile r other → file_name file ≡ file_name other → file ≡ other
   named file other one two same =
       let both : Some file ≡ Some other = sym (found file one) ∙ ap (λ (name : Digest). get l.names.files name.0) same ∙ found other two in
       cc
@@ -92,7 +92,7 @@ module _ (r : RepositoryStateValue) where
       → Agree (record { base = base; source = source; dest = dest })
   agree trees base source dest in_base in_source in_dest file other has others same = trees.named file other (one file has) (one other others) same
     where
-      one : (file : List ℕ) → Contains (drop 1 base.files ++ (drop 1 source.files ++ drop 1 dest.files)) file → IsFileOf r file
+      one : (file : List ℕ) → Contains (drop 1 base.files ++ (drop 1 source.files ++ drop 1 dest.files)) file → IsTreeFile r file
       one file has =
           elim (Contains-append_cases (drop 1 base.files) (drop 1 source.files ++ drop 1 dest.files) file has) [
             | inl here ↦ in_base file here

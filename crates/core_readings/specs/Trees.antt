@@ -11,8 +11,13 @@ use Rattle.meta_range.specs.Ranges.{TreeValue}
 use Rattle.lake_model.specs.State.{HasCommit}
 use Rattle.core_state.specs.RepositoryStates.{RepositoryStateValue, repository_of}
 
+-- a tree is that of a map, by a cut
+pub record IsCutTree (cut : Cut) (objects : KeyMapValue) (tree : TreeValue) : Type 0 where
+  pub map : tree.map ≡ objects
+  pub files : tree.files ≡ files cut objects
+
 -- a file of one of the repository's trees
-pub record IsFileOf (r : RepositoryStateValue) (file : List ℕ) : Type 0 where
+pub record IsTreeFile (r : RepositoryStateValue) (file : List ℕ) : Type 0 where
   pub id : Digest
   pub tree : TreeValue
   pub there : get r.trees id.0 ≡ Some tree
@@ -21,7 +26,7 @@ pub record IsFileOf (r : RepositoryStateValue) (file : List ℕ) : Type 0 where
 -- each commit has its tree, and files of one name among the trees have the same bytes
 pub record HasTrees (r : RepositoryStateValue) : Type 0 where
   pub there : (id : Digest) → HasCommit (repository_of r) id → IsSome (get r.trees id.0)
-  pub named : (file other : List ℕ) → IsFileOf r file → IsFileOf r other → file_name file ≡ file_name other → file ≡ other
+  pub named : (file other : List ℕ) → IsTreeFile r file → IsTreeFile r other → file_name file ≡ file_name other → file ≡ other
 
 -- the trees have the files that the cut gives of their maps
 abbrev pub IsCutBy : Cut → RepositoryStateValue → Type 0
@@ -29,7 +34,7 @@ IsCutBy cut r = (id : Digest) (tree : TreeValue) → get r.trees id.0 ≡ Some t
 
 -- the range files of a tree are files of the repository's trees
 abbrev pub HasRanges : RepositoryStateValue → TreeValue → Type 0
-HasRanges r tree = (file : List ℕ) → Contains (drop 1 tree.files) file → IsFileOf r file
+HasRanges r tree = (file : List ℕ) → Contains (drop 1 tree.files) file → IsTreeFile r file
 
 -- a tree of this map, with such range files
 pub record IsTreeOf (r : RepositoryStateValue) (objects : KeyMapValue) (tree : TreeValue) : Type 0 where

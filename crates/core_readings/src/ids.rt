@@ -14,7 +14,7 @@ use lake_laws::soundness::law_of_soundness;
 
 /// A sound lake reads by the id of a commit the commit's map, and goes on to read just this map by it, whatever legal
 /// entries follow. (A law: it does nothing.)
-pub fn law_of_ids()
+pub fn law_of_reading_by_id()
     ensures now { (state : State) (repo : List ℕ) (r : Repository) (id : Digest) (at : Bool)
         → IsSound state → get state.repositories repo ≡ Some r → HasCommit r id
         → expression_map r (by_id id at) ≡ Ok (map_of r id) }

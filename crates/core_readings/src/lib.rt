@@ -27,7 +27,7 @@ mod sides;
 pub mod targets;
 
 pub use entries::{entry_at, entry_on, map_entry};
-pub use ids::law_of_ids;
+pub use ids::law_of_reading_by_id;
 pub use logs::log;
 pub use naming::{find, names, repositories};
 pub use objects::look;

@@ -1,18 +1,17 @@
 //! What a new head of a branch is made from is gathered.
-ghost use Rattle.std.specs.Prelude.{◌≡◌, [], IfOk, IfSome, option_copied};
+ghost use Rattle.std.specs.Prelude.{◌≡◌, [], ℕ, List, IfOk, IfSome, option_copied};
 ghost use Rattle.std.specs.Option.{unwrap_or};
 ghost use Rattle.lake_format.specs.Cutting.{files};
-ghost use Rattle.lake_model.specs.Preparing.{prepare_reply};
+ghost use Rattle.lake_model.specs.Preparing.{preparation, prepare_reply};
 ghost use Rattle.lake_model.specs.Refusals.{Gives};
 ghost use Rattle.lake_model.specs.Soundness.{IsSound};
 ghost use Rattle.lake_model.specs.State.{HasCommit};
-ghost use Rattle.lake_model.specs.Versions.{VersionsGiven};
-ghost use Rattle.core_state.specs.BranchStates.{branch_value};
+ghost use Rattle.lake_model.specs.Versions.{VersionsGiven, branch_version, settings_version};
+ghost use Rattle.core_state.specs.BranchStates.{branch_of, branch_value};
 ghost use Rattle.core_state.specs.Counts.{HasVersions};
 ghost use Rattle.core_state.specs.Index.{HasIndex};
 ghost use Rattle.core_state.specs.LakeStates.{lake_value, state_of};
 ghost use Rattle.core_state.specs.RepositoryStates.{repository_of, repository_value};
-ghost use Rattle.core_readings.specs.Gathering.{gathered_value};
 ghost use Rattle.core_readings.specs.Preparations.{AreCommits, HasCutSides, HasSides, prepared_answer, prepared_value};
 ghost use Rattle.core_readings.specs.Trees.{HasTrees, IsCutBy};
 
@@ -59,7 +58,7 @@ pub fn prepare(
     Ok(prepared)
 }
 
-// What is handed out of a branch.
+// What is handed out of a branch, by the versions that it and its repository have.
 fn gathered(
     alloc: Global,
     lake: &LakeState,
@@ -71,8 +70,11 @@ fn gathered(
     requires cut { IsCutBy (lake_value lake.now).cut (repository_value repository.now) }
     requires head { HasCommit (repository_of (repository_value repository.now)) branch.now.record.head }
     requires sides { IfSome (option_copied sides) (AreCommits (repository_of (repository_value repository.now))) }
-    ensures value { IfOk result (λ p. prepared_value p ≡ gathered_value (lake_value lake.now)
-        (repository_value repository.now) (branch_value branch.now) (option_copied sides.entry)) }
+    ensures value { IfOk result (λ p. (given : VersionsGiven) (repo name : List ℕ)
+        → branch_version given repo name ≡ (branch_value branch.now).version
+        → settings_version given repo ≡ (repository_value repository.now).settings
+        → prepared_value p ≡ preparation (state_of (lake_value lake.now)) given repo name (option_copied sides.entry)
+        (repository_of (repository_value repository.now)) (branch_of (branch_value branch.now))) }
     ensures dest { IfOk result (λ p. IfSome p.trio (λ trio. trio.dest ≡ p.tree.value)) }
     ensures tree { IfOk result (λ p. p.tree.value.files ≡ files p.cut p.tree.value.map) }
     ensures sides { IfOk result (λ p. IfSome p.trio (HasCutSides p.cut)) }

@@ -23,7 +23,8 @@ use Rattle.lake_model.specs.Steps.{swap_rule}
 use Rattle.lake_model.specs.Versions.{VersionsGiven}
 use Rattle.core_readings.specs.Preparations.{AreCommits, HasSides}
 use Rattle.lake_core.specs.HeadConditions.{IsReadyFor, IsReadyOn}
-use Rattle.head_drafts.specs.Drafts.{DraftedMap, IsDraft, IsCutTree, drafted_map, unchanged_fault, no_changes}
+use Rattle.core_readings.specs.Trees.{IsCutTree}
+use Rattle.head_drafts.specs.Drafts.{DraftedMap, IsDraft, drafted_map, unchanged_fault, no_changes}
 use Rattle.head_drafts.specs.HeadDrafts.{IsHeadDraft, IsHeadReply, sides_of, strategy_of}
 use Rattle.head_drafts.specs.declared.fault.DraftFault.{DraftFault}
 use Rattle.head_drafts.specs.declared.fault.DraftFault.TheVariants.{Dirty, HookDenied}
@@ -113,7 +114,7 @@ module _ (state : State) (given : VersionsGiven) (repo branch : List ℕ) (about
       record {
         worth = changes _ _ both.0;
         allowed = allowed r.notes.hooks branch (head_map r b) ((swap_rule kind.Commit about).draft r b) (none_under HookDenied _ both.1);
-        drafted = record { map = is.map; files = is.files };
+        drafted = is;
       }
   ready_on (kind.Merge source strategy) are none is =
       let clean = neither _ _ none in
@@ -130,7 +131,7 @@ module _ (state : State) (given : VersionsGiven) (repo branch : List ℕ) (about
           },
         );
         allowed = allowed r.notes.hooks branch (head_map r b) ((swap_rule (kind.Merge source strategy) about).draft r b) (none_under HookDenied _ open_ones.1);
-        drafted = record { map = is.map; files = is.files };
+        drafted = is;
       }
   ready_on (kind.Pick base source strategy) are none is =
       let clean = neither _ _ none in
@@ -149,7 +150,7 @@ module _ (state : State) (given : VersionsGiven) (repo branch : List ℕ) (about
           },
         );
         allowed = allowed r.notes.hooks branch (head_map r b) ((swap_rule (kind.Pick base source strategy) about).draft r b) (none_under HookDenied _ open_ones.1);
-        drafted = record { map = is.map; files = is.files };
+        drafted = is;
       }
 
 -- what was drafted of what a branch that is there handed out is ready

@@ -5,12 +5,12 @@ use Rattle.lake_values.specs.HookDecisions.{denying_rule}
 use Rattle.lake_values.specs.KeyMap.{KeyMapValue, apply, differences}
 use Rattle.lake_values.specs.Merging.{conflicts, is_refused, merged_map}
 use Rattle.lake_values.specs.declared.commit.Strategy.{Strategy}
-use Rattle.lake_format.specs.Cutting.{files}
 use Rattle.lake_format.specs.declared.cut.Cut.{Cut}
 use Rattle.key_merge.specs.declared.fault.MergeFault.{MergeFault}
 use Rattle.key_merge.specs.declared.fault.MergeFault.TheVariants as merge
 use Rattle.meta_range.specs.Ranges.{TreeValue}
 use Rattle.lake_model.specs.Preparing.{PreparedValue}
+use Rattle.core_readings.specs.Trees.{IsCutTree}
 use Rattle.head_drafts.specs.DraftMaps.{least_difference}
 use Rattle.head_drafts.specs.declared.fault.DraftFault.{DraftFault}
 use Rattle.head_drafts.specs.declared.fault.DraftFault.TheVariants.{Dirty, NoChanges, Conflicts, HookDenied, NoMemory}
@@ -79,11 +79,6 @@ drafted_merge strategy maps p branch metadata =
 abbrev pub drafted_map : Strategy → PreparedValue → List ℕ → List (List ℕ × List ℕ) → DraftedMap
 drafted_map strategy p branch metadata =
     option_map_or (λ maps. drafted_merge strategy maps p branch metadata) p.sides (drafted_commit p branch metadata)
-
--- a tree is that of a map, by a cut
-pub record IsCutTree (cut : Cut) (objects : KeyMapValue) (tree : TreeValue) : Type 0 where
-  pub map : tree.map ≡ objects
-  pub files : tree.files ≡ files cut objects
 
 -- A test passed where no cause holds, and was refused by the cause that does; or memory ran out.
 abbrev pub IsTest : {X : Type 0} → Option DraftFault → Result X DraftFault → Type 0

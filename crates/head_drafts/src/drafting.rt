@@ -14,7 +14,7 @@ use crate::maps::{differences_of, first_path, map_of};
 use hook_rules::{Decision, Event, decide};
 use key_merge::merge;
 use lake_base::{RefName, TryCopy};
-use core_readings::Prepared;
+use lake_core::Prepared;
 use lake_values::{Changes, HookRules, KeyMap, Pairs, Strategy};
 use meta_range::{Tree, Trio};
 use std::alloc::Global;

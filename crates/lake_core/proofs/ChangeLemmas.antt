@@ -8,8 +8,9 @@ use Rattle.lake_laws.proofs.HistoryLemmas.{replay-append}
 use Rattle.core_state.specs.LakeStates.{lake_value, state_of}
 use Rattle.core_standing.specs.Standing.{versions_since}
 use Rattle.core_puts.specs.KeeperViews.{KeeperView}
+use Rattle.core_puts.specs.KeptChanges.{IsFaulted, IsMade, Making}
 use Rattle.lake_core.specs.Lakes.{LakeValue, state, versions}
-use Rattle.lake_core.specs.Leaving.{IsFaulted, IsMade, Making}
+use Rattle.lake_core.specs.Leaving.{parts_of}
 
 count_more : (given : VersionsGiven) (history : List HistoryEntry) (entry : HistoryEntry)
     → count_versions given (history ++ entry ∷ []) ≡ versions_after (count_versions given history) entry
@@ -28,17 +29,17 @@ module _ {K : Type 0} (old new : LakeValue K) (entry : HistoryEntry) (opened : n
       ∙ count_more _ old.history entry
 
 module _ {K : Type 0} (view : KeeperView K) (by : By) (made : Making) (old new : LakeValue K) where
-  pub change_made : IsMade view by made old new
+  pub change_made : new.opened ≡ old.opened → IsMade view by made (parts_of old) (parts_of new)
       → (state new ≡ after (state old) (accepted_entry by made.operation))
       × (versions new ≡ versions_after (versions old) (accepted_entry by made.operation))
-  change_made is = (
-    state_more old new (accepted_entry by made.operation) is.opened is.history,
-    versions_more old new (accepted_entry by made.operation) is.opened is.history,
+  change_made opened is = (
+    state_more old new (accepted_entry by made.operation) opened is.history,
+    versions_more old new (accepted_entry by made.operation) opened is.history,
   )
 
-  pub change_faulted : IsFaulted view by made old new
+  pub change_faulted : new.opened ≡ old.opened → IsFaulted view by made (parts_of old) (parts_of new)
       → (state new ≡ after (state old) (faulted_entry by made.operation)) × (versions new ≡ versions old)
-  change_faulted is = (
-    state_more old new (faulted_entry by made.operation) is.opened is.history,
-    versions_more old new (faulted_entry by made.operation) is.opened is.history,
+  change_faulted opened is = (
+    state_more old new (faulted_entry by made.operation) opened is.history,
+    versions_more old new (faulted_entry by made.operation) opened is.history,
   )

@@ -14,9 +14,10 @@ use Rattle.lake_model.specs.declared.history.HistoryEntry.{HistoryEntry}
 use Rattle.lake_model.specs.declared.history.Operation.{Operation}
 use Rattle.lake_model.specs.History.{accepted_entry, faulted_entry}
 use Rattle.core_puts.specs.KeeperViews.{KeeperView}
+use Rattle.core_puts.specs.KeptChanges.{Making, Parts}
 use Rattle.lake_core.specs.Lakes.{LakeValue}
 use Rattle.lake_core.specs.Opening.{IsOpened}
-use Rattle.lake_core.specs.Leaving.{Leaves, Making}
+use Rattle.lake_core.specs.Leaving.{Leaves}
 use Rattle.lake_core.specs.Faults.{HasFault}
 use Rattle.lake_core.specs.Runs.{IsRun, Start, Next}
 use Rattle.lake_core.proofs.RunLemmas.{leaves_later, run_later}
@@ -60,12 +61,12 @@ module _ {K : Type 0} (view : KeeperView K) where
   fault_left : (by : By) (made : Option Making) (answer : Result (Unit {0}) StepFault) (old new : LakeValue K)
       → Leaves view by made answer old new → HasFault new.history → HasCountedFault old new
   fault_left by (Some m) (Ok answer) old new left has =
-      inl (accepted_no_fault old.history by m.operation (subst HasFault left.history has))
-  fault_left by None (Ok answer) old new left has = absurd left
-  fault_left by (Some m) (Err StoreFault) old new left has = inr left.rose
-  fault_left by None (Err StoreFault) old new left has = absurd left
-  fault_left by made (Err NoMemory) old new left has = inl (subst HasFault left.history has)
-  fault_left by made (Err fault) old new left has = inl (subst (λ (l : LakeValue K). HasFault l.history) left has)
+      inl (accepted_no_fault old.history by m.operation (subst HasFault left.1.history has))
+  fault_left by None (Ok answer) old new left has = absurd left.1
+  fault_left by (Some m) (Err StoreFault) old new left has = inr left.1.rose
+  fault_left by None (Err StoreFault) old new left has = absurd left.1
+  fault_left by made (Err NoMemory) old new left has = inl (subst HasFault left.1.history has)
+  fault_left by made (Err fault) old new left has = inl (subst (λ (p : Parts K). HasFault p.history) left.1 has)
 
   -- after a run
   fault_run : (first : LakeValue K) {last : LakeValue K} → IsRun view first last → HasFault last.history

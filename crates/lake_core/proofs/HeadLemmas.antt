@@ -11,7 +11,7 @@ use Rattle.lake_values.specs.Ancestry.{commit_of}
 use Rattle.lake_values.specs.Commit.{AboutValue, CommitRecordValue}
 use Rattle.meta_range.specs.Ranges.{TreeValue}
 use Rattle.lake_model.specs.declared.fault.StepFault.{StepFault}
-use Rattle.lake_model.specs.declared.fault.StepFault.TheVariants.{Stopped, HistoryFull, NoRepo, NoRef, NoParent, NoNote, Exists, DefaultBranch, Protected, Changed, NoPath, Expired, NameClash, StoreFault, NoMemory}
+use Rattle.lake_model.specs.declared.fault.StepFault.TheVariants.{Changed, StoreFault, NoMemory}
 use Rattle.lake_model.specs.declared.history.By.{By}
 use Rattle.lake_model.specs.declared.history.HistoryEntry.{HistoryEntry}
 use Rattle.lake_model.specs.declared.reply.SwapKind.{SwapKind}
@@ -31,17 +31,15 @@ use Rattle.core_state.specs.RepositoryStates.{RepositoryStateValue, repository_o
 use Rattle.core_changes.specs.LakeChanges.{after_new_head}
 use Rattle.core_puts.specs.Puts.{new_head_puts}
 use Rattle.core_standing.specs.Standing.{MayMake, Stands, versions_since}
-use Rattle.core_puts.specs.KeptChanges.{Parts}
+use Rattle.core_puts.specs.KeptChanges.{IsFaulted, IsMade, LeavesParts, Making, Parts}
 use Rattle.core_puts.specs.KeeperViews.{KeeperView}
 use Rattle.core_commits.specs.KeptHeads.{MayHave, MayHaveIn}
-use Rattle.core_commits.specs.Making.{HeadMaking, IsHeadFaulted, IsHeadMade, LeavesHead, head_answer, head_making}
+use Rattle.core_commits.specs.Making.{MayHaveTried, head_answer, head_making}
 use Rattle.core_commits.specs.HeadOperations.{draft_for}
-use Rattle.core_commits.specs.Testing.{HasTreeFor}
+use Rattle.core_commits.specs.Testing.{HasTreeFor, drafted_in}
 use Rattle.core_commits.proofs.PlaceLemmas.{in_state, on_state, same_some, where_there}
 use Rattle.lake_core.specs.HeadConditions.{IsReadyFor, IsReadyOn}
-use Rattle.lake_core.specs.Lakes.{LakeValue}
-use Rattle.lake_core.specs.Makings.{swap as swap_making}
-use Rattle.lake_core.specs.Leaving.{IsFaulted, IsMade, Leaves}
+use Rattle.lake_core.specs.Leaving.{Leaves}
 
 -- ---- no cause
 
@@ -73,13 +71,13 @@ both_so false q a b = absurd cc
 
 -- ---- one that is made
 
--- of something that was found
-some_mapped : {X Y : Type 0} (f : X → Y) (P : X → Type 0) (Q : Y → Type 0) (o : Option X) → ((x : X) → P x → Q (f x)) → IsSomeAnd o P
-    → IsSomeAnd (option_map f o) Q
-some_mapped f P Q (Some x) each is = each x is
-some_mapped f P Q None each is = absurd is
+-- what holds of something that was found, and of what is made of it
+both_found : {X Y : Type 0} (f : X → Y) (P : Y → Type 0) (Q : X → Type 0) (o : Option X) → IsSomeAnd (option_map f o) P → IsSomeAnd o Q
+    → IsSomeAnd o (λ x. P (f x) × Q x)
+both_found f P Q (Some x) made found = (made, found)
+both_found f P Q None made found = absurd made
 
--- what holds of a new head that is made, and of the repository and the branch on which it is
+-- what holds of the repository and the branch on which a new head is made
 pub record IsMadeOn (l : LakeStateValue) (repo branch : List ℕ) (P : RepositoryStateValue → BranchStateValue → Type 0) : Type 0 where
   pub r : RepositoryStateValue
   pub b : BranchStateValue
@@ -87,33 +85,22 @@ pub record IsMadeOn (l : LakeStateValue) (repo branch : List ℕ) (P : Repositor
   pub on : get r.branches branch ≡ Some b
   pub holds : P r b
 
-module _ (repo branch : List ℕ) (swap : SwapKind) (about : AboutValue) (present : LakeState) (P : HeadMaking → Type 0) where
-  abbrev lake : LakeStateValue
-  lake = lake_value present
-
-  abbrev making_of : NewCommit → HeadMaking
-  making_of new = record {
-    commit = new;
-    operation = swap_operation repo branch swap about;
-    change = after_new_head repo branch new;
-    puts = new_head_puts repo branch new present.names.files lake;
-  }
-
+module _ (repo branch : List ℕ) (swap : SwapKind) (about : AboutValue) (lake : LakeStateValue) (P : NewCommit → Type 0) where
   abbrev of : RepositoryStateValue → BranchStateValue → NewCommit
   of r b = commit_of_draft lake.cut r.commits (draft_for swap about r b)
 
   on_branch : (r : RepositoryStateValue) → get lake.repositories repo ≡ Some r → (o : Option BranchStateValue) → get r.branches branch ≡ o
-      → IsSomeAnd (option_map making_of (option_map (of r) o)) P → IsMadeOn lake repo branch (λ r b. P (making_of (of r b)))
+      → IsSomeAnd (option_map (of r) o) P → IsMadeOn lake repo branch (λ r b. P (of r b))
   on_branch r at None on is = absurd is
   on_branch r at (Some b) on is = record { r = r; b = b; in_lake = at; on = on; holds = is }
 
   in_lake : (o : Option RepositoryStateValue) → get lake.repositories repo ≡ o
-      → IsSomeAnd (option_map making_of (option_and_then (λ r. option_map (of r) (get r.branches branch)) o)) P
-      → IsMadeOn lake repo branch (λ r b. P (making_of (of r b)))
+      → IsSomeAnd (option_and_then (λ r. option_map (of r) (get r.branches branch)) o) P
+      → IsMadeOn lake repo branch (λ r b. P (of r b))
   in_lake None at is = absurd is
   in_lake (Some r) at is = on_branch r at (get r.branches branch) refl is
 
-  pub made_on : IsSomeAnd (head_making repo branch swap about present) P → IsMadeOn lake repo branch (λ r b. P (making_of (of r b)))
+  pub made_on : IsSomeAnd (drafted_in repo branch swap about lake) P → IsMadeOn lake repo branch (λ r b. P (of r b))
   made_on is = in_lake (get lake.repositories repo) refl is
 
 -- ---- it may be made
@@ -210,99 +197,57 @@ module _ {K : Type 0} (view : KeeperView K) (law : TellsOfHeads) (opened : LakeS
   same_stands : (after : Parts K) → after ≡ before → Stands opened after.history (lake_value after.present)
   same_stands after same = subst (λ (p : Parts K). Stands opened p.history (lake_value p.present)) (sym same) stands
 
+  -- the change that a commit makes as a new head
+  abbrev making_of : NewCommit → Making
+  making_of new = record {
+    operation = swap_operation repo branch swap about;
+    after = after_new_head repo branch new;
+    puts = new_head_puts repo branch new before.present.names.files was;
+  }
+
+  -- where one was made or tried, its repository and its branch are there
+  found : (P : Making → Type 0) → IsSomeAnd (head_making repo branch swap about before.present) P
+      → IsSomeAnd (drafted_in repo branch swap about was) (λ new. MayHaveIn repo new was)
+      → IsMadeOn was repo branch
+      (λ r b. P (making_of (commit_of_draft was.cut r.commits (draft_for swap about r b))) × MayHaveIn repo (commit_of_draft was.cut r.commits (draft_for swap about r b)) was)
+  found P made may =
+      made_on repo branch swap about was (λ new. P (making_of new) × MayHaveIn repo new was)
+      (both_found making_of P (λ new. MayHaveIn repo new was) (drafted_in repo branch swap about was) made may)
+
   pub stands_after : (answer : Answer)
       → IsSwapReply (state_of was) (versions_since opened before.history) repo branch version settings (swap_rule swap about) (head_answer answer)
-      → (after : Parts K) → LeavesHead view by repo (head_making repo branch swap about before.present) answer before after
+      → (after : Parts K) → LeavesParts view by (head_making repo branch swap about before.present) answer before after
+      → MayHaveTried repo (drafted_in repo branch swap about was) answer was
       → Stands opened after.history (lake_value after.present)
-  stands_after (Ok answer) reply after leaves =
-      let made = made_on repo branch swap about before.present (λ m. IsHeadMade view by repo m before after) leaves in
+  stands_after (Ok answer) reply after leaves tried =
+      let made = found (λ m. IsMade view by m before after) leaves tried in
       let may =
       may_head law opened before.history was stands by repo branch version settings swap about tree ready reply.0 reply.1 reply.2.0 made.r made.b
-      made.in_lake made.on made.holds.may in
-      subst (λ h. Stands opened h (lake_value after.present)) (sym made.holds.kept.history)
+      made.in_lake made.on made.holds.1 in
+      subst (λ h. Stands opened h (lake_value after.present)) (sym made.holds.0.history)
       (subst (λ n. Stands opened (before.history ++ accepted_entry by (swap_operation repo branch swap about) ∷ []) n)
-      (sym made.holds.kept.present) may.accepted)
-  stands_after (Err StoreFault) reply after leaves =
-      let made = made_on repo branch swap about before.present (λ m. IsHeadFaulted view by repo m before after) leaves in
+      (sym made.holds.0.present) may.accepted)
+  stands_after (Err StoreFault) reply after leaves tried =
+      let made = found (λ m. IsFaulted view by m before after) leaves tried in
       let may =
       may_head law opened before.history was stands by repo branch version settings swap about tree ready reply.0 reply.1 reply.2 made.r made.b
-      made.in_lake made.on made.holds.may in
-      subst (λ h. Stands opened h (lake_value after.present)) (sym made.holds.failed.history)
+      made.in_lake made.on made.holds.1 in
+      subst (λ h. Stands opened h (lake_value after.present)) (sym made.holds.0.history)
       (subst (λ n. Stands opened (before.history ++ faulted_entry by (swap_operation repo branch swap about) ∷ []) n)
-      (sym made.holds.failed.present) may.faulted)
-  stands_after (Err NoMemory) reply after leaves =
+      (sym made.holds.0.present) may.faulted)
+  stands_after (Err NoMemory) reply after leaves tried =
       subst (λ h. Stands opened h (lake_value after.present)) (sym leaves.history)
       (subst (λ n. Stands opened before.history n) (sym leaves.present) stands)
-  stands_after (Err Stopped) reply after leaves = same_stands after leaves
-  stands_after (Err HistoryFull) reply after leaves = same_stands after leaves
-  stands_after (Err NoRepo) reply after leaves = same_stands after leaves
-  stands_after (Err NoRef) reply after leaves = same_stands after leaves
-  stands_after (Err (NoParent number)) reply after leaves = same_stands after leaves
-  stands_after (Err NoNote) reply after leaves = same_stands after leaves
-  stands_after (Err Exists) reply after leaves = same_stands after leaves
-  stands_after (Err DefaultBranch) reply after leaves = same_stands after leaves
-  stands_after (Err (Protected pattern)) reply after leaves = same_stands after leaves
-  stands_after (Err (Changed version settings)) reply after leaves = same_stands after leaves
-  stands_after (Err NoPath) reply after leaves = same_stands after leaves
-  stands_after (Err (Expired id)) reply after leaves = same_stands after leaves
-  stands_after (Err (NameClash name kept other)) reply after leaves = same_stands after leaves
+  stands_after (Err fault) reply after leaves tried = same_stands after leaves
 
 -- ---- what it leaves of the lake
 
-module _ {K : Type 0} (view : KeeperView K) (by : By) (repo branch : List ℕ) (swap : SwapKind) (about : AboutValue) (opened : LakeState)
-    (before after : Parts K) where
-  abbrev lake_of : Parts K → LakeValue K
-  lake_of p = record { opened = opened; history = p.history; present = p.present; keeper = p.keeper }
-
-  pub leaves_lake : (answer : Result (ℕ × Digest × CommitRecordValue) StepFault)
-      → LeavesHead view by repo (head_making repo branch swap about before.present) answer before after
-      → Leaves view by (swap_making repo branch swap about before.present) answer (lake_of before) (lake_of after)
-  leaves_lake (Ok answer) leaves =
-      some_mapped _ (λ m. IsHeadMade view by repo m before after) (λ m. IsMade view by m (lake_of before) (lake_of after))
-      (head_making repo branch swap about before.present)
-      (λ m made. record {
-        opened = refl;
-        history = made.kept.history;
-        present = made.kept.present;
-        kept = made.kept.kept;
-        once = made.kept.once;
-        quiet = made.kept.quiet;
-        keeper = made.kept.keeper;
-      }) leaves
-  leaves_lake (Err StoreFault) leaves =
-      some_mapped _ (λ m. IsHeadFaulted view by repo m before after) (λ m. IsFaulted view by m (lake_of before) (lake_of after))
-      (head_making repo branch swap about before.present)
-      (λ m made. record {
-        opened = refl;
-        history = made.failed.history;
-        present = made.failed.present;
-        kept = made.failed.kept;
-        once = made.failed.once;
-        rose = made.failed.rose;
-        keeper = made.failed.keeper;
-      }) leaves
-  leaves_lake (Err NoMemory) leaves = record {
-    opened = refl;
-    history = leaves.history;
-    present = leaves.present;
-    kept = leaves.kept;
-    calls = leaves.calls;
-    quiet = leaves.quiet;
-    keeper = leaves.keeper;
-  }
-  leaves_lake (Err Stopped) leaves = ap lake_of leaves
-  leaves_lake (Err HistoryFull) leaves = ap lake_of leaves
-  leaves_lake (Err NoRepo) leaves = ap lake_of leaves
-  leaves_lake (Err NoRef) leaves = ap lake_of leaves
-  leaves_lake (Err (NoParent number)) leaves = ap lake_of leaves
-  leaves_lake (Err NoNote) leaves = ap lake_of leaves
-  leaves_lake (Err Exists) leaves = ap lake_of leaves
-  leaves_lake (Err DefaultBranch) leaves = ap lake_of leaves
-  leaves_lake (Err (Protected pattern)) leaves = ap lake_of leaves
-  leaves_lake (Err (Changed version settings)) leaves = ap lake_of leaves
-  leaves_lake (Err NoPath) leaves = ap lake_of leaves
-  leaves_lake (Err (Expired id)) leaves = ap lake_of leaves
-  leaves_lake (Err (NameClash name kept other)) leaves = ap lake_of leaves
+-- it was opened as before
+pub leaves_lake : {K X : Type 0} (view : KeeperView K) (by : By) (made : Option Making) (opened : LakeState) (before after : Parts K)
+    (answer : Result X StepFault) → LeavesParts view by made answer before after
+    → Leaves view by made answer (record { opened = opened; history = before.history; present = before.present; keeper = before.keeper })
+    (record { opened = opened; history = after.history; present = after.present; keeper = after.keeper })
+leaves_lake view by made opened before after answer left = (refl, left)
 
 -- ---- the condition
 

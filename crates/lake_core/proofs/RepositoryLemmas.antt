@@ -17,7 +17,7 @@ use Rattle.core_changes.specs.LakeRoom.{HasRepositoryRoom}
 use Rattle.core_changes.specs.NewRepositories.{IsNew}
 use Rattle.core_state.specs.LakeStates.{LakeStateValue}
 use Rattle.core_state.specs.declared.lake.LakeState.{LakeState}
-use Rattle.core_puts.specs.KeptChanges.{Keeps, Parts}
+use Rattle.core_puts.specs.KeptChanges.{Keeps, Parts, unmade}
 use Rattle.core_puts.specs.KeeperViews.{KeeperView}
 use Rattle.lake_core.specs.ReadyChanges.{IsReadyRepository}
 use Rattle.lake_core.specs.declared.ready.ReadyRepository.{ReadyRepository}
@@ -72,7 +72,7 @@ module _ (s : State) (repo branch : List ℕ) (date : ℕ) where
   -- or the keeper refused it
   pub unkept_creation : {K X : Type 0} (view : KeeperView K) (by : By) (made : Operation) (puts : List Put) (before after : Parts K)
       (x : X) → AsksToCreate {X = X} s repo branch date (Ok x) → (answer : Result ℕ StepFault) (fault : StepFault)
-      → IsErrAnd answer (λ e. e ≡ fault) → Keeps {X = Unit {0}} view by made puts (Err fault) before after
+      → IsErrAnd answer (λ e. e ≡ fault) → Keeps {X = Unit {0}} view by (unmade made puts) (Err fault) before after
       → IsCreateRepositoryReply s repo branch date answer
   unkept_creation view by made puts before after x asks answer fault same keeps = (
     asks.clash,

@@ -8,8 +8,9 @@ use Rattle.lake_model.specs.declared.history.By.{By}
 use Rattle.lake_model.specs.declared.history.HistoryEntry.{HistoryEntry}
 use Rattle.lake_model.specs.History.{accepted_entry, faulted_entry}
 use Rattle.core_puts.specs.KeeperViews.{IsLaterKeeper, KeeperView}
+use Rattle.core_puts.specs.KeptChanges.{Making, Parts}
 use Rattle.lake_core.specs.Lakes.{LakeValue}
-use Rattle.lake_core.specs.Leaving.{Leaves, Making}
+use Rattle.lake_core.specs.Leaving.{Leaves, parts_of}
 use Rattle.lake_core.specs.Runs.{IsRun, Start, Next}
 
 -- whether it was answered Ok, and else why not
@@ -48,19 +49,19 @@ module _ {K : Type 0} (view : KeeperView K) where
       at_most : {a b c : ℕ} → a ≤ b → b ≤ c → a ≤ c
       at_most one two = omega arith
 
-  later_same : (old new : LakeValue K) → new ≡ old → IsLaterKeeper view old.keeper new.keeper
+  later_same : (old new : Parts K) → new ≡ old → IsLaterKeeper view old.keeper new.keeper
   later_same old new same =
-      subst (λ (l : LakeValue K). IsLaterKeeper view old.keeper l.keeper) (sym same) (later_itself old.keeper)
+      subst (λ (p : Parts K). IsLaterKeeper view old.keeper p.keeper) (sym same) (later_itself old.keeper)
 
   -- a change leaves a later keeper
   pub leaves_later : (by : By) (made : Option Making) (answer : Result (Unit {0}) StepFault) (old new : LakeValue K)
       → Leaves view by made answer old new → IsLaterKeeper view old.keeper new.keeper
-  leaves_later by (Some m) (Ok answer) old new left = left.keeper
-  leaves_later by None (Ok answer) old new left = absurd left
-  leaves_later by (Some m) (Err StoreFault) old new left = left.keeper
-  leaves_later by None (Err StoreFault) old new left = absurd left
-  leaves_later by made (Err NoMemory) old new left = left.keeper
-  leaves_later by made (Err fault) old new left = later_same old new left
+  leaves_later by (Some m) (Ok answer) old new left = left.1.keeper
+  leaves_later by None (Ok answer) old new left = absurd left.1
+  leaves_later by (Some m) (Err StoreFault) old new left = left.1.keeper
+  leaves_later by None (Err StoreFault) old new left = absurd left.1
+  leaves_later by made (Err NoMemory) old new left = left.1.keeper
+  leaves_later by made (Err fault) old new left = later_same (parts_of old) (parts_of new) left.1
 
   -- so does a run
   pub run_later : (first : LakeValue K) {last : LakeValue K} → IsRun view first last
@@ -95,14 +96,15 @@ leaves_lake : {K : Type 0} (view : KeeperView K) (by : By) (made : Option Making
     (old new : LakeValue K)
     → Leaves view by made answer old new → IsLaterLake old new
 leaves_lake view by (Some m) (Ok answer) old new left =
-    record { opened = left.opened; later = accepted_entry by m.operation ∷ []; history = left.history }
-leaves_lake view by None (Ok answer) old new left = absurd left
+    record { opened = left.0; later = accepted_entry by m.operation ∷ []; history = left.1.history }
+leaves_lake view by None (Ok answer) old new left = absurd left.1
 leaves_lake view by (Some m) (Err StoreFault) old new left =
-    record { opened = left.opened; later = faulted_entry by m.operation ∷ []; history = left.history }
-leaves_lake view by None (Err StoreFault) old new left = absurd left
+    record { opened = left.0; later = faulted_entry by m.operation ∷ []; history = left.1.history }
+leaves_lake view by None (Err StoreFault) old new left = absurd left.1
 leaves_lake view by made (Err NoMemory) old new left =
-    record { opened = left.opened; later = []; history = left.history ∙ sym (append-nil old.history) }
-leaves_lake view by made (Err fault) old new left = subst (λ l. IsLaterLake old l) (sym left) (itself old)
+    record { opened = left.0; later = []; history = left.1.history ∙ sym (append-nil old.history) }
+leaves_lake {K} view by made (Err fault) old new left =
+    record { opened = left.0; later = []; history = ap (λ (p : Parts K). p.history) left.1 ∙ sym (append-nil old.history) }
 
 -- after a run
 pub run_lake : {K : Type 0} (view : KeeperView K) (first : LakeValue K) {last : LakeValue K} → IsRun view first last

@@ -1,13 +1,13 @@
 -- What each change leaves: the lake stands for its history, and the answer is the reply.
-use Rattle.std.proofs.Common.{◌≡◌, ◌++◌, ◌∷◌, [], ◌+◌, ◌≤◌, ℕ, List, refl, sym, ap, ◌∙◌, subst, inl, inr, arith}
-use Rattle.std.specs.Prelude.{◌⊎◌, Option, Some, None, IfSome, Result, Ok, Err, IsErrAnd, IsOk, IsSomeAnd, MatchResult, is_some}
+use Rattle.std.proofs.Common.{◌≡◌, ◌++◌, ◌∷◌, [], ◌+◌, ℕ, List, refl, sym, ap, ◌∙◌, subst, inl, inr}
+use Rattle.std.specs.Prelude.{◌⊎◌, Option, Some, None, IfSome, Result, Ok, Err, IsErrAnd, IsOk, IsSomeAnd, MatchResult}
 use Rattle.std.specs.FinMap.{get}
 use Rattle.std.specs.Option.{option_map_or}
 use Rattle.keeper.specs.Keepers.{MayHaveMade, pairs_after}
 use Rattle.keeper.specs.declared.put.Put.{Put}
 use Rattle.lake_values.specs.declared.entry.Change.{Change}
 use Rattle.lake_model.specs.declared.fault.StepFault.{StepFault}
-use Rattle.lake_model.specs.declared.fault.StepFault.TheVariants.{Stopped, HistoryFull, NoRepo, NoRef, NoParent, NoNote, Exists, DefaultBranch, Protected, Changed, NoPath, Expired, NameClash, StoreFault, NoMemory}
+use Rattle.lake_model.specs.declared.fault.StepFault.TheVariants.{StoreFault, NoMemory}
 use Rattle.lake_model.specs.declared.history.By.{By}
 use Rattle.lake_model.specs.declared.history.HistoryEntry.{HistoryEntry}
 use Rattle.lake_model.specs.declared.history.Operation.{Operation}
@@ -25,8 +25,9 @@ use Rattle.core_changes.specs.LakeChanges.{after_fault, after_stage, without_tic
 use Rattle.core_standing.specs.Standing.{MayMake, Stands}
 use Rattle.lake_core.specs.Lakes.{LakeValue, state, versions}
 use Rattle.core_puts.specs.KeeperViews.{KeeperView}
-use Rattle.lake_core.specs.Leaving.{IsAsBefore, IsMade, Leaves, Making}
-use Rattle.core_puts.specs.KeptChanges.{HasKept, Keeps, Parts}
+use Rattle.lake_core.specs.Leaving.{Leaves, parts_of}
+use Rattle.core_puts.specs.KeptChanges.{IsAsBefore, IsMade, Keeps, LeavesParts, Making, Parts, unmade}
+use Rattle.core_puts.proofs.KeptLemmas.{refused_parts, same_before, starved_parts}
 
 module _ {opened : LakeStateValue} {history : List HistoryEntry} {l : LakeStateValue} {by : By} {operation : Operation}
     {make : LakeStateValue → LakeStateValue} (may : MayMake opened history l by operation make) where
@@ -40,27 +41,15 @@ module _ {opened : LakeStateValue} {history : List HistoryEntry} {l : LakeStateV
   -- it wasn't made, and its fault stands, where the store failed
   pub refused_stands : {K : Type 0} (view : KeeperView K) (made : Operation) (puts : List Put) (old new : Parts K) (fault : StepFault)
       → Stands opened history l → made ≡ operation → old.history ≡ history → lake_value old.present ≡ l
-      → Keeps {X = Unit {0}} view by made puts (Err fault) old new → Stands opened new.history (lake_value new.present)
+      → Keeps {X = Unit {0}} view by (unmade made puts) (Err fault) old new → Stands opened new.history (lake_value new.present)
   refused_stands view made puts old new StoreFault stands is entries same keeps =
       subst (λ n. Stands opened n (lake_value new.present)) (sym (keeps.history
       ∙ ap (λ h. h ++ faulted_entry by made ∷ []) entries ∙ ap (λ o. history ++ faulted_entry by o ∷ []) is))
       (subst (λ n. Stands opened (history ++ faulted_entry by operation ∷ []) n) (sym (keeps.present ∙ ap after_fault same)) may.faulted)
   refused_stands view made puts old new NoMemory stands is entries same keeps =
       subst (λ n. Stands opened n (lake_value new.present)) (sym (keeps.history ∙ entries))
-      (subst (λ n. Stands opened history n) (sym (ap lake_value keeps.present ∙ same)) stands)
-  refused_stands view made puts old new Stopped stands is entries same keeps = absurd keeps
-  refused_stands view made puts old new HistoryFull stands is entries same keeps = absurd keeps
-  refused_stands view made puts old new NoRepo stands is entries same keeps = absurd keeps
-  refused_stands view made puts old new NoRef stands is entries same keeps = absurd keeps
-  refused_stands view made puts old new (NoParent number) stands is entries same keeps = absurd keeps
-  refused_stands view made puts old new NoNote stands is entries same keeps = absurd keeps
-  refused_stands view made puts old new Exists stands is entries same keeps = absurd keeps
-  refused_stands view made puts old new DefaultBranch stands is entries same keeps = absurd keeps
-  refused_stands view made puts old new (Protected pattern) stands is entries same keeps = absurd keeps
-  refused_stands view made puts old new (Changed version settings) stands is entries same keeps = absurd keeps
-  refused_stands view made puts old new NoPath stands is entries same keeps = absurd keeps
-  refused_stands view made puts old new (Expired id) stands is entries same keeps = absurd keeps
-  refused_stands view made puts old new (NameClash name kept other) stands is entries same keeps = absurd keeps
+      (subst (λ n. Stands opened history n) (sym (keeps.present ∙ same)) stands)
+  refused_stands view made puts old new fault stands is entries same keeps = absurd keeps
 
 -- an answer that nothing refuses
 pub accepted : {X : Type 0} {cause : Option StepFault} {answer reply : X} → cause ≡ None → answer ≡ reply → Ok answer ≡ unless_refused cause reply
@@ -106,19 +95,7 @@ module _ {X : Type 0} (cause : Option StepFault) (reply : X) (each : (fault : St
   cause_told : (fault : StepFault) → cause ≡ Some fault → GivesOrFails {X = X} (Err fault) (unless_refused cause reply)
   cause_told NoMemory is = tt
   cause_told StoreFault is = absurd (each StoreFault is)
-  cause_told Stopped is = told Stopped is
-  cause_told HistoryFull is = told HistoryFull is
-  cause_told NoRepo is = told NoRepo is
-  cause_told NoRef is = told NoRef is
-  cause_told (NoParent number) is = told (NoParent number) is
-  cause_told NoNote is = told NoNote is
-  cause_told Exists is = told Exists is
-  cause_told DefaultBranch is = told DefaultBranch is
-  cause_told (Protected pattern) is = told (Protected pattern) is
-  cause_told (Changed version settings) is = told (Changed version settings) is
-  cause_told NoPath is = told NoPath is
-  cause_told (Expired id) is = told (Expired id) is
-  cause_told (NameClash name kept other) is = told (NameClash name kept other) is
+  cause_told fault is = told fault is
 
   -- a test was refused
   pub refused_reply : (answer : Result X StepFault) (fault : StepFault) → IsErrAnd answer (λ e. e ≡ fault) → cause ≡ Some fault
@@ -129,30 +106,18 @@ module _ {X : Type 0} (cause : Option StepFault) (reply : X) (each : (fault : St
 -- of a change that nothing refuses
 module _ {K X : Type 0} (view : KeeperView K) (by : By) (made : Operation) (puts : List Put) (before after : Parts K)
     (cause : Option StepFault) (reply : X) (none : cause ≡ None) where
-  none_told : (fault : StepFault) → Keeps {X = Unit {0}} view by made puts (Err fault) before after
+  none_told : (fault : StepFault) → Keeps {X = Unit {0}} view by (unmade made puts) (Err fault) before after
       → GivesOrFails {X = X} (Err fault) (unless_refused cause reply)
   none_told NoMemory keeps = tt
   none_told StoreFault keeps = subst (λ c. IsOk (unless_refused c reply)) (sym none) refl
-  none_told Stopped keeps = absurd keeps
-  none_told HistoryFull keeps = absurd keeps
-  none_told NoRepo keeps = absurd keeps
-  none_told NoRef keeps = absurd keeps
-  none_told (NoParent number) keeps = absurd keeps
-  none_told NoNote keeps = absurd keeps
-  none_told Exists keeps = absurd keeps
-  none_told DefaultBranch keeps = absurd keeps
-  none_told (Protected pattern) keeps = absurd keeps
-  none_told (Changed version settings) keeps = absurd keeps
-  none_told NoPath keeps = absurd keeps
-  none_told (Expired id) keeps = absurd keeps
-  none_told (NameClash name kept other) keeps = absurd keeps
+  none_told fault keeps = absurd keeps
 
   -- the keeper refused it
   pub unkept_reply : (answer : Result X StepFault) (fault : StepFault)
-      → IsErrAnd answer (λ e. e ≡ fault) → Keeps {X = Unit {0}} view by made puts (Err fault) before after
+      → IsErrAnd answer (λ e. e ≡ fault) → Keeps {X = Unit {0}} view by (unmade made puts) (Err fault) before after
       → GivesOrFails answer (unless_refused cause reply)
   unkept_reply (Err e) fault same keeps =
-      none_told e (subst (λ f. Keeps {X = Unit {0}} view by made puts (Err f) before after) (sym same) keeps)
+      none_told e (subst (λ f. Keeps {X = Unit {0}} view by (unmade made puts) (Err f) before after) (sym same) keeps)
   unkept_reply (Ok x) fault same keeps = absurd same
 
 -- ---- answers of changes that hand out what was found
@@ -162,19 +127,7 @@ module _ {X : Type 0} (state : State) (c : Causes) (value : Option X)
   found_told : (fault : StepFault) → first_cause c ≡ Some fault → IsReplyOf state c value (Err fault)
   found_told NoMemory is = tt
   found_told StoreFault is = absurd (each StoreFault is)
-  found_told Stopped is = is
-  found_told HistoryFull is = is
-  found_told NoRepo is = is
-  found_told NoRef is = is
-  found_told (NoParent number) is = is
-  found_told NoNote is = is
-  found_told Exists is = is
-  found_told DefaultBranch is = is
-  found_told (Protected pattern) is = is
-  found_told (Changed version settings) is = is
-  found_told NoPath is = is
-  found_told (Expired id) is = is
-  found_told (NameClash name kept other) is = is
+  found_told fault is = is
 
   -- a test was refused
   pub refused_found : (answer : Result (ℕ × X) StepFault) (fault : StepFault) → IsErrAnd answer (λ e. e ≡ fault) → first_cause c ≡ Some fault
@@ -184,28 +137,16 @@ module _ {X : Type 0} (state : State) (c : Causes) (value : Option X)
 
 module _ {K X : Type 0} (view : KeeperView K) (by : By) (made : Operation) (puts : List Put) (before after : Parts K)
     (state : State) (c : Causes) (value : Option X) (none : first_cause c ≡ None) where
-  found_none : (fault : StepFault) → Keeps {X = Unit {0}} view by made puts (Err fault) before after → IsReplyOf state c value (Err fault)
+  found_none : (fault : StepFault) → Keeps {X = Unit {0}} view by (unmade made puts) (Err fault) before after → IsReplyOf state c value (Err fault)
   found_none NoMemory keeps = tt
   found_none StoreFault keeps = none
-  found_none Stopped keeps = absurd keeps
-  found_none HistoryFull keeps = absurd keeps
-  found_none NoRepo keeps = absurd keeps
-  found_none NoRef keeps = absurd keeps
-  found_none (NoParent number) keeps = absurd keeps
-  found_none NoNote keeps = absurd keeps
-  found_none Exists keeps = absurd keeps
-  found_none DefaultBranch keeps = absurd keeps
-  found_none (Protected pattern) keeps = absurd keeps
-  found_none (Changed version settings) keeps = absurd keeps
-  found_none NoPath keeps = absurd keeps
-  found_none (Expired id) keeps = absurd keeps
-  found_none (NameClash name kept other) keeps = absurd keeps
+  found_none fault keeps = absurd keeps
 
   -- the keeper refused it
   pub unkept_found : (answer : Result (ℕ × X) StepFault) (fault : StepFault) → IsErrAnd answer (λ e. e ≡ fault)
-      → Keeps {X = Unit {0}} view by made puts (Err fault) before after → IsReplyOf state c value answer
+      → Keeps {X = Unit {0}} view by (unmade made puts) (Err fault) before after → IsReplyOf state c value answer
   unkept_found (Err e) fault same keeps =
-      found_none e (subst (λ f. Keeps {X = Unit {0}} view by made puts (Err f) before after) (sym same) keeps)
+      found_none e (subst (λ f. Keeps {X = Unit {0}} view by (unmade made puts) (Err f) before after) (sym same) keeps)
   unkept_found (Ok x) fault same keeps = absurd same
 
 -- ---- answers where memory ran out
@@ -220,26 +161,20 @@ starved_found {X} state c value (Err e) same = subst (λ e. IsReplyOf {X = X} st
 starved_found state c value (Ok x) same = absurd same
 
 module _ {K : Type 0} (view : KeeperView K) (old new : LakeValue K) where
+  -- memory ran out, which is no failure of the keeper: nothing that is said changed
+  abbrev pub IsLakeAsBefore : Type 0
+  IsLakeAsBefore = (new.opened ≡ old.opened) × IsAsBefore view (parts_of old) (parts_of new)
+
   -- a lake that says the same, over the same keeper, is as before
   pub as_before : new.opened ≡ old.opened → new.history ≡ old.history → lake_value new.present ≡ lake_value old.present
-      → new.keeper ≡ old.keeper → IsAsBefore view old new
-  as_before opened history present keeper = record {
-    opened = opened;
-    history = history;
-    present = present;
-    kept = ap view.kept keeper;
-    calls = inl (ap view.calls keeper);
-    quiet = ap view.faults keeper;
-    keeper = record {
-      told = ap (λ k. is_some (view.kept k)) keeper;
-      later = subst (λ n. view.faults old.keeper ≤ n) (sym (ap view.faults keeper)) (omega arith);
-    };
-  }
+      → new.keeper ≡ old.keeper → IsLakeAsBefore
+  as_before opened history present keeper =
+      (opened, same_before view (parts_of old) (parts_of new) history present keeper)
 
   pub starved_leaves : {X : Type 0} (by : By) (made : Option Making) (answer : Result X StepFault)
-      → IsErrAnd answer (λ e. e ≡ NoMemory) → IsAsBefore view old new → Leaves view by made answer old new
-  starved_leaves {X} by made (Err e) same left = subst (λ e. Leaves {X = X} view by made (Err e) old new) (sym same) left
-  starved_leaves by made (Ok x) same left = absurd same
+      → IsErrAnd answer (λ e. e ≡ NoMemory) → IsLakeAsBefore → Leaves view by made answer old new
+  starved_leaves by made answer same left =
+      (left.0, starved_parts view (parts_of old) (parts_of new) by made answer same left.1)
 
 -- ---- answers of tests that take memory
 
@@ -273,27 +208,12 @@ untested_reply cause reply each answer fault same (inr is) = refused_reply cause
 
 -- of a change that a test refused
 module _ {K : Type 0} (view : KeeperView K) (by : By) (made : Option Making) (old new : LakeValue K) (same : new ≡ old) where
-  same_left : (X : Type 0) (fault : StepFault) → IsRefusal fault → Leaves {X = X} view by made (Err fault) old new
-  same_left X NoMemory is = absurd is
-  same_left X StoreFault is = absurd is
-  same_left X Stopped is = same
-  same_left X HistoryFull is = same
-  same_left X NoRepo is = same
-  same_left X NoRef is = same
-  same_left X (NoParent number) is = same
-  same_left X NoNote is = same
-  same_left X Exists is = same
-  same_left X DefaultBranch is = same
-  same_left X (Protected pattern) is = same
-  same_left X (Changed version settings) is = same
-  same_left X NoPath is = same
-  same_left X (Expired id) is = same
-  same_left X (NameClash name kept other) is = same
-
   pub refused_leaves : {X : Type 0} (answer : Result X StepFault) (fault : StepFault) → IsErrAnd answer (λ e. e ≡ fault)
       → IsRefusal fault → Leaves view by made answer old new
-  refused_leaves {X} (Err e) fault eq is = same_left X e (subst IsRefusal (sym eq) is)
-  refused_leaves (Ok x) fault eq is = absurd eq
+  refused_leaves answer fault eq is = (
+    ap (λ (l : LakeValue K). l.opened) same,
+    refused_parts view (parts_of old) (parts_of new) by made answer fault eq is (ap parts_of same),
+  )
 
 -- what was made ready says the same, so the lake is as before
 module _ {K : Type 0} (view : KeeperView K) (opened present ready : LakeState) (history : List HistoryEntry) (keeper : K) (lake : LakeValue K)
@@ -303,7 +223,7 @@ module _ {K : Type 0} (view : KeeperView K) (opened present ready : LakeState) (
       → Leaves view by made answer lake (record { opened = opened; history = history; present = ready; keeper = keeper })
   unready_leaves by made answer starved =
       let now : LakeValue K = record { opened = opened; history = history; present = ready; keeper = keeper } in
-      starved_leaves view lake now by made answer starved (subst (λ old. IsAsBefore view old now) was
+      starved_leaves view lake now by made answer starved (subst (λ old. IsLakeAsBefore view old now) was
       (as_before view (record { opened = opened; history = history; present = present; keeper = keeper }) now refl refl same refl))
 
   -- of one that a cause refused, or memory: where a cause did, it is the same
@@ -320,22 +240,27 @@ module _ {K : Type 0} (view : KeeperView K) (by : By) (make : LakeState → Opti
     (opened present ready : LakeState) (history : List HistoryEntry) (keeper : K) (after : Parts K)
     (same : lake_value ready ≡ lake_value present) (makes : make present ≡ Some making) (lake : LakeValue K)
     (was : record { opened = opened; history = history; present = present; keeper = keeper } ≡ lake) where
-  refusal_leaves : (X : Type 0) (fault : StepFault)
-      → Keeps {X = Unit {0}} view by made puts (Err fault) (record { keeper = keeper; history = history; present = ready }) after
-      → Leaves {X = X} view by (Some making) (Err fault)
-      (record { opened = opened; history = history; present = present; keeper = keeper })
-      (record { opened = opened; history = after.history; present = after.present; keeper = after.keeper })
+  abbrev first : LakeValue K
+  first = record { opened = opened; history = history; present = present; keeper = keeper }
+
+  abbrev last : LakeState → LakeValue K
+  last next = record { opened = opened; history = after.history; present = next; keeper = after.keeper }
+
+  -- the parts that the keeper's call found
+  abbrev called : Parts K
+  called = record { keeper = keeper; history = history; present = ready }
+
+  refusal_leaves : (X : Type 0) (fault : StepFault) → Keeps {X = Unit {0}} view by (unmade made puts) (Err fault) called after
+      → LeavesParts {X = X} view by (Some making) (Err fault) (parts_of first) (parts_of (last after.present))
   refusal_leaves X NoMemory keeps = record {
-    opened = refl;
     history = keeps.history;
-    present = ap lake_value keeps.present ∙ same;
+    present = keeps.present ∙ same;
     kept = keeps.kept;
     calls = keeps.calls;
     quiet = keeps.quiet;
     keeper = keeps.keeper;
   }
   refusal_leaves X StoreFault keeps = record {
-    opened = refl;
     history = keeps.history ∙ ap (λ o. history ++ faulted_entry by o ∷ []) is;
     present = keeps.present ∙ ap after_fault same;
     kept = subst (λ ps. IfSome (view.kept keeper) (λ b. IfSome (view.kept after.keeper) (MayHaveMade ps b))) are keeps.kept;
@@ -343,46 +268,25 @@ module _ {K : Type 0} (view : KeeperView K) (by : By) (make : LakeState → Opti
     rose = keeps.rose;
     keeper = keeps.keeper;
   }
-  refusal_leaves X Stopped keeps = absurd keeps
-  refusal_leaves X HistoryFull keeps = absurd keeps
-  refusal_leaves X NoRepo keeps = absurd keeps
-  refusal_leaves X NoRef keeps = absurd keeps
-  refusal_leaves X (NoParent number) keeps = absurd keeps
-  refusal_leaves X NoNote keeps = absurd keeps
-  refusal_leaves X Exists keeps = absurd keeps
-  refusal_leaves X DefaultBranch keeps = absurd keeps
-  refusal_leaves X (Protected pattern) keeps = absurd keeps
-  refusal_leaves X (Changed version settings) keeps = absurd keeps
-  refusal_leaves X NoPath keeps = absurd keeps
-  refusal_leaves X (Expired id) keeps = absurd keeps
-  refusal_leaves X (NameClash name kept other) keeps = absurd keeps
+  refusal_leaves X fault keeps = absurd keeps
 
   -- the keeper refused it
   pub unkept_leaves : {X : Type 0} (answer : Result X StepFault) (fault : StepFault) → IsErrAnd answer (λ e. e ≡ fault)
-      → Keeps {X = Unit {0}} view by made puts (Err fault) (record { keeper = keeper; history = history; present = ready }) after
-      → Leaves view by (make lake.present) answer lake
-      (record { opened = opened; history = after.history; present = after.present; keeper = after.keeper })
+      → Keeps {X = Unit {0}} view by (unmade made puts) (Err fault) called after
+      → Leaves view by (make lake.present) answer lake (last after.present)
   unkept_leaves {X} (Err e) fault eq keeps =
-      subst (λ v. Leaves {X = X} view by (make v.present) (Err e) v
-      (record { opened = opened; history = after.history; present = after.present; keeper = after.keeper })) was
-      (subst (λ o. Leaves {X = X} view by o (Err e) (record { opened = opened; history = history; present = present; keeper = keeper })
-      (record { opened = opened; history = after.history; present = after.present; keeper = after.keeper })) (sym makes)
-      (refusal_leaves X e (subst (λ f. Keeps {X = Unit {0}} view by made puts (Err f)
-      (record { keeper = keeper; history = history; present = ready }) after) (sym eq) keeps)))
+      subst (λ v. Leaves {X = X} view by (make v.present) (Err e) v (last after.present)) was
+      (refl, subst (λ o. LeavesParts {X = X} view by o (Err e) (parts_of first) (parts_of (last after.present))) (sym makes)
+      (refusal_leaves X e (subst (λ f. Keeps {X = Unit {0}} view by (unmade made puts) (Err f) called after) (sym eq) keeps)))
   unkept_leaves (Ok x) fault eq keeps = absurd eq
 
   -- it was made
-  pub made_leaves : (next : LakeState)
-      → HasKept view by made puts (record { keeper = keeper; history = history; present = ready }) after
+  pub made_leaves : (next : LakeState) → IsMade view by (unmade made puts) called after
       → lake_value next ≡ making.after (lake_value present)
-      → IsSomeAnd (make lake.present) (λ m. IsMade view by m lake
-      (record { opened = opened; history = after.history; present = next; keeper = after.keeper }))
+      → (opened ≡ lake.opened) × IsSomeAnd (make lake.present) (λ m. IsMade view by m (parts_of lake) (parts_of (last next)))
   made_leaves next kept changed =
-      subst (λ v. IsSomeAnd (make v.present) (λ m. IsMade view by m v
-      (record { opened = opened; history = after.history; present = next; keeper = after.keeper }))) was
-      (subst (λ o. IsSomeAnd o (λ m. IsMade view by m (record { opened = opened; history = history; present = present; keeper = keeper })
-      (record { opened = opened; history = after.history; present = next; keeper = after.keeper }))) (sym makes) (record {
-        opened = refl;
+      subst (λ v. (opened ≡ v.opened) × IsSomeAnd (make v.present) (λ m. IsMade view by m (parts_of v) (parts_of (last next)))) was
+      (refl, subst (λ o. IsSomeAnd o (λ m. IsMade view by m (parts_of first) (parts_of (last next)))) (sym makes) (record {
         history = kept.history ∙ ap (λ o. history ++ accepted_entry by o ∷ []) is;
         present = changed;
         kept = subst (λ ps. IfSome (view.kept keeper) (λ b. view.kept after.keeper ≡ Some (pairs_after ps b))) are kept.kept;

@@ -1,60 +1,17 @@
 -- What a change leaves of a lake.
-use Rattle.std.specs.Prelude.{◌≡◌, ◌++◌, ◌∷◌, [], List, Option, Some, Result, Ok, Err, IfSome, IsSomeAnd}
-use Rattle.lake_base.specs.Outside.{Rose}
-use Rattle.keeper.specs.Keepers.{MayHaveMade, pairs_after}
-use Rattle.keeper.specs.declared.put.Put.{Put}
+use Rattle.std.specs.Prelude.{◌≡◌, Option, Result}
 use Rattle.lake_model.specs.declared.fault.StepFault.{StepFault}
-use Rattle.lake_model.specs.declared.fault.StepFault.TheVariants.{StoreFault, NoMemory}
 use Rattle.lake_model.specs.declared.history.By.{By}
-use Rattle.lake_model.specs.declared.history.Operation.{Operation}
-use Rattle.lake_model.specs.History.{accepted_entry, faulted_entry}
-use Rattle.core_state.specs.LakeStates.{LakeStateValue, lake_value}
-use Rattle.core_changes.specs.LakeChanges as memory
-use Rattle.core_puts.specs.KeeperViews.{IsCalledAtMostOnce, IsCalledOnce, IsLaterKeeper, KeeperView}
+use Rattle.core_puts.specs.KeeperViews.{KeeperView}
+use Rattle.core_puts.specs.KeptChanges.{LeavesParts, Making, Parts}
 use Rattle.lake_core.specs.Lakes.{LakeValue}
 
--- a change: its operation, what becomes of the lake in memory, and the puts by which that is kept
-pub record Making : Type 0 where
-  pub operation : Operation
-  pub after : LakeStateValue → LakeStateValue
-  pub puts : List Put
+-- a lake without what it was opened as
+abbrev pub parts_of : {K : Type 0} → LakeValue K → Parts K
+parts_of lake = record { keeper = lake.keeper; history = lake.history; present = lake.present }
 
--- It was made: the history has its one entry more, and with it the state, which is the history's replay; what is in memory
--- changed; and the keeper made its puts by one call that didn't fail.
-pub record IsMade {K : Type 0} (view : KeeperView K) (by : By) (made : Making) (old new : LakeValue K) : Type 0 where
-  pub opened : new.opened ≡ old.opened
-  pub history : new.history ≡ old.history ++ accepted_entry by made.operation ∷ []
-  pub present : lake_value new.present ≡ made.after (lake_value old.present)
-  pub kept : IfSome (view.kept old.keeper) (λ before. view.kept new.keeper ≡ Some (pairs_after made.puts before))
-  pub once : IsCalledOnce view old.keeper new.keeper
-  pub quiet : view.faults new.keeper ≡ view.faults old.keeper
-  pub keeper : IsLaterKeeper view old.keeper new.keeper
-
--- The store failed at the one call: the history has its fault, so the lake is stopped, in memory too; the keeper made all of
--- the puts or none, and its count of faults rose.
-pub record IsFaulted {K : Type 0} (view : KeeperView K) (by : By) (made : Making) (old new : LakeValue K) : Type 0 where
-  pub opened : new.opened ≡ old.opened
-  pub history : new.history ≡ old.history ++ faulted_entry by made.operation ∷ []
-  pub present : lake_value new.present ≡ memory.after_fault (lake_value old.present)
-  pub kept : IfSome (view.kept old.keeper) (λ before. IfSome (view.kept new.keeper) (MayHaveMade made.puts before))
-  pub once : IsCalledOnce view old.keeper new.keeper
-  pub rose : Rose (view.faults old.keeper) (view.faults new.keeper)
-  pub keeper : IsLaterKeeper view old.keeper new.keeper
-
--- Memory ran out, which is no failure of the keeper: nothing changed.
-pub record IsAsBefore {K : Type 0} (view : KeeperView K) (old new : LakeValue K) : Type 0 where
-  pub opened : new.opened ≡ old.opened
-  pub history : new.history ≡ old.history
-  pub present : lake_value new.present ≡ lake_value old.present
-  pub kept : view.kept new.keeper ≡ view.kept old.keeper
-  pub calls : IsCalledAtMostOnce view old.keeper new.keeper
-  pub quiet : view.faults new.keeper ≡ view.faults old.keeper
-  pub keeper : IsLaterKeeper view old.keeper new.keeper
-
--- What a change leaves: where it was accepted it was made, once; where the store failed its fault stands; and where it
--- was refused the lake is the same.
+-- A change leaves what it was opened as, and of its parts what `LeavesParts` says: where it was accepted it was made,
+-- once; where the store failed its fault stands; and where it was refused the lake is the same.
 abbrev pub Leaves : {K X : Type 0} → KeeperView K → By → Option Making → Result X StepFault → LakeValue K → LakeValue K → Type 0
-Leaves view by made (Ok answer) old new = IsSomeAnd made (λ m. IsMade view by m old new)
-Leaves view by made (Err StoreFault) old new = IsSomeAnd made (λ m. IsFaulted view by m old new)
-Leaves view by made (Err NoMemory) old new = IsAsBefore view old new
-Leaves view by made (Err fault) old new = new ≡ old
+Leaves view by made answer old new =
+    (new.opened ≡ old.opened) × LeavesParts view by made answer (parts_of old) (parts_of new)

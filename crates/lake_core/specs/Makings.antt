@@ -1,7 +1,6 @@
--- What each change makes of a lake in memory.
+-- What each change makes of a lake in memory; what a new head makes of it is `head_making` of `core_commits`.
 use Rattle.std.specs.Prelude.{ℕ, List, [], Option, option_and_then, option_map}
 use Rattle.lake_base.specs.declared.digest.Digest.{Digest}
-use Rattle.lake_values.specs.Commit.{AboutValue}
 use Rattle.lake_values.specs.Entry.{EntryValue}
 use Rattle.lake_values.specs.declared.commit.ResetWhat.{ResetWhat}
 use Rattle.lake_values.specs.declared.entry.Change.{Change}
@@ -12,14 +11,11 @@ use Rattle.commit_graph.specs.Expressions.{RefExprValue}
 use Rattle.lake_model.specs.declared.history.CopySource.{CopySource}
 use Rattle.lake_model.specs.declared.history.Operation.TheVariants.{BranchCreate, BranchDelete, Copy, NoteSet, RepoCreate, Reset, Seal, Stage, TagCreate, TagDelete, TicketDrop, TicketTake}
 use Rattle.lake_model.specs.declared.history.SealFor.{SealFor}
-use Rattle.lake_model.specs.declared.reply.SwapKind.{SwapKind}
 use Rattle.lake_model.specs.Steps.{copied_entry, copy_source, in_it, target_in}
-use Rattle.core_state.specs.declared.lake.LakeState.{LakeState}
 use Rattle.core_state.specs.LakeStates.{LakeStateValue, state_of}
 use Rattle.core_changes.specs.LakeChanges.{after_branch_create, after_branch_delete, after_copy, after_note_set, after_repository_create, after_reset, after_seal, after_stage, after_tag_create, after_tag_delete, after_ticket_drop, after_ticket_take}
+use Rattle.core_puts.specs.KeptChanges.{Making}
 use Rattle.core_puts.specs.Puts.{create_branch_puts, create_repository_puts, create_tag_puts, delete_branch_puts, delete_tag_puts, reset_puts, seal_puts, set_note_puts, stage_puts, ticket_puts}
-use Rattle.core_commits.specs.Making.{head_making}
-use Rattle.lake_core.specs.Leaving.{Making}
 
 -- a number is given out to a seat
 abbrev pub take_ticket : ℕ → List ℕ → List ℕ → LakeStateValue → Making
@@ -128,9 +124,3 @@ set_note repo name note l = record {
   after = after_note_set repo name note;
   puts = set_note_puts repo name note l;
 }
-
--- a commit, a merge or a pick becomes the head of a branch, where that is there
-abbrev pub swap : List ℕ → List ℕ → SwapKind → AboutValue → LakeState → Option Making
-swap repo branch kind about present =
-    option_map (λ made. record { operation = made.operation; after = made.change; puts = made.puts })
-    (head_making repo branch kind about present)

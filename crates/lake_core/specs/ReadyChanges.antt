@@ -17,7 +17,7 @@ use Rattle.lake_core.specs.declared.ready.ReadyRepository.{ReadyRepository}
 use Rattle.lake_core.specs.declared.ready.TestedCopy.{TestedCopy}
 
 -- it is made ready by this operation, and these puts
-pub record IsReady (made : Operation) (kept : List Put) (ready : Ready) : Type 0 where
+pub record IsReadyChange (made : Operation) (kept : List Put) (ready : Ready) : Type 0 where
   pub operation : ready.operation ≡ made
   pub puts : ready.puts.items ≡ kept
 

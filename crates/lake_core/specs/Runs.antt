@@ -3,8 +3,9 @@ use Rattle.std.specs.Prelude.{Option, Result}
 use Rattle.lake_model.specs.declared.fault.StepFault.{StepFault}
 use Rattle.lake_model.specs.declared.history.By.{By}
 use Rattle.core_puts.specs.KeeperViews.{KeeperView}
+use Rattle.core_puts.specs.KeptChanges.{Making}
 use Rattle.lake_core.specs.Lakes.{LakeValue}
-use Rattle.lake_core.specs.Leaving.{Leaves, Making}
+use Rattle.lake_core.specs.Leaving.{Leaves}
 
 -- Changes led from a lake to another: none, or one more, which left the lake as `Leaves` says.
 pub data IsRun {K : Type 0} (view : KeeperView K) (first : LakeValue K) : LakeValue K → Type 0 where

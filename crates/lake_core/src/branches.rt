@@ -13,7 +13,7 @@ ghost use Rattle.core_state.specs.LakeStates.{lake_value};
 ghost use Rattle.core_puts.specs.Puts as puts;
 ghost use Rattle.lake_core.specs.Lakes.{state, versions};
 ghost use Rattle.lake_core.specs.Makings.{create_branch, delete_branch, reset, seal};
-ghost use Rattle.lake_core.specs.ReadyChanges.{IsReady};
+ghost use Rattle.lake_core.specs.ReadyChanges.{IsReadyChange};
 ghost use Rattle.lake_core.specs.Leaving.{Leaves};
 
 use crate::lake::Lake;
@@ -221,7 +221,7 @@ fn ready_create(
     requires few { AreFew (lake_value lake.old) }
     ensures same { lake_value lake.new ≡ lake_value lake.old }
     ensures room { OnOk result (HasRoomAt (room.Branch name.entry) repo.now lake.new) }
-    ensures ready { IfOk result (IsReady (operation.BranchCreate repo.now name.now commit)
+    ensures ready { IfOk result (IsReadyChange (operation.BranchCreate repo.now name.now commit)
         (puts.create_branch_puts repo.now name.now commit (lake_value lake.old))) }
 {
     let operation = Operation::BranchCreate {
@@ -242,7 +242,7 @@ fn ready_delete(
     name: &RefName,
 ) -> Result<Ready, NoMemory>
     requires { is_like_id name.now ≡ false }
-    ensures { IfOk result (IsReady (operation.BranchDelete repo.now name.now)
+    ensures { IfOk result (IsReadyChange (operation.BranchDelete repo.now name.now)
         (puts.delete_branch_puts repo.now name.now (lake_value lake.now))) }
 {
     let operation = Operation::BranchDelete {
@@ -265,7 +265,7 @@ fn ready_seal(
     requires few { AreFew (lake_value lake.old) }
     ensures same { lake_value lake.new ≡ lake_value lake.old }
     ensures room { OnOk result (HasRoomAt (room.Change branch.entry) repo.now lake.new) }
-    ensures ready { IfOk result (IsReady (operation.Seal repo.now branch.now why)
+    ensures ready { IfOk result (IsReadyChange (operation.Seal repo.now branch.now why)
         (puts.seal_puts repo.now branch.now (lake_value lake.old))) }
 {
     let operation = Operation::Seal {
@@ -290,7 +290,7 @@ fn ready_reset(
     requires few { AreFew (lake_value lake.old) }
     ensures same { lake_value lake.new ≡ lake_value lake.old }
     ensures room { OnOk result (HasRoomAt (room.Change branch.entry) repo.now lake.new) }
-    ensures ready { IfOk result (IsReady (operation.Reset repo.now branch.now what.now)
+    ensures ready { IfOk result (IsReadyChange (operation.Reset repo.now branch.now what.now)
         (puts.reset_puts repo.now branch.now what.now (lake_value lake.old))) }
 {
     let operation = Operation::Reset {

@@ -1,10 +1,9 @@
 //! Commits, merges and picks, by which a branch has a new head.
 ghost use Rattle.std.specs.Prelude.{◌≡◌};
 ghost use Rattle.lake_model.specs.Steps.{IsSwapReply, swap_rule};
-ghost use Rattle.core_commits.specs.Making.{head_answer};
+ghost use Rattle.core_commits.specs.Making.{head_answer, head_making};
 ghost use Rattle.lake_core.specs.HeadConditions.{IsReadyFor};
 ghost use Rattle.lake_core.specs.Lakes.{state, versions};
-ghost use Rattle.lake_core.specs.Makings.{swap};
 ghost use Rattle.lake_core.specs.Leaving.{Leaves};
 
 use crate::lake::Lake;
@@ -40,7 +39,7 @@ impl<K: Keeper> Lake<K> {
         ensures reply { IsSwapReply (state self.old) (versions self.old) repo.now branch.now version settings
             (swap_rule kind about) (head_answer result) }
         ensures leaves { Leaves (record { kept = K.kept; faults = K.faults; calls = K.calls }) by
-            (swap repo.now branch.now kind about self.old.present) result self.old self.new }
+            (head_making repo.now branch.now kind about self.old.present) result self.old self.new }
     {
         law_of_present();
         law_of_new_heads();

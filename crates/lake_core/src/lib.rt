@@ -41,6 +41,9 @@ pub mod tags;
 pub mod tickets;
 
 pub use changes::law_of_changes;
+pub use core_puts::laws_of_founding;
+pub use core_readings::Prepared;
+pub use core_state::{BranchState, LakeState, RepositoryState};
 pub use faults::{law_of_stops, law_of_store_faults, law_of_sure_lakes};
 pub use lake::Lake;
 pub use numbers::{law_of_new_numbers, law_of_numbers};

@@ -13,7 +13,7 @@ ghost use Rattle.core_puts.specs.Puts as puts;
 ghost use Rattle.core_puts.specs.Puts.{HasText};
 ghost use Rattle.lake_core.specs.Lakes.{state, versions};
 ghost use Rattle.lake_core.specs.Makings.{set_note};
-ghost use Rattle.lake_core.specs.ReadyChanges.{IsReady};
+ghost use Rattle.lake_core.specs.ReadyChanges.{IsReadyChange};
 ghost use Rattle.lake_core.specs.Leaving.{Leaves};
 
 use crate::lake::Lake;
@@ -88,7 +88,7 @@ fn ready_note(
     requires plain { ForSome (get (lake_value lake.now).repositories repo.now)
         (λ r. is_like_id r.default_branch ≡ false) }
     requires few { AreFew (lake_value lake.now) }
-    ensures { IfOk result (IsReady (operation.NoteSet repo.now name note.now)
+    ensures { IfOk result (IsReadyChange (operation.NoteSet repo.now name note.now)
         (puts.set_note_puts repo.now name note.now (lake_value lake.now))) }
 {
     let operation = Operation::NoteSet {

@@ -25,7 +25,7 @@ ghost use Rattle.core_state.specs.LakeStates.{LakeStateValue, lake_value, state_
 ghost use Rattle.core_puts.specs.Puts.{stage_puts};
 ghost use Rattle.lake_core.specs.Lakes.{state, versions};
 ghost use Rattle.lake_core.specs.Makings.{copy, stage};
-ghost use Rattle.lake_core.specs.ReadyChanges.{IsReady, IsReadyCopy, IsTestedCopy};
+ghost use Rattle.lake_core.specs.ReadyChanges.{IsReadyChange, IsReadyCopy, IsTestedCopy};
 ghost use Rattle.lake_core.specs.Leaving.{Leaves};
 
 use crate::lake::Lake;
@@ -175,7 +175,7 @@ fn ready_stage(
     ensures tells { (given : VersionsGiven) → HasVersions given (lake_value lake.old) → MatchResult result
         (λ ready. (first_cause
         (stage_causes (state_of (lake_value lake.old)) given repo.now branch.now version) ≡ None)
-        × IsReady (operation.Stage repo.now branch.now path.now change.now)
+        × IsReadyChange (operation.Stage repo.now branch.now path.now change.now)
         (stage_puts repo.now branch.now path.now change.now (lake_value lake.old)) ready)
         (λ f. (f ≡ fault.NoMemory) ⊎ ((first_cause
         (stage_causes (state_of (lake_value lake.old)) given repo.now branch.now version) ≡ Some f)
@@ -197,7 +197,7 @@ fn parts_of_stage(
 ) -> Result<Ready, NoMemory>
     ensures same { lake_value lake.new ≡ lake_value lake.old }
     ensures room { OnOk result (HasRoomAt (room.Change branch.entry) repo.now lake.new) }
-    ensures ready { IfOk result (IsReady (operation.Stage repo.now branch.now path.now change.now)
+    ensures ready { IfOk result (IsReadyChange (operation.Stage repo.now branch.now path.now change.now)
         (stage_puts repo.now branch.now path.now change.now (lake_value lake.old))) }
 {
     let operation = Operation::Stage {

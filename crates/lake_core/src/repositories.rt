@@ -16,7 +16,7 @@ ghost use Rattle.core_state.specs.LakeStates.{lake_value, state_of};
 ghost use Rattle.core_puts.specs.Puts as puts;
 ghost use Rattle.lake_core.specs.Lakes.{state};
 ghost use Rattle.lake_core.specs.Makings.{create_repo};
-ghost use Rattle.lake_core.specs.ReadyChanges.{IsReady, IsReadyRepository};
+ghost use Rattle.lake_core.specs.ReadyChanges.{IsReadyChange, IsReadyRepository};
 ghost use Rattle.lake_core.specs.Leaving.{Leaves};
 
 use crate::lake::Lake;
@@ -159,7 +159,7 @@ fn ready_entry(
     requires plain { is_like_id branch.now ≡ false }
     requires few { AreFew (lake_value lake.now) }
     requires first { IsFirst (lake_value lake.now).cut first.now.commit.date first.now }
-    ensures { IfOk result (IsReady (operation.RepoCreate repo.now branch.now first.now.commit.date)
+    ensures { IfOk result (IsReadyChange (operation.RepoCreate repo.now branch.now first.now.commit.date)
         (puts.create_repository_puts repo.now branch.now first.now.commit.date (lake_value lake.now))) }
 {
     let puts = puts_of(alloc, lake, repo, branch, first)?;

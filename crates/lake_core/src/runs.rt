@@ -4,8 +4,9 @@ ghost use Rattle.lake_model.specs.declared.fault.StepFault.{StepFault};
 ghost use Rattle.lake_model.specs.declared.history.By.{By};
 ghost use Rattle.lake_model.specs.declared.history.HistoryEntry.{HistoryEntry};
 ghost use Rattle.core_puts.specs.KeeperViews.{IsLaterKeeper, KeeperView};
+ghost use Rattle.core_puts.specs.KeptChanges.{Making};
 ghost use Rattle.lake_core.specs.Lakes.{LakeValue};
-ghost use Rattle.lake_core.specs.Leaving.{Leaves, Making};
+ghost use Rattle.lake_core.specs.Leaving.{Leaves};
 ghost use Rattle.lake_core.specs.Runs.{IsRun};
 
 /// A lake is a run from itself, and each change, as the clause `leaves` of its call says, makes a run longer, whatever

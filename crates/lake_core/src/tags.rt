@@ -10,7 +10,7 @@ ghost use Rattle.core_state.specs.LakeStates.{lake_value};
 ghost use Rattle.core_puts.specs.Puts as puts;
 ghost use Rattle.lake_core.specs.Lakes.{state};
 ghost use Rattle.lake_core.specs.Makings.{create_tag, delete_tag};
-ghost use Rattle.lake_core.specs.ReadyChanges.{IsReady};
+ghost use Rattle.lake_core.specs.ReadyChanges.{IsReadyChange};
 ghost use Rattle.lake_core.specs.Leaving.{Leaves};
 
 use crate::lake::Lake;
@@ -117,7 +117,7 @@ fn ready_create(
     requires { is_like_id name.now ≡ false }
     ensures same { lake_value lake.new ≡ lake_value lake.old }
     ensures room { OnOk result (HasRoomAt (room.Tag name.entry) repo.now lake.new) }
-    ensures ready { IfOk result (IsReady (operation.TagCreate repo.now name.now commit)
+    ensures ready { IfOk result (IsReadyChange (operation.TagCreate repo.now name.now commit)
         (puts.create_tag_puts repo.now name.now commit)) }
 {
     let operation = Operation::TagCreate {
@@ -133,7 +133,7 @@ fn ready_create(
 // A tag that is to go.
 fn ready_delete(alloc: Global, repo: &RepoName, name: &RefName) -> Result<Ready, NoMemory>
     requires { is_like_id name.now ≡ false }
-    ensures { IfOk result (IsReady (operation.TagDelete repo.now name.now)
+    ensures { IfOk result (IsReadyChange (operation.TagDelete repo.now name.now)
         (puts.delete_tag_puts repo.now name.now)) }
 {
     let operation = Operation::TagDelete {

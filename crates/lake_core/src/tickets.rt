@@ -11,7 +11,7 @@ ghost use Rattle.core_state.specs.LakeStates.{lake_value, tickets_of};
 ghost use Rattle.core_puts.specs.Puts.{ticket_puts};
 ghost use Rattle.lake_core.specs.Lakes.{state};
 ghost use Rattle.lake_core.specs.Makings.{drop_ticket, take_ticket};
-ghost use Rattle.lake_core.specs.ReadyChanges.{IsReady};
+ghost use Rattle.lake_core.specs.ReadyChanges.{IsReadyChange};
 ghost use Rattle.lake_core.specs.Leaving.{Leaves};
 
 use crate::lake::Lake;
@@ -139,7 +139,7 @@ fn ready_ticket(
     requires few { AreFew (lake_value lake.old) }
     ensures same { lake_value lake.new ≡ lake_value lake.old }
     ensures room { OnOk result (HasTicketRoom lake.new) }
-    ensures ready { IfOk result (IsReady (TicketTake repo.now branch.now (lake_value lake.old).next_number)
+    ensures ready { IfOk result (IsReadyChange (TicketTake repo.now branch.now (lake_value lake.old).next_number)
         (ticket_puts (lake_value lake.old))) }
 {
     let operation = Operation::TicketTake {
@@ -154,7 +154,7 @@ fn ready_ticket(
 
 // An upload that is to be given up: there is nothing to put.
 fn ready_drop(alloc: Global, number: u64) -> Ready
-    ensures { IsReady (TicketDrop number) [] result }
+    ensures { IsReadyChange (TicketDrop number) [] result }
 {
     Ready {
         operation: Operation::TicketDrop { number },

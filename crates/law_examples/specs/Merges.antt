@@ -56,12 +56,12 @@ pub record Fork : Type 0 where
   pub of_main : AboutValue
 
 -- `dev` begins at the first commit
-abbrev pub branched_lake : Cut → State
-branched_lake cut = after (fresh cut) (branch_entry cut)
+abbrev pub lake_with_dev : Cut → State
+lake_with_dev cut = after (fresh cut) (branch_entry cut)
 
 -- then an entry is committed at a path of `dev`
 abbrev pub lake_of_dev : List ℕ → EntryValue → Fork → State
-lake_of_dev path entry fork = replay (branched_lake fork.cut) (change_entries dev path entry fork.of_dev)
+lake_of_dev path entry fork = replay (lake_with_dev fork.cut) (change_entries dev path entry fork.of_dev)
 
 -- `dev` begins at the first commit, an entry is committed at a path of it, and the outside object at `a` of `main`
 abbrev pub fork_entries : List ℕ → EntryValue → Fork → List HistoryEntry
@@ -71,7 +71,7 @@ fork_entries path entry fork =
 -- both of these commits would be admissible
 abbrev pub AreChangesAdmissible : List ℕ → EntryValue → Fork → Type 0
 AreChangesAdmissible path entry fork =
-    IsChangeAdmissible (branched_lake fork.cut) dev path entry fork.of_dev
+    IsChangeAdmissible (lake_with_dev fork.cut) dev path entry fork.of_dev
     × IsChangeAdmissible (lake_of_dev path entry fork) main a outside fork.of_main
 
 -- the outside object stands at `b` of `dev`, and `main` is at the first commit

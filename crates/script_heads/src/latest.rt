@@ -5,7 +5,7 @@ ghost use Rattle.meta_range.specs.Ranges.{tree_code};
 
 use lake_base::NoMemory;
 use lake_model::{Sides, SwapKind};
-use core_readings::Prepared;
+use lake_core::Prepared;
 use lake_values::Strategy;
 use script_calls::target::Named;
 use std::alloc::Global;

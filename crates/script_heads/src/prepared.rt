@@ -2,7 +2,7 @@
 
 use lake_base::NoMemory;
 use lake_format::Cut;
-use core_readings::Prepared;
+use lake_core::Prepared;
 use lake_values::{Change, Changes};
 use meta_range::{Tree, Trio};
 use script_forms::hooks_value;

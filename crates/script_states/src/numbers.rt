@@ -1,7 +1,7 @@
 //! What was given out: numbers of objects, and versions.
 
 use lake_base::NoMemory;
-use core_state::{BranchState, LakeState, RepositoryState};
+use lake_core::{BranchState, LakeState, RepositoryState};
 use lake_values::{Change, Entry, EntryCursor, Place};
 use meta_range::Tree;
 use serde_json::{Map, Value};

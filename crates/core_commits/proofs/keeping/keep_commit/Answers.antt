@@ -14,7 +14,7 @@ returns-then-has_commit-clause-kept g c =
     (record { keeper = c.args.keeper.now; history = c.args.history.now.items; present = c.args.present.now })
     (record { keeper = c.keep.new.keeper; history = c.keep.new.history.items; present = c.keep.new.present })
     (known_same c.args.repo.now new (lake_value c.args.present.now) c.requires.may c.if-has_commit.ensures.there)
-    c.keep.ensures
+    c.keep.ensures.kept
 
 pub remove_commit-requires : goal.remove_commit-requires
 remove_commit-requires g c =
@@ -23,7 +23,7 @@ remove_commit-requires g c =
     let kept = kept_repositories view c.args.by c.args.operation c.args.puts.items c.keep-kept.result
     (record { keeper = c.args.keeper.now; history = c.args.history.now.items; present = c.add_commit.new.lake })
     (record { keeper = c.keep-kept.new.keeper; history = c.keep-kept.new.history.items; present = c.keep-kept.new.present })
-    c.keep-kept.ensures in
+    c.keep-kept.ensures.kept in
     left_sound c.args.repo.now new (lake_value c.args.present.now) c.requires.may (commit_id c.args.commit) c.requires.named
     (lake_value c.add_commit.new.lake) c.in_ok-add_commit.ensures.added c.if-has_commit.ensures.there c.has_commit.ensures.valid
     (lake_value c.keep-kept.new.present) kept
@@ -37,4 +37,4 @@ returns-then-is_err-clause-kept g c =
     keeps_back view c.args.by c.args.operation c.args.puts.items c.args.repo.now new c.keep-kept.result
     (record { keeper = c.args.keeper.now; history = c.args.history.now.items; present = c.add_commit.new.lake })
     (record { keeper = c.keep-kept.new.keeper; history = c.keep-kept.new.history.items; present = c.keep-kept.new.present })
-    c.args.present.now c.remove_commit.new.lake (sym c.if-is_err.ensures.value) back c.remove_commit.ensures.removed c.keep-kept.ensures
+    c.args.present.now c.remove_commit.new.lake (sym c.if-is_err.ensures.value) back c.remove_commit.ensures.removed c.keep-kept.ensures.kept

@@ -1,4 +1,4 @@
-use Rattle.std.proofs.Common.{ap, refl, ◌∙◌}
+use Rattle.std.proofs.Common.{ap, refl, sym, ◌∙◌}
 use Rattle.lake_model.specs.State.{map_of}
 use Rattle.core_state.specs.LakeStates.{lake_value}
 use Rattle.core_state.specs.RepositoryStates.{repository_value}
@@ -12,13 +12,13 @@ trio_of-requires-clause-ranges c =
 
 pub returns-clause-value : goal.returns-clause-value
 unfolding lake_value
-returns-clause-value c =
+returns-clause-value c given repo name version settings =
     let map = (tree_of_map (repository_value c.args.repository.now) c.head-head.result c.in_ok-tree.tree.value c.in_ok-tree.ensures).map
     ∙ ap (map_of (repository_at c.args.repository.now)) c.head-head.ensures in
     λ i. record {
       at = c.args.lake.now.entries;
-      version = c.version.ensures i;
-      settings = c.args.repository.now.settings;
+      version = (c.version.ensures ∙ sym version) i;
+      settings = sym settings i;
       head = c.head-head.ensures i;
       sealed = c.in_ok-sealed.ensures i;
       objects = map i;

@@ -1,9 +1,10 @@
-use Rattle.std.proofs.Common.{Ok, Some, sym, ap, ◌∙◌}
+use Rattle.std.proofs.Common.{Some, sym}
 use Rattle.std.specs.Option.{option_copied}
 use Rattle.std.proofs.lemmas.Option.{IfSome_then}
 use Rattle.std.proofs.lemmas.Result.{err_from_is_err_and}
 use Rattle.core_state.specs.LakeStates.{lake_value}
 use Rattle.core_state.specs.RepositoryStates.{repository_value}
+use Rattle.core_readings.specs.Preparations.{prepared_value}
 use Rattle.core_readings.proofs.PlacesLemmas.{branch_at, found_branch, has_targets}
 use Rattle.core_readings.proofs.PreparingLemmas.{gives_same, no_branch, no_repository, no_source, of_there, prepared_there}
 use Rattle.core_readings.proofs.TreesLemmas.{has_trees, is_cut}
@@ -46,6 +47,6 @@ gathered-requires-clause-sides c =
 
 pub returns-clause-reply : goal.returns-clause-reply
 returns-clause-reply c given has =
-    ap Ok c.in_ok-prepared.ensures.value
-    ∙ prepared_there (lake_value c.args.lake.now) given c.args.repo.now c.args.branch.now (option_copied c.args.sides) c.in-Some.repository.now c.in-Some.ensures
-    c.in_Some-found.found.now c.in_Some-found.ensures has c.in_ok-test_source.ensures
+    prepared_there (lake_value c.args.lake.now) given c.args.repo.now c.args.branch.now (option_copied c.args.sides) c.in-Some.repository.now c.in-Some.ensures
+    c.in_Some-found.found.now c.in_Some-found.ensures has (prepared_value c.in_ok-prepared.prepared)
+    (c.in_ok-prepared.ensures.value given c.args.repo.now c.args.branch.now) c.in_ok-test_source.ensures

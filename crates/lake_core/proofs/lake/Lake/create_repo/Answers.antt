@@ -50,7 +50,7 @@ invariant_of-self-in_err-keep g c =
     let asks = c.in_ok-ready.ensures.asks in
     let may = c.law_of_repository.ensures _ _ _ c.args.by c.args.repo c.args.branch c.args.date asks.clash c.self.invariant asks.tells asks.there c.requires in
     let ready = c.in_ok-ready.ensures.ready in
-    refused_stands may _ _ _ _ _ _ c.self.invariant ready.operation refl c.in_ok-ready.ensures.same c.in_err-keep.ensures
+    refused_stands may _ _ _ _ _ _ c.self.invariant ready.operation refl c.in_ok-ready.ensures.same c.in_err-keep.ensures.kept
 
 pub returns-in_err-keep-clause-reply : goal.returns-in_err-keep-clause-reply
 returns-in_err-keep-clause-reply g c =
@@ -58,7 +58,7 @@ returns-in_err-keep-clause-reply g c =
     let asks = c.in_ok-ready.ensures.asks in
     holds_now (λ s given. IsCreateRepositoryReply s c.args.repo c.args.branch c.args.date c.from_residual-in_err-keep.result) c.self.view_is c.self.invariant.replayed
     (unkept_creation (state_of l) c.args.repo c.args.branch c.args.date _ _ _ _ _ _ c.in_ok-ready.ready asks c.from_residual-in_err-keep.result _
-    c.from_residual-in_err-keep.ensures.1 c.in_err-keep.ensures)
+    c.from_residual-in_err-keep.ensures.1 c.in_err-keep.ensures.kept)
 
 pub returns-in_err-keep-clause-leaves : goal.returns-in_err-keep-clause-leaves
 returns-in_err-keep-clause-leaves g c =
@@ -66,13 +66,13 @@ returns-in_err-keep-clause-leaves g c =
     let ready = c.in_ok-ready.ensures.ready in
     unkept_leaves _ _ (λ p. Some (create_repo c.args.repo c.args.branch c.args.date (lake_value p))) (create_repo c.args.repo c.args.branch c.args.date l) _ _ ready.operation ready.puts
     _ _ _ _ _ (record { keeper = c.keep.new.keeper; history = c.keep.new.history.items; present = c.keep.new.present }) c.in_ok-ready.ensures.same refl _ c.self.view_is _ _
-    c.from_residual-in_err-keep.ensures.1 c.in_err-keep.ensures
+    c.from_residual-in_err-keep.ensures.1 c.in_err-keep.ensures.kept
 
 pub create_repository-requires-clause-few : goal.create_repository-requires-clause-few
 create_repository-requires-clause-few g c =
     let asks = c.in_ok-ready.ensures.asks in
     let may = c.law_of_repository.ensures _ _ _ c.args.by c.args.repo c.args.branch c.args.date asks.clash c.self.invariant asks.tells asks.there c.requires in
-    let now = ap lake_value c.in_ok-keep.ensures.present ∙ c.in_ok-ready.ensures.same in
+    let now = c.in_ok-keep.ensures.kept.present ∙ c.in_ok-ready.ensures.same in
     subst AreFew (sym now) may.few
 
 pub invariant_of-self-2 : goal.invariant_of-self-2
@@ -81,15 +81,15 @@ invariant_of-self-2 g c =
     let asks = c.in_ok-ready.ensures.asks in
     let may = c.law_of_repository.ensures _ _ _ c.args.by c.args.repo c.args.branch c.args.date asks.clash c.self.invariant asks.tells asks.there c.requires in
     let ready = c.in_ok-ready.ensures.ready in
-    let now = ap lake_value c.in_ok-keep.ensures.present ∙ c.in_ok-ready.ensures.same in
+    let now = c.in_ok-keep.ensures.kept.present ∙ c.in_ok-ready.ensures.same in
     let changed = repository_made c.args.repo c.args.branch c.args.date l _ _ c.in_ok-ready.ready now c.in_ok-ready.ensures.ready c.create_repository.ensures in
-    made_stands may _ _ _ ready.operation c.in_ok-keep.ensures.history changed
+    made_stands may _ _ _ ready.operation c.in_ok-keep.ensures.kept.history changed
 
 pub returns-clause-reply : goal.returns-clause-reply
 returns-clause-reply g c =
     let l = lake_value c.self.inside.present in
     let asks = c.in_ok-ready.ensures.asks in
-    let now = ap lake_value c.in_ok-keep.ensures.present ∙ c.in_ok-ready.ensures.same in
+    let now = c.in_ok-keep.ensures.kept.present ∙ c.in_ok-ready.ensures.same in
     let changed = repository_made c.args.repo c.args.branch c.args.date l _ _ c.in_ok-ready.ready now c.in_ok-ready.ensures.ready c.create_repository.ensures in
     holds_now (λ s given. IsCreateRepositoryReply s c.args.repo c.args.branch c.args.date (Ok c.place.result)) c.self.view_is c.self.invariant.replayed
     (made_creation (state_of l) c.args.repo c.args.branch c.args.date c.in_ok-ready.ready asks c.place.result (c.place.ensures ∙ ap (λ m. m.entries) changed))
@@ -98,8 +98,8 @@ pub returns-clause-leaves : goal.returns-clause-leaves
 returns-clause-leaves g c =
     let l = lake_value c.self.inside.present in
     let ready = c.in_ok-ready.ensures.ready in
-    let now = ap lake_value c.in_ok-keep.ensures.present ∙ c.in_ok-ready.ensures.same in
+    let now = c.in_ok-keep.ensures.kept.present ∙ c.in_ok-ready.ensures.same in
     let changed = repository_made c.args.repo c.args.branch c.args.date l _ _ c.in_ok-ready.ready now c.in_ok-ready.ensures.ready c.create_repository.ensures in
     made_leaves _ _ (λ p. Some (create_repo c.args.repo c.args.branch c.args.date (lake_value p))) (create_repo c.args.repo c.args.branch c.args.date l) _ _ ready.operation ready.puts
-    _ _ _ _ _ (record { keeper = c.keep.new.keeper; history = c.keep.new.history.items; present = c.keep.new.present }) c.in_ok-ready.ensures.same refl _ c.self.view_is _ c.in_ok-keep.ensures
+    _ _ _ _ _ (record { keeper = c.keep.new.keeper; history = c.keep.new.history.items; present = c.keep.new.present }) c.in_ok-ready.ensures.same refl _ c.self.view_is _ c.in_ok-keep.ensures.kept
     changed

@@ -26,43 +26,43 @@ pub invariant_of-self-in_err-keep : goal.invariant_of-self-in_err-keep
 invariant_of-self-in_err-keep g c =
     let none = c.in_ok-commit.ensures.0 in
     let may = c.laws_of_names.ensures.create_tag _ _ _ c.args.by c.args.repo.now c.args.name c.args.e.now c.in_ok-commit.commit c.self.invariant c.requires none c.in_ok-commit.ensures.1 in
-    refused_stands may _ _ _ _ _ _ c.self.invariant c.in_ok-operation.ensures.ready.operation refl c.in_ok-operation.ensures.same c.in_err-keep.ensures
+    refused_stands may _ _ _ _ _ _ c.self.invariant c.in_ok-operation.ensures.ready.operation refl c.in_ok-operation.ensures.same c.in_err-keep.ensures.kept
 
 pub returns-in_err-keep-clause-reply : goal.returns-in_err-keep-clause-reply
 returns-in_err-keep-clause-reply g c =
     holds_now (λ s given. IsCreateTagReply s c.args.repo.now c.args.name c.args.e.now c.from_residual-in_err-keep.result) c.self.view_is c.self.invariant.replayed
-    (unkept_found _ _ _ _ _ _ (state_of (lake_value c.self.inside.present)) (create_tag_causes (state_of (lake_value c.self.inside.present)) c.args.repo.now c.args.name c.args.e.now) (in_it (state_of (lake_value c.self.inside.present)) c.args.repo.now (λ r. target_in r c.args.e.now)) (c.in_ok-commit.ensures.0) _ _ c.from_residual-in_err-keep.ensures.1 c.in_err-keep.ensures)
+    (unkept_found _ _ _ _ _ _ (state_of (lake_value c.self.inside.present)) (create_tag_causes (state_of (lake_value c.self.inside.present)) c.args.repo.now c.args.name c.args.e.now) (in_it (state_of (lake_value c.self.inside.present)) c.args.repo.now (λ r. target_in r c.args.e.now)) (c.in_ok-commit.ensures.0) _ _ c.from_residual-in_err-keep.ensures.1 c.in_err-keep.ensures.kept)
 
 pub returns-in_err-keep-clause-leaves : goal.returns-in_err-keep-clause-leaves
 returns-in_err-keep-clause-leaves g c =
     unkept_leaves _ _ (λ p. create_tag c.args.repo.now c.args.name c.args.e.now (lake_value p))
     (tag_making c.args.repo.now c.args.name c.in_ok-commit.commit) _ _ c.in_ok-operation.ensures.ready.operation c.in_ok-operation.ensures.ready.puts
-    _ _ _ _ _ (record { keeper = c.keep.new.keeper; history = c.keep.new.history.items; present = c.keep.new.present }) c.in_ok-operation.ensures.same (ap (option_map (tag_making c.args.repo.now c.args.name)) c.in_ok-commit.ensures.1) _ c.self.view_is _ _ c.from_residual-in_err-keep.ensures.1 c.in_err-keep.ensures
+    _ _ _ _ _ (record { keeper = c.keep.new.keeper; history = c.keep.new.history.items; present = c.keep.new.present }) c.in_ok-operation.ensures.same (ap (option_map (tag_making c.args.repo.now c.args.name)) c.in_ok-commit.ensures.1) _ c.self.view_is _ _ c.from_residual-in_err-keep.ensures.1 c.in_err-keep.ensures.kept
 
 pub invariant_of-self-2 : goal.invariant_of-self-2
 invariant_of-self-2 g c =
     let none = c.in_ok-commit.ensures.0 in
     let may = c.laws_of_names.ensures.create_tag _ _ _ c.args.by c.args.repo.now c.args.name c.args.e.now c.in_ok-commit.commit c.self.invariant c.requires none c.in_ok-commit.ensures.1 in
-    made_stands may _ _ _ c.in_ok-operation.ensures.ready.operation c.in_ok-keep.ensures.history
-    (c.create_tag.ensures ∙ ap (after_tag_create c.args.repo.now c.args.name c.in_ok-commit.commit) (ap lake_value c.in_ok-keep.ensures.present ∙ c.in_ok-operation.ensures.same))
+    made_stands may _ _ _ c.in_ok-operation.ensures.ready.operation c.in_ok-keep.ensures.kept.history
+    (c.create_tag.ensures ∙ ap (after_tag_create c.args.repo.now c.args.name c.in_ok-commit.commit) (c.in_ok-keep.ensures.kept.present ∙ c.in_ok-operation.ensures.same))
 
 pub returns-clause-reply : goal.returns-clause-reply
 returns-clause-reply g c =
     holds_now (λ s given. IsCreateTagReply s c.args.repo.now c.args.name c.args.e.now (Ok (c.place.result, c.in_ok-commit.commit))) c.self.view_is c.self.invariant.replayed
-    (c.in_ok-commit.ensures.0, (c.place.ensures ∙ ap (λ l. l.entries) (c.create_tag.ensures ∙ ap (after_tag_create c.args.repo.now c.args.name c.in_ok-commit.commit) (ap lake_value c.in_ok-keep.ensures.present ∙ c.in_ok-operation.ensures.same)), c.in_ok-commit.ensures.1))
+    (c.in_ok-commit.ensures.0, (c.place.ensures ∙ ap (λ l. l.entries) (c.create_tag.ensures ∙ ap (after_tag_create c.args.repo.now c.args.name c.in_ok-commit.commit) (c.in_ok-keep.ensures.kept.present ∙ c.in_ok-operation.ensures.same)), c.in_ok-commit.ensures.1))
 
 pub returns-clause-leaves : goal.returns-clause-leaves
 returns-clause-leaves g c =
     made_leaves _ _ (λ p. create_tag c.args.repo.now c.args.name c.args.e.now (lake_value p))
     (tag_making c.args.repo.now c.args.name c.in_ok-commit.commit) _ _ c.in_ok-operation.ensures.ready.operation c.in_ok-operation.ensures.ready.puts
-    _ _ _ _ _ (record { keeper = c.keep.new.keeper; history = c.keep.new.history.items; present = c.keep.new.present }) c.in_ok-operation.ensures.same (ap (option_map (tag_making c.args.repo.now c.args.name)) c.in_ok-commit.ensures.1) _ c.self.view_is _ c.in_ok-keep.ensures
-    (c.create_tag.ensures ∙ ap (after_tag_create c.args.repo.now c.args.name c.in_ok-commit.commit) (ap lake_value c.in_ok-keep.ensures.present ∙ c.in_ok-operation.ensures.same))
+    _ _ _ _ _ (record { keeper = c.keep.new.keeper; history = c.keep.new.history.items; present = c.keep.new.present }) c.in_ok-operation.ensures.same (ap (option_map (tag_making c.args.repo.now c.args.name)) c.in_ok-commit.ensures.1) _ c.self.view_is _ c.in_ok-keep.ensures.kept
+    (c.create_tag.ensures ∙ ap (after_tag_create c.args.repo.now c.args.name c.in_ok-commit.commit) (c.in_ok-keep.ensures.kept.present ∙ c.in_ok-operation.ensures.same))
 
 pub create_tag-requires-clause-few : goal.create_tag-requires-clause-few
 create_tag-requires-clause-few g c =
     let none = c.in_ok-commit.ensures.0 in
     let may = c.laws_of_names.ensures.create_tag _ _ _ c.args.by c.args.repo.now c.args.name c.args.e.now c.in_ok-commit.commit c.self.invariant c.requires none c.in_ok-commit.ensures.1 in
-    subst AreFew (sym (ap lake_value c.in_ok-keep.ensures.present ∙ c.in_ok-operation.ensures.same)) may.few
+    subst AreFew (sym (c.in_ok-keep.ensures.kept.present ∙ c.in_ok-operation.ensures.same)) may.few
 
 pub returns-in_err-commit-clause-leaves : goal.returns-in_err-commit-clause-leaves
 returns-in_err-commit-clause-leaves g c =

@@ -27,37 +27,37 @@ pub invariant_of-self : goal.invariant_of-self
 invariant_of-self g c =
     let none = c.in_ok-test_delete_tag.ensures in
     let may = c.laws_of_names.ensures.delete_tag _ _ _ c.args.by c.args.repo.now c.args.name.now c.self.invariant none in
-    refused_stands may _ _ _ _ _ _ c.self.invariant c.in_ok-operation.ensures.operation refl refl c.in_err-keep.ensures
+    refused_stands may _ _ _ _ _ _ c.self.invariant c.in_ok-operation.ensures.operation refl refl c.in_err-keep.ensures.kept
 
 pub returns-in_err-keep-clause-reply : goal.returns-in_err-keep-clause-reply
 returns-in_err-keep-clause-reply g c =
     holds_now (λ s given. GivesOrFails c.from_residual-in_err-keep.result (delete_tag_reply s c.args.repo.now c.args.name.now)) c.self.view_is c.self.invariant.replayed
-    (unkept_reply _ _ _ _ _ _ (first_cause (delete_tag_causes (state_of (lake_value c.self.inside.present)) c.args.repo.now c.args.name.now)) ((lake_value c.self.inside.present).entries + 1) (c.in_ok-test_delete_tag.ensures) _ _ c.from_residual-in_err-keep.ensures.1 c.in_err-keep.ensures)
+    (unkept_reply _ _ _ _ _ _ (first_cause (delete_tag_causes (state_of (lake_value c.self.inside.present)) c.args.repo.now c.args.name.now)) ((lake_value c.self.inside.present).entries + 1) (c.in_ok-test_delete_tag.ensures) _ _ c.from_residual-in_err-keep.ensures.1 c.in_err-keep.ensures.kept)
 
 pub returns-in_err-keep-clause-leaves : goal.returns-in_err-keep-clause-leaves
 returns-in_err-keep-clause-leaves g c =
     unkept_leaves _ _ (λ p. Some (delete_tag c.args.repo.now c.args.name.now))
     ((delete_tag c.args.repo.now c.args.name.now)) _ _ c.in_ok-operation.ensures.operation c.in_ok-operation.ensures.puts
-    _ _ _ _ _ (record { keeper = c.keep.new.keeper; history = c.keep.new.history.items; present = c.keep.new.present }) refl (refl) _ c.self.view_is _ _ c.from_residual-in_err-keep.ensures.1 c.in_err-keep.ensures
+    _ _ _ _ _ (record { keeper = c.keep.new.keeper; history = c.keep.new.history.items; present = c.keep.new.present }) refl (refl) _ c.self.view_is _ _ c.from_residual-in_err-keep.ensures.1 c.in_err-keep.ensures.kept
 
 pub invariant_of-self-2 : goal.invariant_of-self-2
 invariant_of-self-2 g c =
     let none = c.in_ok-test_delete_tag.ensures in
     let may = c.laws_of_names.ensures.delete_tag _ _ _ c.args.by c.args.repo.now c.args.name.now c.self.invariant none in
-    made_stands may _ _ _ c.in_ok-operation.ensures.operation c.in_ok-keep.ensures.history
-    (c.delete_tag.ensures ∙ ap (after_tag_delete c.args.repo.now c.args.name.now) (ap lake_value c.in_ok-keep.ensures.present))
+    made_stands may _ _ _ c.in_ok-operation.ensures.operation c.in_ok-keep.ensures.kept.history
+    (c.delete_tag.ensures ∙ ap (after_tag_delete c.args.repo.now c.args.name.now) (c.in_ok-keep.ensures.kept.present))
 
 pub returns-clause-reply : goal.returns-clause-reply
 returns-clause-reply g c =
-    accepted {X = ℕ} (c.in_ok-test_delete_tag.ensures) (c.place.ensures ∙ ap (λ l. l.entries) (c.delete_tag.ensures ∙ ap (after_tag_delete c.args.repo.now c.args.name.now) (ap lake_value c.in_ok-keep.ensures.present)))
+    accepted {X = ℕ} (c.in_ok-test_delete_tag.ensures) (c.place.ensures ∙ ap (λ l. l.entries) (c.delete_tag.ensures ∙ ap (after_tag_delete c.args.repo.now c.args.name.now) (c.in_ok-keep.ensures.kept.present)))
     ∙ at_present (λ s given. delete_tag_reply s c.args.repo.now c.args.name.now) c.self.view_is c.self.invariant.replayed
 
 pub returns-clause-leaves : goal.returns-clause-leaves
 returns-clause-leaves g c =
     made_leaves _ _ (λ p. Some (delete_tag c.args.repo.now c.args.name.now))
     ((delete_tag c.args.repo.now c.args.name.now)) _ _ c.in_ok-operation.ensures.operation c.in_ok-operation.ensures.puts
-    _ _ _ _ _ (record { keeper = c.keep.new.keeper; history = c.keep.new.history.items; present = c.keep.new.present }) refl (refl) _ c.self.view_is _ c.in_ok-keep.ensures
-    (c.delete_tag.ensures ∙ ap (after_tag_delete c.args.repo.now c.args.name.now) (ap lake_value c.in_ok-keep.ensures.present))
+    _ _ _ _ _ (record { keeper = c.keep.new.keeper; history = c.keep.new.history.items; present = c.keep.new.present }) refl (refl) _ c.self.view_is _ c.in_ok-keep.ensures.kept
+    (c.delete_tag.ensures ∙ ap (after_tag_delete c.args.repo.now c.args.name.now) (c.in_ok-keep.ensures.kept.present))
 
 pub ready_delete-requires : goal.ready_delete-requires
 ready_delete-requires g c =
@@ -69,7 +69,7 @@ pub delete_tag-requires : goal.delete_tag-requires
 delete_tag-requires g c =
     let none = c.in_ok-test_delete_tag.ensures in
     let may = c.laws_of_names.ensures.delete_tag _ _ _ c.args.by c.args.repo.now c.args.name.now c.self.invariant none in
-    record { few = subst AreFew (sym (ap lake_value c.in_ok-keep.ensures.present)) may.few }
+    record { few = subst AreFew (sym (c.in_ok-keep.ensures.kept.present)) may.few }
 
 pub returns-in_err-test_delete_tag-clause-leaves : goal.returns-in_err-test_delete_tag-clause-leaves
 returns-in_err-test_delete_tag-clause-leaves g c =

@@ -28,45 +28,45 @@ invariant_of-self g c =
     let none = c.in_ok-test_change.ensures in
     let ticket = held_then (λ s given. HasTicket s c.args.by.seat c.args.number) c.self.view_is c.self.invariant.replayed c.requires in
     let may = c.laws_of_tickets.ensures.drop _ _ _ c.args.by c.args.number c.self.invariant none ticket in
-    refused_stands may _ _ _ _ _ _ c.self.invariant c.ready_drop-operation.ensures.operation refl refl c.in_err-keep.ensures
+    refused_stands may _ _ _ _ _ _ c.self.invariant c.ready_drop-operation.ensures.operation refl refl c.in_err-keep.ensures.kept
 
 pub returns-in_err-keep-clause-reply : goal.returns-in_err-keep-clause-reply
 returns-in_err-keep-clause-reply g c =
     holds_now (λ s given. GivesOrFails c.from_residual-in_err-keep.result (drop_ticket_reply s)) c.self.view_is c.self.invariant.replayed
-    (unkept_reply _ _ _ _ _ _ (first_cause (causes_of_change (state_of (lake_value c.self.inside.present)))) ((lake_value c.self.inside.present).entries + 1) (c.in_ok-test_change.ensures) _ _ c.from_residual-in_err-keep.ensures.1 c.in_err-keep.ensures)
+    (unkept_reply _ _ _ _ _ _ (first_cause (causes_of_change (state_of (lake_value c.self.inside.present)))) ((lake_value c.self.inside.present).entries + 1) (c.in_ok-test_change.ensures) _ _ c.from_residual-in_err-keep.ensures.1 c.in_err-keep.ensures.kept)
 
 pub returns-in_err-keep-clause-leaves : goal.returns-in_err-keep-clause-leaves
 returns-in_err-keep-clause-leaves g c =
     unkept_leaves _ _ (λ p. Some (drop_ticket c.args.number))
     ((drop_ticket c.args.number)) _ _ c.ready_drop-operation.ensures.operation c.ready_drop-operation.ensures.puts
-    _ _ _ _ _ (record { keeper = c.keep.new.keeper; history = c.keep.new.history.items; present = c.keep.new.present }) refl (refl) _ c.self.view_is _ _ c.from_residual-in_err-keep.ensures.1 c.in_err-keep.ensures
+    _ _ _ _ _ (record { keeper = c.keep.new.keeper; history = c.keep.new.history.items; present = c.keep.new.present }) refl (refl) _ c.self.view_is _ _ c.from_residual-in_err-keep.ensures.1 c.in_err-keep.ensures.kept
 
 pub invariant_of-self-2 : goal.invariant_of-self-2
 invariant_of-self-2 g c =
     let none = c.in_ok-test_change.ensures in
     let ticket = held_then (λ s given. HasTicket s c.args.by.seat c.args.number) c.self.view_is c.self.invariant.replayed c.requires in
     let may = c.laws_of_tickets.ensures.drop _ _ _ c.args.by c.args.number c.self.invariant none ticket in
-    made_stands may _ _ _ c.ready_drop-operation.ensures.operation c.in_ok-keep.ensures.history
-    (c.drop_ticket.ensures ∙ ap (after_ticket_drop c.args.number) (ap lake_value c.in_ok-keep.ensures.present))
+    made_stands may _ _ _ c.ready_drop-operation.ensures.operation c.in_ok-keep.ensures.kept.history
+    (c.drop_ticket.ensures ∙ ap (after_ticket_drop c.args.number) (c.in_ok-keep.ensures.kept.present))
 
 pub returns-clause-reply : goal.returns-clause-reply
 returns-clause-reply g c =
-    accepted {X = ℕ} (c.in_ok-test_change.ensures) (c.place.ensures ∙ ap (λ l. l.entries) (c.drop_ticket.ensures ∙ ap (after_ticket_drop c.args.number) (ap lake_value c.in_ok-keep.ensures.present)))
+    accepted {X = ℕ} (c.in_ok-test_change.ensures) (c.place.ensures ∙ ap (λ l. l.entries) (c.drop_ticket.ensures ∙ ap (after_ticket_drop c.args.number) (c.in_ok-keep.ensures.kept.present)))
     ∙ at_present (λ s given. drop_ticket_reply s) c.self.view_is c.self.invariant.replayed
 
 pub returns-clause-leaves : goal.returns-clause-leaves
 returns-clause-leaves g c =
     made_leaves _ _ (λ p. Some (drop_ticket c.args.number))
     ((drop_ticket c.args.number)) _ _ c.ready_drop-operation.ensures.operation c.ready_drop-operation.ensures.puts
-    _ _ _ _ _ (record { keeper = c.keep.new.keeper; history = c.keep.new.history.items; present = c.keep.new.present }) refl (refl) _ c.self.view_is _ c.in_ok-keep.ensures
-    (c.drop_ticket.ensures ∙ ap (after_ticket_drop c.args.number) (ap lake_value c.in_ok-keep.ensures.present))
+    _ _ _ _ _ (record { keeper = c.keep.new.keeper; history = c.keep.new.history.items; present = c.keep.new.present }) refl (refl) _ c.self.view_is _ c.in_ok-keep.ensures.kept
+    (c.drop_ticket.ensures ∙ ap (after_ticket_drop c.args.number) (c.in_ok-keep.ensures.kept.present))
 
 pub drop_ticket-requires : goal.drop_ticket-requires
 drop_ticket-requires g c =
     let none = c.in_ok-test_change.ensures in
     let ticket = held_then (λ s given. HasTicket s c.args.by.seat c.args.number) c.self.view_is c.self.invariant.replayed c.requires in
     let may = c.laws_of_tickets.ensures.drop _ _ _ c.args.by c.args.number c.self.invariant none ticket in
-    record { few = subst AreFew (sym (ap lake_value c.in_ok-keep.ensures.present)) may.few }
+    record { few = subst AreFew (sym (c.in_ok-keep.ensures.kept.present)) may.few }
 
 pub returns-in_err-test_change-clause-leaves : goal.returns-in_err-test_change-clause-leaves
 returns-in_err-test_change-clause-leaves g c =

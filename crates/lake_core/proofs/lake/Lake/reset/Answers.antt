@@ -27,37 +27,37 @@ pub invariant_of-self-in_err-keep : goal.invariant_of-self-in_err-keep
 invariant_of-self-in_err-keep g c =
     let none = c.in_ok-test_write.ensures in
     let may = c.laws_of_writes.ensures.reset _ _ _ c.args.by c.args.repo.now c.args.branch.now c.args.what c.self.invariant none in
-    refused_stands may _ _ _ _ _ _ c.self.invariant c.in_ok-operation.ensures.ready.operation refl c.in_ok-operation.ensures.same c.in_err-keep.ensures
+    refused_stands may _ _ _ _ _ _ c.self.invariant c.in_ok-operation.ensures.ready.operation refl c.in_ok-operation.ensures.same c.in_err-keep.ensures.kept
 
 pub returns-in_err-keep-clause-reply : goal.returns-in_err-keep-clause-reply
 returns-in_err-keep-clause-reply g c =
     holds_now (λ s given. GivesOrFails c.from_residual-in_err-keep.result (reset_reply s c.args.repo.now c.args.branch.now)) c.self.view_is c.self.invariant.replayed
-    (unkept_reply _ _ _ _ _ _ (first_cause (write_causes (state_of (lake_value c.self.inside.present)) c.args.repo.now c.args.branch.now)) ((lake_value c.self.inside.present).entries + 1) (c.in_ok-test_write.ensures) _ _ c.from_residual-in_err-keep.ensures.1 c.in_err-keep.ensures)
+    (unkept_reply _ _ _ _ _ _ (first_cause (write_causes (state_of (lake_value c.self.inside.present)) c.args.repo.now c.args.branch.now)) ((lake_value c.self.inside.present).entries + 1) (c.in_ok-test_write.ensures) _ _ c.from_residual-in_err-keep.ensures.1 c.in_err-keep.ensures.kept)
 
 pub returns-in_err-keep-clause-leaves : goal.returns-in_err-keep-clause-leaves
 returns-in_err-keep-clause-leaves g c =
     unkept_leaves _ _ (λ p. Some (reset c.args.repo.now c.args.branch.now c.args.what (lake_value p)))
     ((reset c.args.repo.now c.args.branch.now c.args.what (lake_value c.self.inside.present))) _ _ c.in_ok-operation.ensures.ready.operation c.in_ok-operation.ensures.ready.puts
-    _ _ _ _ _ (record { keeper = c.keep.new.keeper; history = c.keep.new.history.items; present = c.keep.new.present }) c.in_ok-operation.ensures.same (refl) _ c.self.view_is _ _ c.from_residual-in_err-keep.ensures.1 c.in_err-keep.ensures
+    _ _ _ _ _ (record { keeper = c.keep.new.keeper; history = c.keep.new.history.items; present = c.keep.new.present }) c.in_ok-operation.ensures.same (refl) _ c.self.view_is _ _ c.from_residual-in_err-keep.ensures.1 c.in_err-keep.ensures.kept
 
 pub invariant_of-self-2 : goal.invariant_of-self-2
 invariant_of-self-2 g c =
     let none = c.in_ok-test_write.ensures in
     let may = c.laws_of_writes.ensures.reset _ _ _ c.args.by c.args.repo.now c.args.branch.now c.args.what c.self.invariant none in
-    made_stands may _ _ _ c.in_ok-operation.ensures.ready.operation c.in_ok-keep.ensures.history
-    (c.reset.ensures ∙ ap (after_reset c.args.repo.now c.args.branch.now c.args.what) (ap lake_value c.in_ok-keep.ensures.present ∙ c.in_ok-operation.ensures.same))
+    made_stands may _ _ _ c.in_ok-operation.ensures.ready.operation c.in_ok-keep.ensures.kept.history
+    (c.reset.ensures ∙ ap (after_reset c.args.repo.now c.args.branch.now c.args.what) (c.in_ok-keep.ensures.kept.present ∙ c.in_ok-operation.ensures.same))
 
 pub returns-clause-reply : goal.returns-clause-reply
 returns-clause-reply g c =
-    accepted {X = ℕ} (c.in_ok-test_write.ensures) (c.place.ensures ∙ ap (λ l. l.entries) (c.reset.ensures ∙ ap (after_reset c.args.repo.now c.args.branch.now c.args.what) (ap lake_value c.in_ok-keep.ensures.present ∙ c.in_ok-operation.ensures.same)))
+    accepted {X = ℕ} (c.in_ok-test_write.ensures) (c.place.ensures ∙ ap (λ l. l.entries) (c.reset.ensures ∙ ap (after_reset c.args.repo.now c.args.branch.now c.args.what) (c.in_ok-keep.ensures.kept.present ∙ c.in_ok-operation.ensures.same)))
     ∙ at_present (λ s given. reset_reply s c.args.repo.now c.args.branch.now) c.self.view_is c.self.invariant.replayed
 
 pub returns-clause-leaves : goal.returns-clause-leaves
 returns-clause-leaves g c =
     made_leaves _ _ (λ p. Some (reset c.args.repo.now c.args.branch.now c.args.what (lake_value p)))
     ((reset c.args.repo.now c.args.branch.now c.args.what (lake_value c.self.inside.present))) _ _ c.in_ok-operation.ensures.ready.operation c.in_ok-operation.ensures.ready.puts
-    _ _ _ _ _ (record { keeper = c.keep.new.keeper; history = c.keep.new.history.items; present = c.keep.new.present }) c.in_ok-operation.ensures.same (refl) _ c.self.view_is _ c.in_ok-keep.ensures
-    (c.reset.ensures ∙ ap (after_reset c.args.repo.now c.args.branch.now c.args.what) (ap lake_value c.in_ok-keep.ensures.present ∙ c.in_ok-operation.ensures.same))
+    _ _ _ _ _ (record { keeper = c.keep.new.keeper; history = c.keep.new.history.items; present = c.keep.new.present }) c.in_ok-operation.ensures.same (refl) _ c.self.view_is _ c.in_ok-keep.ensures.kept
+    (c.reset.ensures ∙ ap (after_reset c.args.repo.now c.args.branch.now c.args.what) (c.in_ok-keep.ensures.kept.present ∙ c.in_ok-operation.ensures.same))
 
 pub ready_reset-requires : goal.ready_reset-requires
 ready_reset-requires g c =
@@ -69,7 +69,7 @@ pub reset-requires-clause-few : goal.reset-requires-clause-few
 reset-requires-clause-few g c =
     let none = c.in_ok-test_write.ensures in
     let may = c.laws_of_writes.ensures.reset _ _ _ c.args.by c.args.repo.now c.args.branch.now c.args.what c.self.invariant none in
-    subst AreFew (sym (ap lake_value c.in_ok-keep.ensures.present ∙ c.in_ok-operation.ensures.same)) may.few
+    subst AreFew (sym (c.in_ok-keep.ensures.kept.present ∙ c.in_ok-operation.ensures.same)) may.few
 
 pub returns-in_err-test_write-clause-leaves : goal.returns-in_err-test_write-clause-leaves
 returns-in_err-test_write-clause-leaves g c =

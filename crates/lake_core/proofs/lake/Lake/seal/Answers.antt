@@ -31,30 +31,30 @@ pub invariant_of-self-in_err-keep : goal.invariant_of-self-in_err-keep
 invariant_of-self-in_err-keep g c =
     let none = c.in_ok-test_seal.ensures in
     let may = c.laws_of_writes.ensures.seal _ _ _ c.args.by c.args.repo.now c.args.branch.now c.args.why c.self.invariant none in
-    refused_stands may _ _ _ _ _ _ c.self.invariant c.in_ok-operation.ensures.ready.operation refl c.in_ok-operation.ensures.same c.in_err-keep.ensures
+    refused_stands may _ _ _ _ _ _ c.self.invariant c.in_ok-operation.ensures.ready.operation refl c.in_ok-operation.ensures.same c.in_err-keep.ensures.kept
 
 pub returns-in_err-keep-clause-reply : goal.returns-in_err-keep-clause-reply
 returns-in_err-keep-clause-reply g c =
     holds_now (λ s given. GivesOrFails c.from_residual-in_err-keep.result (seal_reply c.args.why s given c.args.repo.now c.args.branch.now)) c.self.view_is c.self.invariant.replayed
-    (unkept_reply _ _ _ _ _ _ (first_cause (seal_causes c.args.why (state_of (lake_value c.self.inside.present)) c.args.repo.now c.args.branch.now)) (record { at = (lake_value c.self.inside.present).entries + 1; version = (versions_since (lake_value c.self.inside.opened.value) c.self.inside.history.items).next; settings = settings_version (versions_since (lake_value c.self.inside.opened.value) c.self.inside.history.items) c.args.repo.now }) (c.in_ok-test_seal.ensures) _ _ c.from_residual-in_err-keep.ensures.1 c.in_err-keep.ensures)
+    (unkept_reply _ _ _ _ _ _ (first_cause (seal_causes c.args.why (state_of (lake_value c.self.inside.present)) c.args.repo.now c.args.branch.now)) (record { at = (lake_value c.self.inside.present).entries + 1; version = (versions_since (lake_value c.self.inside.opened.value) c.self.inside.history.items).next; settings = settings_version (versions_since (lake_value c.self.inside.opened.value) c.self.inside.history.items) c.args.repo.now }) (c.in_ok-test_seal.ensures) _ _ c.from_residual-in_err-keep.ensures.1 c.in_err-keep.ensures.kept)
 
 pub returns-in_err-keep-clause-leaves : goal.returns-in_err-keep-clause-leaves
 returns-in_err-keep-clause-leaves g c =
     unkept_leaves _ _ (λ p. Some (seal c.args.repo.now c.args.branch.now c.args.why (lake_value p)))
     ((seal c.args.repo.now c.args.branch.now c.args.why (lake_value c.self.inside.present))) _ _ c.in_ok-operation.ensures.ready.operation c.in_ok-operation.ensures.ready.puts
-    _ _ _ _ _ (record { keeper = c.keep.new.keeper; history = c.keep.new.history.items; present = c.keep.new.present }) c.in_ok-operation.ensures.same (refl) _ c.self.view_is _ _ c.from_residual-in_err-keep.ensures.1 c.in_err-keep.ensures
+    _ _ _ _ _ (record { keeper = c.keep.new.keeper; history = c.keep.new.history.items; present = c.keep.new.present }) c.in_ok-operation.ensures.same (refl) _ c.self.view_is _ _ c.from_residual-in_err-keep.ensures.1 c.in_err-keep.ensures.kept
 
 pub invariant_of-self-2 : goal.invariant_of-self-2
 invariant_of-self-2 g c =
     let none = c.in_ok-test_seal.ensures in
     let may = c.laws_of_writes.ensures.seal _ _ _ c.args.by c.args.repo.now c.args.branch.now c.args.why c.self.invariant none in
-    made_stands may _ _ _ c.in_ok-operation.ensures.ready.operation c.in_ok-keep.ensures.history
-    (c.seal.ensures ∙ ap (after_seal c.args.repo.now c.args.branch.now) (ap lake_value c.in_ok-keep.ensures.present ∙ c.in_ok-operation.ensures.same))
+    made_stands may _ _ _ c.in_ok-operation.ensures.ready.operation c.in_ok-keep.ensures.kept.history
+    (c.seal.ensures ∙ ap (after_seal c.args.repo.now c.args.branch.now) (c.in_ok-keep.ensures.kept.present ∙ c.in_ok-operation.ensures.same))
 
 pub returns-clause-reply : goal.returns-clause-reply
 unfolding lake_value
 returns-clause-reply g c =
-    accepted {X = Versions} (c.in_ok-test_seal.ensures) (ap (λ at. record { at = at; version = (lake_value c.self.inside.present).next_version; settings = c.settings_of-settings.result }) (c.place-at.ensures ∙ ap (λ l. l.entries) (c.seal.ensures ∙ ap (after_seal c.args.repo.now c.args.branch.now) (ap lake_value c.in_ok-keep.ensures.present ∙ c.in_ok-operation.ensures.same)))
+    accepted {X = Versions} (c.in_ok-test_seal.ensures) (ap (λ at. record { at = at; version = (lake_value c.self.inside.present).next_version; settings = c.settings_of-settings.result }) (c.place-at.ensures ∙ ap (λ l. l.entries) (c.seal.ensures ∙ ap (after_seal c.args.repo.now c.args.branch.now) (c.in_ok-keep.ensures.kept.present ∙ c.in_ok-operation.ensures.same)))
     ∙ ap (λ v. record { at = (lake_value c.self.inside.present).entries + 1; version = v; settings = c.settings_of-settings.result }) (sym c.self.invariant.versions.next)
     ∙ ap (λ w. record { at = (lake_value c.self.inside.present).entries + 1; version = (versions_since (lake_value c.self.inside.opened.value) c.self.inside.history.items).next; settings = w }) (c.settings_of-settings.ensures ∙ settings_at _ _ c.self.invariant.versions c.args.repo.now _ refl))
     ∙ at_present (λ s given. seal_reply c.args.why s given c.args.repo.now c.args.branch.now) c.self.view_is c.self.invariant.replayed
@@ -63,8 +63,8 @@ pub returns-clause-leaves : goal.returns-clause-leaves
 returns-clause-leaves g c =
     made_leaves _ _ (λ p. Some (seal c.args.repo.now c.args.branch.now c.args.why (lake_value p)))
     ((seal c.args.repo.now c.args.branch.now c.args.why (lake_value c.self.inside.present))) _ _ c.in_ok-operation.ensures.ready.operation c.in_ok-operation.ensures.ready.puts
-    _ _ _ _ _ (record { keeper = c.keep.new.keeper; history = c.keep.new.history.items; present = c.keep.new.present }) c.in_ok-operation.ensures.same (refl) _ c.self.view_is _ c.in_ok-keep.ensures
-    (c.seal.ensures ∙ ap (after_seal c.args.repo.now c.args.branch.now) (ap lake_value c.in_ok-keep.ensures.present ∙ c.in_ok-operation.ensures.same))
+    _ _ _ _ _ (record { keeper = c.keep.new.keeper; history = c.keep.new.history.items; present = c.keep.new.present }) c.in_ok-operation.ensures.same (refl) _ c.self.view_is _ c.in_ok-keep.ensures.kept
+    (c.seal.ensures ∙ ap (after_seal c.args.repo.now c.args.branch.now) (c.in_ok-keep.ensures.kept.present ∙ c.in_ok-operation.ensures.same))
 
 pub ready_seal-requires : goal.ready_seal-requires
 ready_seal-requires g c =
@@ -76,13 +76,13 @@ pub seal-requires-clause-few : goal.seal-requires-clause-few
 seal-requires-clause-few g c =
     let none = c.in_ok-test_seal.ensures in
     let may = c.laws_of_writes.ensures.seal _ _ _ c.args.by c.args.repo.now c.args.branch.now c.args.why c.self.invariant none in
-    subst AreFew (sym (ap lake_value c.in_ok-keep.ensures.present ∙ c.in_ok-operation.ensures.same)) may.few
+    subst AreFew (sym (c.in_ok-keep.ensures.kept.present ∙ c.in_ok-operation.ensures.same)) may.few
 
 pub seal-requires-clause-tokens : goal.seal-requires-clause-tokens
 seal-requires-clause-tokens g c =
     let none = c.in_ok-test_seal.ensures in
     let may = c.laws_of_writes.ensures.seal _ _ _ c.args.by c.args.repo.now c.args.branch.now c.args.why c.self.invariant none in
-    subst AreTokensBelow (sym (ap lake_value c.in_ok-keep.ensures.present ∙ c.in_ok-operation.ensures.same)) c.self.invariant.tokens
+    subst AreTokensBelow (sym (c.in_ok-keep.ensures.kept.present ∙ c.in_ok-operation.ensures.same)) c.self.invariant.tokens
 
 pub returns-in_err-test_seal-clause-leaves : goal.returns-in_err-test_seal-clause-leaves
 returns-in_err-test_seal-clause-leaves g c =

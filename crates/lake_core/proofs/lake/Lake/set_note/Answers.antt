@@ -28,37 +28,37 @@ pub invariant_of-self : goal.invariant_of-self
 invariant_of-self g c =
     let none = c.in_ok-test_set_note.ensures _ c.self.invariant.versions in
     let may = c.law_of_settings.ensures _ _ _ c.args.by c.args.repo.now c.args.expected c.args.name c.args.note c.self.invariant none c.requires.name in
-    refused_stands may _ _ _ _ _ _ c.self.invariant c.in_ok-operation.ensures.operation refl refl c.in_err-keep.ensures
+    refused_stands may _ _ _ _ _ _ c.self.invariant c.in_ok-operation.ensures.operation refl refl c.in_err-keep.ensures.kept
 
 pub returns-in_err-keep-clause-reply : goal.returns-in_err-keep-clause-reply
 returns-in_err-keep-clause-reply g c =
     holds_now (λ s given. GivesOrFails c.from_residual-in_err-keep.result (set_note_reply s given c.args.repo.now c.args.expected c.args.name c.args.note)) c.self.view_is c.self.invariant.replayed
-    (unkept_reply _ _ _ _ _ _ (first_cause (set_note_causes (state_of (lake_value c.self.inside.present)) (versions_since (lake_value c.self.inside.opened.value) c.self.inside.history.items) c.args.repo.now c.args.expected c.args.name c.args.note)) ((lake_value c.self.inside.present).entries + 1) (c.in_ok-test_set_note.ensures _ c.self.invariant.versions) _ _ c.from_residual-in_err-keep.ensures.1 c.in_err-keep.ensures)
+    (unkept_reply _ _ _ _ _ _ (first_cause (set_note_causes (state_of (lake_value c.self.inside.present)) (versions_since (lake_value c.self.inside.opened.value) c.self.inside.history.items) c.args.repo.now c.args.expected c.args.name c.args.note)) ((lake_value c.self.inside.present).entries + 1) (c.in_ok-test_set_note.ensures _ c.self.invariant.versions) _ _ c.from_residual-in_err-keep.ensures.1 c.in_err-keep.ensures.kept)
 
 pub returns-in_err-keep-clause-leaves : goal.returns-in_err-keep-clause-leaves
 returns-in_err-keep-clause-leaves g c =
     unkept_leaves _ _ (λ p. Some (set_note c.args.repo.now c.args.name c.args.note (lake_value p)))
     ((set_note c.args.repo.now c.args.name c.args.note (lake_value c.self.inside.present))) _ _ c.in_ok-operation.ensures.operation c.in_ok-operation.ensures.puts
-    _ _ _ _ _ (record { keeper = c.keep.new.keeper; history = c.keep.new.history.items; present = c.keep.new.present }) refl (refl) _ c.self.view_is _ _ c.from_residual-in_err-keep.ensures.1 c.in_err-keep.ensures
+    _ _ _ _ _ (record { keeper = c.keep.new.keeper; history = c.keep.new.history.items; present = c.keep.new.present }) refl (refl) _ c.self.view_is _ _ c.from_residual-in_err-keep.ensures.1 c.in_err-keep.ensures.kept
 
 pub invariant_of-self-2 : goal.invariant_of-self-2
 invariant_of-self-2 g c =
     let none = c.in_ok-test_set_note.ensures _ c.self.invariant.versions in
     let may = c.law_of_settings.ensures _ _ _ c.args.by c.args.repo.now c.args.expected c.args.name c.args.note c.self.invariant none c.requires.name in
-    made_stands may _ _ _ c.in_ok-operation.ensures.operation c.in_ok-keep.ensures.history
-    (c.set_note.ensures ∙ ap (after_note_set c.args.repo.now c.args.name c.args.note) (ap lake_value c.in_ok-keep.ensures.present))
+    made_stands may _ _ _ c.in_ok-operation.ensures.operation c.in_ok-keep.ensures.kept.history
+    (c.set_note.ensures ∙ ap (after_note_set c.args.repo.now c.args.name c.args.note) (c.in_ok-keep.ensures.kept.present))
 
 pub returns-clause-reply : goal.returns-clause-reply
 returns-clause-reply g c =
-    accepted {X = ℕ} (c.in_ok-test_set_note.ensures _ c.self.invariant.versions) (c.place.ensures ∙ ap (λ l. l.entries) (c.set_note.ensures ∙ ap (after_note_set c.args.repo.now c.args.name c.args.note) (ap lake_value c.in_ok-keep.ensures.present)))
+    accepted {X = ℕ} (c.in_ok-test_set_note.ensures _ c.self.invariant.versions) (c.place.ensures ∙ ap (λ l. l.entries) (c.set_note.ensures ∙ ap (after_note_set c.args.repo.now c.args.name c.args.note) (c.in_ok-keep.ensures.kept.present)))
     ∙ at_present (λ s given. set_note_reply s given c.args.repo.now c.args.expected c.args.name c.args.note) c.self.view_is c.self.invariant.replayed
 
 pub returns-clause-leaves : goal.returns-clause-leaves
 returns-clause-leaves g c =
     made_leaves _ _ (λ p. Some (set_note c.args.repo.now c.args.name c.args.note (lake_value p)))
     ((set_note c.args.repo.now c.args.name c.args.note (lake_value c.self.inside.present))) _ _ c.in_ok-operation.ensures.operation c.in_ok-operation.ensures.puts
-    _ _ _ _ _ (record { keeper = c.keep.new.keeper; history = c.keep.new.history.items; present = c.keep.new.present }) refl (refl) _ c.self.view_is _ c.in_ok-keep.ensures
-    (c.set_note.ensures ∙ ap (after_note_set c.args.repo.now c.args.name c.args.note) (ap lake_value c.in_ok-keep.ensures.present))
+    _ _ _ _ _ (record { keeper = c.keep.new.keeper; history = c.keep.new.history.items; present = c.keep.new.present }) refl (refl) _ c.self.view_is _ c.in_ok-keep.ensures.kept
+    (c.set_note.ensures ∙ ap (after_note_set c.args.repo.now c.args.name c.args.note) (c.in_ok-keep.ensures.kept.present))
 
 pub ready_note-requires : goal.ready_note-requires
 ready_note-requires g c =
@@ -70,7 +70,7 @@ pub set_note-requires : goal.set_note-requires
 set_note-requires g c =
     let none = c.in_ok-test_set_note.ensures _ c.self.invariant.versions in
     let may = c.law_of_settings.ensures _ _ _ c.args.by c.args.repo.now c.args.expected c.args.name c.args.note c.self.invariant none c.requires.name in
-    record { few = subst AreFew (sym (ap lake_value c.in_ok-keep.ensures.present)) may.few }
+    record { few = subst AreFew (sym (c.in_ok-keep.ensures.kept.present)) may.few }
 
 pub returns-in_err-test_set_note-clause-leaves : goal.returns-in_err-test_set_note-clause-leaves
 returns-in_err-test_set_note-clause-leaves g c =

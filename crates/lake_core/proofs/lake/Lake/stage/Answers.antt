@@ -42,7 +42,7 @@ stage-requires-clause-few g c =
     let ticket = held_then (λ s given. IfSome (put_number c.args.change) (HasTicket s c.args.by.seat)) c.self.view_is c.self.invariant.replayed c.requires in
     let none = (c.in_ok-operation.ensures.tells (versions_since (lake_value c.self.inside.opened.value) c.self.inside.history.items) c.self.invariant.versions).0 in
     let may = c.laws_of_writes.ensures.stage _ _ _ c.args.by c.args.repo.now c.args.branch.now c.args.version c.args.path c.args.change c.self.invariant none ticket in
-    subst AreFew (sym (ap lake_value c.in_ok-keep.ensures.present ∙ c.in_ok-operation.ensures.same)) may.few
+    subst AreFew (sym (c.in_ok-keep.ensures.kept.present ∙ c.in_ok-operation.ensures.same)) may.few
 
 pub invariant_of-self-in_err-keep : goal.invariant_of-self-in_err-keep
 invariant_of-self-in_err-keep g c =
@@ -50,18 +50,18 @@ invariant_of-self-in_err-keep g c =
     let none = (c.in_ok-operation.ensures.tells (versions_since (lake_value c.self.inside.opened.value) c.self.inside.history.items) c.self.invariant.versions).0 in
     let may = c.laws_of_writes.ensures.stage _ _ _ c.args.by c.args.repo.now c.args.branch.now c.args.version c.args.path c.args.change c.self.invariant none ticket in
     let ready = (c.in_ok-operation.ensures.tells (versions_since (lake_value c.self.inside.opened.value) c.self.inside.history.items) c.self.invariant.versions).1 in
-    refused_stands may _ _ _ _ _ _ c.self.invariant ready.operation refl c.in_ok-operation.ensures.same c.in_err-keep.ensures
+    refused_stands may _ _ _ _ _ _ c.self.invariant ready.operation refl c.in_ok-operation.ensures.same c.in_err-keep.ensures.kept
 
 pub returns-in_err-keep-clause-reply : goal.returns-in_err-keep-clause-reply
 returns-in_err-keep-clause-reply g c =
     holds_now (λ s given. GivesOrFails c.from_residual-in_err-keep.result (stage_reply s given c.args.repo.now c.args.branch.now c.args.version)) c.self.view_is c.self.invariant.replayed
-    (unkept_reply _ _ _ _ _ _ _ _ ((c.in_ok-operation.ensures.tells (versions_since (lake_value c.self.inside.opened.value) c.self.inside.history.items) c.self.invariant.versions).0) _ _ c.from_residual-in_err-keep.ensures.1 c.in_err-keep.ensures)
+    (unkept_reply _ _ _ _ _ _ _ _ ((c.in_ok-operation.ensures.tells (versions_since (lake_value c.self.inside.opened.value) c.self.inside.history.items) c.self.invariant.versions).0) _ _ c.from_residual-in_err-keep.ensures.1 c.in_err-keep.ensures.kept)
 
 pub returns-in_err-keep-clause-leaves : goal.returns-in_err-keep-clause-leaves
 returns-in_err-keep-clause-leaves g c =
     let ready = (c.in_ok-operation.ensures.tells (versions_since (lake_value c.self.inside.opened.value) c.self.inside.history.items) c.self.invariant.versions).1 in
     unkept_leaves _ _ (λ p. Some (stage c.args.repo.now c.args.branch.now c.args.path c.args.change (lake_value p))) (stage c.args.repo.now c.args.branch.now c.args.path c.args.change (lake_value c.self.inside.present)) _ _ ready.operation ready.puts
-    _ _ _ _ _ (record { keeper = c.keep.new.keeper; history = c.keep.new.history.items; present = c.keep.new.present }) c.in_ok-operation.ensures.same refl _ c.self.view_is _ _ c.from_residual-in_err-keep.ensures.1 c.in_err-keep.ensures
+    _ _ _ _ _ (record { keeper = c.keep.new.keeper; history = c.keep.new.history.items; present = c.keep.new.present }) c.in_ok-operation.ensures.same refl _ c.self.view_is _ _ c.from_residual-in_err-keep.ensures.1 c.in_err-keep.ensures.kept
 
 pub invariant_of-self-2 : goal.invariant_of-self-2
 invariant_of-self-2 g c =
@@ -69,12 +69,12 @@ invariant_of-self-2 g c =
     let none = (c.in_ok-operation.ensures.tells (versions_since (lake_value c.self.inside.opened.value) c.self.inside.history.items) c.self.invariant.versions).0 in
     let may = c.laws_of_writes.ensures.stage _ _ _ c.args.by c.args.repo.now c.args.branch.now c.args.version c.args.path c.args.change c.self.invariant none ticket in
     let ready = (c.in_ok-operation.ensures.tells (versions_since (lake_value c.self.inside.opened.value) c.self.inside.history.items) c.self.invariant.versions).1 in
-    made_stands may _ _ _ ready.operation c.in_ok-keep.ensures.history
-    (c.stage.ensures ∙ ap (after_stage c.args.repo.now c.args.branch.now c.args.path c.args.change) (ap lake_value c.in_ok-keep.ensures.present ∙ c.in_ok-operation.ensures.same))
+    made_stands may _ _ _ ready.operation c.in_ok-keep.ensures.kept.history
+    (c.stage.ensures ∙ ap (after_stage c.args.repo.now c.args.branch.now c.args.path c.args.change) (c.in_ok-keep.ensures.kept.present ∙ c.in_ok-operation.ensures.same))
 
 pub returns-clause-reply : goal.returns-clause-reply
 returns-clause-reply g c =
-    let made = c.stage.ensures ∙ ap (after_stage c.args.repo.now c.args.branch.now c.args.path c.args.change) (ap lake_value c.in_ok-keep.ensures.present ∙ c.in_ok-operation.ensures.same) in
+    let made = c.stage.ensures ∙ ap (after_stage c.args.repo.now c.args.branch.now c.args.path c.args.change) (c.in_ok-keep.ensures.kept.present ∙ c.in_ok-operation.ensures.same) in
     accepted {X = ℕ} ((c.in_ok-operation.ensures.tells (versions_since (lake_value c.self.inside.opened.value) c.self.inside.history.items) c.self.invariant.versions).0) (c.place.ensures ∙ ap (λ l. l.entries) made ∙ staged_entries c.args.repo.now c.args.branch.now c.args.path c.args.change (lake_value c.self.inside.present))
     ∙ at_present (λ s given. stage_reply s given c.args.repo.now c.args.branch.now c.args.version) c.self.view_is c.self.invariant.replayed
 
@@ -82,5 +82,5 @@ pub returns-clause-leaves : goal.returns-clause-leaves
 returns-clause-leaves g c =
     let ready = (c.in_ok-operation.ensures.tells (versions_since (lake_value c.self.inside.opened.value) c.self.inside.history.items) c.self.invariant.versions).1 in
     made_leaves _ _ (λ p. Some (stage c.args.repo.now c.args.branch.now c.args.path c.args.change (lake_value p))) (stage c.args.repo.now c.args.branch.now c.args.path c.args.change (lake_value c.self.inside.present)) _ _ ready.operation ready.puts
-    _ _ _ _ _ (record { keeper = c.keep.new.keeper; history = c.keep.new.history.items; present = c.keep.new.present }) c.in_ok-operation.ensures.same refl _ c.self.view_is _ c.in_ok-keep.ensures
-    (c.stage.ensures ∙ ap (after_stage c.args.repo.now c.args.branch.now c.args.path c.args.change) (ap lake_value c.in_ok-keep.ensures.present ∙ c.in_ok-operation.ensures.same))
+    _ _ _ _ _ (record { keeper = c.keep.new.keeper; history = c.keep.new.history.items; present = c.keep.new.present }) c.in_ok-operation.ensures.same refl _ c.self.view_is _ c.in_ok-keep.ensures.kept
+    (c.stage.ensures ∙ ap (after_stage c.args.repo.now c.args.branch.now c.args.path c.args.change) (c.in_ok-keep.ensures.kept.present ∙ c.in_ok-operation.ensures.same))

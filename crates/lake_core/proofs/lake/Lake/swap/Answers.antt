@@ -24,7 +24,7 @@ invariant_of-self g c =
     (lake_value c.self.inside.opened.value) c.args.by c.args.repo.now c.args.branch.now c.args.version c.args.settings c.args.kind c.args.about c.args.tree
     (record { keeper = c.self.inside.keeper; history = c.self.inside.history.items; present = c.self.inside.present })
     c.self.invariant ready c.swap.result (c.swap.ensures.reply _ c.self.invariant.versions)
-    (record { keeper = c.swap.new.keeper; history = c.swap.new.history.items; present = c.swap.new.present }) c.swap.ensures.leaves
+    (record { keeper = c.swap.new.keeper; history = c.swap.new.history.items; present = c.swap.new.present }) c.swap.ensures.leaves c.swap.ensures.may
 
 pub returns-clause-reply : goal.returns-clause-reply
 returns-clause-reply g c =

@@ -27,38 +27,38 @@ pub invariant_of-self-in_err-keep : goal.invariant_of-self-in_err-keep
 invariant_of-self-in_err-keep g c =
     let none = c.in_ok-test_write.ensures in
     let may = c.laws_of_tickets.ensures.take _ _ _ c.args.by c.args.repo.now c.args.branch.now c.self.invariant none in
-    refused_stands may _ _ _ _ _ _ c.self.invariant c.in_ok-operation.ensures.ready.operation refl c.in_ok-operation.ensures.same c.in_err-keep.ensures
+    refused_stands may _ _ _ _ _ _ c.self.invariant c.in_ok-operation.ensures.ready.operation refl c.in_ok-operation.ensures.same c.in_err-keep.ensures.kept
 
 pub returns-in_err-keep-clause-reply : goal.returns-in_err-keep-clause-reply
 returns-in_err-keep-clause-reply g c =
     holds_now (λ s given. GivesOrFails c.from_residual-in_err-keep.result (take_ticket_reply s c.args.repo.now c.args.branch.now)) c.self.view_is c.self.invariant.replayed
-    (unkept_reply _ _ _ _ _ _ (first_cause (write_causes (state_of (lake_value c.self.inside.present)) c.args.repo.now c.args.branch.now)) ((lake_value c.self.inside.present).entries + 1, (lake_value c.self.inside.present).next_number) (c.in_ok-test_write.ensures) _ _ c.from_residual-in_err-keep.ensures.1 c.in_err-keep.ensures)
+    (unkept_reply _ _ _ _ _ _ (first_cause (write_causes (state_of (lake_value c.self.inside.present)) c.args.repo.now c.args.branch.now)) ((lake_value c.self.inside.present).entries + 1, (lake_value c.self.inside.present).next_number) (c.in_ok-test_write.ensures) _ _ c.from_residual-in_err-keep.ensures.1 c.in_err-keep.ensures.kept)
 
 pub returns-in_err-keep-clause-leaves : goal.returns-in_err-keep-clause-leaves
 returns-in_err-keep-clause-leaves g c =
     unkept_leaves _ _ (λ p. Some (take_ticket c.args.by.seat c.args.repo.now c.args.branch.now (lake_value p)))
     ((take_ticket c.args.by.seat c.args.repo.now c.args.branch.now (lake_value c.self.inside.present))) _ _ c.in_ok-operation.ensures.ready.operation c.in_ok-operation.ensures.ready.puts
-    _ _ _ _ _ (record { keeper = c.keep.new.keeper; history = c.keep.new.history.items; present = c.keep.new.present }) c.in_ok-operation.ensures.same (refl) _ c.self.view_is _ _ c.from_residual-in_err-keep.ensures.1 c.in_err-keep.ensures
+    _ _ _ _ _ (record { keeper = c.keep.new.keeper; history = c.keep.new.history.items; present = c.keep.new.present }) c.in_ok-operation.ensures.same (refl) _ c.self.view_is _ _ c.from_residual-in_err-keep.ensures.1 c.in_err-keep.ensures.kept
 
 pub invariant_of-self-2 : goal.invariant_of-self-2
 invariant_of-self-2 g c =
     let none = c.in_ok-test_write.ensures in
     let may = c.laws_of_tickets.ensures.take _ _ _ c.args.by c.args.repo.now c.args.branch.now c.self.invariant none in
-    made_stands may _ _ _ c.in_ok-operation.ensures.ready.operation c.in_ok-keep.ensures.history
-    (c.take_ticket.ensures ∙ ap (after_ticket_take c.args.by.seat) (ap lake_value c.in_ok-keep.ensures.present ∙ c.in_ok-operation.ensures.same))
+    made_stands may _ _ _ c.in_ok-operation.ensures.ready.operation c.in_ok-keep.ensures.kept.history
+    (c.take_ticket.ensures ∙ ap (after_ticket_take c.args.by.seat) (c.in_ok-keep.ensures.kept.present ∙ c.in_ok-operation.ensures.same))
 
 pub returns-clause-reply : goal.returns-clause-reply
 unfolding lake_value
 returns-clause-reply g c =
-    accepted {X = (ℕ × ℕ)} (c.in_ok-test_write.ensures) (ap (λ at. (at, c.self.inside.present.next_number)) (c.place.ensures ∙ ap (λ l. l.entries) (c.take_ticket.ensures ∙ ap (after_ticket_take c.args.by.seat) (ap lake_value c.in_ok-keep.ensures.present ∙ c.in_ok-operation.ensures.same))))
+    accepted {X = (ℕ × ℕ)} (c.in_ok-test_write.ensures) (ap (λ at. (at, c.self.inside.present.next_number)) (c.place.ensures ∙ ap (λ l. l.entries) (c.take_ticket.ensures ∙ ap (after_ticket_take c.args.by.seat) (c.in_ok-keep.ensures.kept.present ∙ c.in_ok-operation.ensures.same))))
     ∙ at_present (λ s given. take_ticket_reply s c.args.repo.now c.args.branch.now) c.self.view_is c.self.invariant.replayed
 
 pub returns-clause-leaves : goal.returns-clause-leaves
 returns-clause-leaves g c =
     made_leaves _ _ (λ p. Some (take_ticket c.args.by.seat c.args.repo.now c.args.branch.now (lake_value p)))
     ((take_ticket c.args.by.seat c.args.repo.now c.args.branch.now (lake_value c.self.inside.present))) _ _ c.in_ok-operation.ensures.ready.operation c.in_ok-operation.ensures.ready.puts
-    _ _ _ _ _ (record { keeper = c.keep.new.keeper; history = c.keep.new.history.items; present = c.keep.new.present }) c.in_ok-operation.ensures.same (refl) _ c.self.view_is _ c.in_ok-keep.ensures
-    (c.take_ticket.ensures ∙ ap (after_ticket_take c.args.by.seat) (ap lake_value c.in_ok-keep.ensures.present ∙ c.in_ok-operation.ensures.same))
+    _ _ _ _ _ (record { keeper = c.keep.new.keeper; history = c.keep.new.history.items; present = c.keep.new.present }) c.in_ok-operation.ensures.same (refl) _ c.self.view_is _ c.in_ok-keep.ensures.kept
+    (c.take_ticket.ensures ∙ ap (after_ticket_take c.args.by.seat) (c.in_ok-keep.ensures.kept.present ∙ c.in_ok-operation.ensures.same))
 
 pub ready_ticket-requires : goal.ready_ticket-requires
 ready_ticket-requires g c =
@@ -70,7 +70,7 @@ pub take_ticket-requires-clause-few : goal.take_ticket-requires-clause-few
 take_ticket-requires-clause-few g c =
     let none = c.in_ok-test_write.ensures in
     let may = c.laws_of_tickets.ensures.take _ _ _ c.args.by c.args.repo.now c.args.branch.now c.self.invariant none in
-    subst AreFew (sym (ap lake_value c.in_ok-keep.ensures.present ∙ c.in_ok-operation.ensures.same)) may.few
+    subst AreFew (sym (c.in_ok-keep.ensures.kept.present ∙ c.in_ok-operation.ensures.same)) may.few
 
 pub returns-in_err-test_write-clause-leaves : goal.returns-in_err-test_write-clause-leaves
 returns-in_err-test_write-clause-leaves g c =

@@ -1,5 +1,5 @@
 use Rattle.core_readings.proofs.IdLemmas.{map_by_id, same_map_by_id}
-use Rattle.core_readings.proofs.ids.law_of_ids.Goals as goal
+use Rattle.core_readings.proofs.ids.law_of_reading_by_id.Goals as goal
 
 pub returns-clause-now : goal.returns-clause-now
 returns-clause-now c state repo r id at sound is there = map_by_id state.cut r (sound.repositories repo r is) id there at
