@@ -9,3 +9,4 @@ pub mod RepositoryLemmas
 pub mod RunLemmas
 pub mod StepLemmas
 pub mod StopLemmas
+pub mod KeepingAllLemmas

@@ -8,3 +8,4 @@ pub mod OpenFaults
 pub mod Opening
 pub mod ReadyChanges
 pub mod Runs
+pub mod KeepingAll

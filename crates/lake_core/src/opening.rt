@@ -16,8 +16,8 @@ use std::snapshot::Snapshot;
 
 impl<K: Keeper> Lake<K> {
     /// A fresh lake of a cut over a keeper without pairs, whose pairs it puts by one call. A refusal hands the keeper
-    /// back. The modulus of the cut is above 0. StoreFault, only where the keeper's count of faults rose; BadPair(0) where
-    /// it has pairs; NoMemory.
+    /// back. The modulus of the cut is above 0. StoreFault, only where the keeper's count of faults rose or stands at its
+    /// last value; BadPair(0) where it has pairs; NoMemory.
     pub fn opened(alloc: Global, keeper: K, cut: Cut) -> Result<Lake<K>, (OpenFault, K)>
         requires { 0 < cut.modulus }
         ensures { MatchResult result

@@ -24,7 +24,7 @@ use Rattle.lake_model.specs.Soundness.{fresh}
 use Rattle.law_examples.specs.HistoryWords.{quickstart, main, outside, entry_of, commit_entry, IsCommitAdmissible}
 use Rattle.law_examples.specs.Nothing as nothing
 use Rattle.law_examples.specs.RefusedLakes.{a}
-use Rattle.law_examples.specs.Picks.{IsPickAdmissible, hooked_lake, no_changes, pick_entry}
+use Rattle.law_examples.specs.Picks.{IsPickAdmissible, limited_lake, no_changes, pick_entry}
 use Rattle.law_examples.proofs.SceneLemmas.{scene, counted, in_quickstart, on_main, the_main}
 use Rattle.law_examples.proofs.EntriesLemmas.{first_branch, first_repository}
 use Rattle.law_examples.proofs.NothingLemmas as nothing_lemmas
@@ -71,12 +71,12 @@ module _ (cut : Cut) where
       ∙ ap (λ (o : Option EntryValue). change_between o (get (head_map r0 (a_sealed cut)) a)) (has_a cut)
       ∙ ap (change_between (Some outside)) (lacks_a cut)
 
-  hooked_scene : hooked_lake cut ≡ scene (counted (second_state cut)) hooked (a_sealed cut)
+  hooked_scene : limited_lake cut ≡ scene (counted (second_state cut)) hooked (a_sealed cut)
   hooked_scene =
       ap (λ (l : State). after l (entry_of (NoteSet quickstart name.Hooks (Some no_changes)))) (ready_scene cut)
       ∙ ap counted (in_quickstart (with_notes no_changes name.Hooks) (second_state cut) r0 (a_sealed cut))
 
-  pub hook_refuses : (about : AboutValue) → Allows (hooked_lake cut) (commit_entry about) → ⊥
+  pub hook_refuses : (about : AboutValue) → Allows (limited_lake cut) (commit_entry about) → ⊥
   hook_refuses about = refuses_by (commit_entry about) hooked_scene (λ may.
       let free = (the_main (IsCommittable (scene (counted (second_state cut)) hooked (a_sealed cut)) main about) (counted (second_state cut)) hooked (a_sealed cut) may.possible).head.allowed in
       let place : Bool → Option ℕ = λ t. position (λ (x : ℕ). t) (0 ∷ []) in

@@ -26,8 +26,8 @@ abbrev pub no_changes : Note
 no_changes = Hooks (record { branch = main; deny = MaxChanges 0 } ∷ [])
 
 -- the outside object is put at `a` and sealed, and then the hook is set
-abbrev pub hooked_lake : Cut → State
-hooked_lake cut = after (ready_lake cut) (entry_of (NoteSet quickstart name.Hooks (Some no_changes)))
+abbrev pub limited_lake : Cut → State
+limited_lake cut = after (ready_lake cut) (entry_of (NoteSet quickstart name.Hooks (Some no_changes)))
 
 -- a commit of `main` must have the key `reason`
 abbrev pub reason : List ℕ

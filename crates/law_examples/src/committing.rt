@@ -17,7 +17,7 @@ ghost use Rattle.lake_model.specs.History.{Allows};
 ghost use Rattle.law_examples.specs.HistoryWords.{quickstart, main, first, commit_entry, entry_of, IsCommitAdmissible};
 ghost use Rattle.law_examples.specs.Nothing as nothing;
 ghost use Rattle.law_examples.specs.RefusedLakes.{a, b, ready_lake};
-ghost use Rattle.law_examples.specs.Picks.{AreThree, IsPickAdmissible, asking_lake, barred_lake, barred_pick_lake, committed_lake, copy_entry, expired_head_lake, hooked_lake, new_commit, new_pick, pick_entry, sealed_lake, twice_committed_lake, with_reason, without_metadata};
+ghost use Rattle.law_examples.specs.Picks.{AreThree, IsPickAdmissible, asking_lake, barred_lake, barred_pick_lake, committed_lake, copy_entry, expired_head_lake, limited_lake, new_commit, new_pick, pick_entry, sealed_lake, twice_committed_lake, with_reason, without_metadata};
 
 /// Nothing is sealed that changes the head's map, though all else that a commit asks holds. The premise is that no file
 /// of it shares its name with other bytes.
@@ -32,7 +32,7 @@ pub fn nothing_to_commit()
 pub fn hook_that_denies()
     ensures allowed { (cut : Cut) (about : AboutValue) → IsCommitAdmissible (ready_lake cut) about
         → Allows (ready_lake cut) (commit_entry about) }
-    ensures refused { (cut : Cut) (about : AboutValue) → Allows (hooked_lake cut) (commit_entry about) → ⊥ }
+    ensures refused { (cut : Cut) (about : AboutValue) → Allows (limited_lake cut) (commit_entry about) → ⊥ }
 {}
 
 /// A commit isn't admissible whose id is expired, or is another commit's or that of another map, or which has bytes

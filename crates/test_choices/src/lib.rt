@@ -1,6 +1,6 @@
 //! Tests of the choices: what no clause says of a branch's changes, merges, settings and hooks.
 //!
-//! - `records`, `walks`: the changes of a branch under their tokens, and walks over changes that lie over entries.
+//! - `records`: the changes of a branch under their tokens.
 //! - `merges`: merges of three trees.
 //! - `settings`, `hooks`: settings that are read from JSON, and patterns.
 //!
@@ -15,5 +15,3 @@ mod merges;
 mod records;
 #[cfg(test)]
 mod settings;
-#[cfg(test)]
-mod walks;
