@@ -111,7 +111,7 @@ def swaps(program):
     print('\n| keys | the swap of a commit | of a merge | of a commit, a key |')
     print('|---|---|---|---|')
     for keys, count in ((1000, 10), (100000, 4), (1000000, 2)):
-        lake = Counted(program, scripts.committed(keys), 'lake_committing::swapping::swap*')
+        lake = Counted(program, scripts.committed(keys), 'core_commits::swapping::swap*')
         lines = [text for n in range(count) for text in change('main', 3 + 2 * n, n, keys)]
         commit = lake.without_memory(lines, count)
         lake.seconds([scripts.line('create_branch', 0, 0, scripts.REPO, 'dev', 'main')])

@@ -1,6 +1,6 @@
 //! Pairs of each kind that are read and written again, and pairs that are refused.
 use lake_base::Sequence;
-use pair_format::{Pair, Stored, decode_pair, encode_key, encode_pair};
+use pair_format::{Pair, PairFault, Stored, decode_pair, encode_key, encode_pair};
 use std::alloc::Global;
 use std::test::Fail;
 
@@ -92,16 +92,24 @@ fn is_stored_as(alloc: Global, stored: &Stored, pair: &Pair) -> Result<bool, Fai
     )
 }
 
+// The same of what was read, which is done with then.
+fn is_spelled_again(alloc: Global, stored: Stored, pair: &Pair) -> Result<bool, Fail> {
+    is_stored_as(alloc, &stored, pair)
+}
+
+// The text of a fault.
+fn fault_told(alloc: Global, fault: PairFault) -> Result<String, Fail> {
+    Ok(format!(in alloc; "{fault}")?)
+}
+
 // Nothing of a pair that is read and written again, and the fault of another one.
 fn told(alloc: Global, pair: &Pair) -> Result<String, Fail> {
     match decode_pair(alloc, pair) {
-        Ok(stored) => {
-            if !is_stored_as(alloc, &stored, pair)? {
-                return Err("another spelling")?;
-            }
-            Ok(String::new(alloc))
-        }
-        Err(fault) => Ok(format!(in alloc; "{fault}")?),
+        Ok(stored) => match is_spelled_again(alloc, stored, pair)? {
+            true => Ok(String::new(alloc)),
+            false => Err("another spelling")?,
+        },
+        Err(fault) => fault_told(alloc, fault),
     }
 }
 
