@@ -39,26 +39,53 @@ fn seal(record: &mut BranchRecord, tokens: &mut Tokens) -> Result<(), Fail> {
     Ok(())
 }
 
-#[test]
-fn changes_are_staged_sealed_and_dropped(rt: HostRuntime) -> Result<(), Fail> {
-    let alloc = rt.alloc();
+// A branch with a deletion staged, beside a change under a token of nobody.
+fn begun(alloc: Global) -> Result<(BranchRecord, Tokens), Fail> {
     let mut tokens = Tokens::new(alloc);
     let mut record = BranchRecord::fresh(alloc, 1, Digest([0; 32]), 10);
     tokens.put(3, path(alloc, "c")?, Change::Delete)?;
     stage(alloc, &mut record, &mut tokens, "a", Change::Delete)?;
-    assert_eq!(rt; told(alloc, &record, &tokens, false)?.as_str(), "a-");
+    Ok((record, tokens))
+}
+
+// The same with the deletion sealed, and an entry staged behind it.
+fn sealed(alloc: Global) -> Result<(BranchRecord, Tokens), Fail> {
+    let (mut record, mut tokens) = begun(alloc)?;
     seal(&mut record, &mut tokens)?;
-    stage(
-        alloc,
-        &mut record,
-        &mut tokens,
-        "b",
-        Change::Put(entry(alloc, 1, 5)?),
-    )?;
-    assert_eq!(rt; told(alloc, &record, &tokens, false)?.as_str(), "a- b5");
-    assert_eq!(rt; told(alloc, &record, &tokens, true)?.as_str(), "a-");
+    let put = Change::Put(entry(alloc, 1, 5)?);
+    stage(alloc, &mut record, &mut tokens, "b", put)?;
+    Ok((record, tokens))
+}
+
+// The same with what was sealed dropped.
+fn dropped(alloc: Global) -> Result<(BranchRecord, Tokens), Fail> {
+    let (mut record, mut tokens) = sealed(alloc)?;
     record.drop_sealed(&mut tokens);
-    assert_eq!(rt; told(alloc, &record, &tokens, false)?.as_str(), "b5");
+    Ok((record, tokens))
+}
+
+#[test]
+fn changes_are_staged(rt: HostRuntime) -> Result<(), Fail> {
+    let (record, tokens) = begun(rt.alloc())?;
+    assert_eq!(rt; told(rt.alloc(), &record, &tokens, false)?.as_str(), "a-");
+    Ok(())
+}
+
+#[test]
+fn staged_changes_lie_over_sealed_ones(rt: HostRuntime) -> Result<(), Fail> {
+    let (record, tokens) = sealed(rt.alloc())?;
+    assert_eq!(rt;
+        told(rt.alloc(), &record, &tokens, false)?.as_str(),
+        "a- b5"
+    );
+    assert_eq!(rt; told(rt.alloc(), &record, &tokens, true)?.as_str(), "a-");
+    Ok(())
+}
+
+#[test]
+fn sealed_changes_are_dropped(rt: HostRuntime) -> Result<(), Fail> {
+    let (record, tokens) = dropped(rt.alloc())?;
+    assert_eq!(rt; told(rt.alloc(), &record, &tokens, false)?.as_str(), "b5");
     assert!(rt; tokens.has_changes(3) && !tokens.has_changes(10));
     Ok(())
 }

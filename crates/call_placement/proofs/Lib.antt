@@ -1,0 +1,11 @@
+pub mod ServedLemmas
+pub mod WalkLemmas
+pub mod PlacedLemmas
+pub mod SessionLemmas
+pub mod AloneLemmas
+pub mod OneValueLemmas
+pub mod ExampleLemmas
+pub mod EntryLemmas
+pub mod ToyLemmas
+pub mod WrongLemmas
+pub mod EndLemmas
