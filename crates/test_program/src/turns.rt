@@ -184,7 +184,7 @@ fn a_seat_is_split_off_and_another_joined(rt: HostRuntime) -> Result<(), Fail> {
         by_zero,
         split,
     } = found;
-    assert!(rt; split.number() == 2);
+    assert!(rt; split.number() == 2 && split.seen() == 2 && zero.seen() == 2);
     assert!(rt; at_split.as_slice() == [(0, 5)].as_slice());
     assert!(rt; by_one.as_slice() == [(0, 5), (1, 7)].as_slice());
     assert!(rt; by_zero.as_slice() == [(0, 5), (1, 7)].as_slice());

@@ -1,5 +1,6 @@
 -- Each step by which seats come and go keeps the rule of a turn.
-use Rattle.std.proofs.Common.{inr, inl, ◌⊎◌, ◌≡◌, ◌≢◌, ⊎_elim, ℕ, zero, suc, ◌+◌, ◌<◌, ◌≤◌, eqb, eq-eqb, ne_eqb, List, [], ◌∷◌, ◌++◌, length, get_or, set, Bool, true, false, ◌||◌, true≢false, Option, Some, refl, sym, ap, ◌∙◌, subst, arith}
+use Rattle.std.proofs.Common.{inr, inl, ◌⊎◌, ◌≡◌, ◌≢◌, ⊎_elim, ℕ, zero, suc, ◌+◌, ◌<◌, ◌≤◌, eqb, eq-eqb, ne_eqb, List, [], ◌∷◌, ◌++◌, length, get_or, set, Bool}
+use Rattle.std.proofs.Common.{true, false, ◌||◌, true≢false, Option, Some, refl, sym, ap, ◌∙◌, subst, arith}
 use Rattle.std.specs.List.{All}
 use mathlib.Core.Logic.{dite}
 use mathlib.Core.Option.{some, none, some-injective, some-ne-none}
@@ -15,21 +16,25 @@ use Rattle.turn_lock.specs.declared.rule.Kin.{Kin}
 use Rattle.turn_lock.specs.declared.rule.Stage.{Stage}
 use Rattle.turn_lock.specs.declared.rule.Stage.TheVariants.{Away, Holds, Out}
 use Rattle.turn_lock.specs.Seats.{by_seat, KnowsOwn, Meets}
-use Rattle.turn_lock.specs.Rule.{Reserves, IsKin, HoldsOfKin, kin_of, HoldsOfPlace, HoldsOfStage, HoldsOfView, Differ, HoldsOfTurn, first_view, dealer_view, spent_view, left_view, right_view, joined_view, no_turn, seat_value, DrawsNumber, ComparesSeats, IsAfterTry}
+use Rattle.turn_lock.specs.Rule.{Reserves, IsKin, HoldsOfKin, kin_of, HoldsOfPlace, HoldsOfStage, HoldsOfView, Differ, HoldsOfTurn, first_view, dealer_view}
+use Rattle.turn_lock.specs.Rule.{spent_view, left_view, right_view, joined_view, no_turn, seat_value, DrawsNumber, ComparesSeats, IsAfterTry}
 use Rattle.turn_lock.proofs.SeatsLemmas.{prefix_self, prefix_trans, longer_either, prefix_longer, by_seat-prefix, by_seat-between, by_seat-below}
-use Rattle.turn_lock.proofs.RuleLemmas.{kin_grows, each_view_set, differ_set, each_view_end, differ_end, view_stays_same, away_stage, differ_as, at_less, at_append, differ_two}
+use Rattle.turn_lock.proofs.RuleLemmas.{kin_grows, each_view_set, differ_set, each_view_end, differ_end, view_stays_same, away_stage, differ_as, at_less}
+use Rattle.turn_lock.proofs.RuleLemmas.{at_append, differ_two}
 
 module _ {S O E : Type 0} where
   kept_views : (m me : Me (Option S) (View O E)) → IsAfterTry m me → (me.0.living ≡ m.0.living) × (me.0.stage ≡ m.0.stage)
   kept_views m me tried =
       ⊎_elim
       (λ (same : me ≡ m). (ap (λ (x : Me (Option S) (View O E)). x.0.living) same, ap (λ (x : Me (Option S) (View O E)). x.0.stage) same))
-      (λ (t : (k : ℕ) × (me ≡ (record m.0 { alone = false; numbers = k }, m.1)) × (m.0.numbers ≤ k)). (ap (λ (x : Me (Option S) (View O E)). x.0.living) t.1, ap (λ (x : Me (Option S) (View O E)). x.0.stage) t.1))
+      (λ (t : (k : ℕ) × (me ≡ (record m.0 { alone = false; numbers = k }, m.1)) × (m.0.numbers ≤ k)).
+      (ap (λ (x : Me (Option S) (View O E)). x.0.living) t.1, ap (λ (x : Me (Option S) (View O E)). x.0.stage) t.1))
       tried
 
 module _ {S O E : Type 0} (origin : S → O) (list : S → List E) (seat_of : E → ℕ) where
   -- a stage other than `Out` does not read what the seat has seen
-  reads_nothing : (turn holder : ℕ) (lent : Bool) (log : List E) (j : ℕ) (seen now : List E) (stage : Stage) → stage ≢ Out → HoldsOfStage turn holder lent log j seen stage → HoldsOfStage turn holder lent log j now stage
+  reads_nothing : (turn holder : ℕ) (lent : Bool) (log : List E) (j : ℕ) (seen now : List E) (stage : Stage) → stage ≢ Out
+      → HoldsOfStage turn holder lent log j seen stage → HoldsOfStage turn holder lent log j now stage
   reads_nothing turn holder lent log j seen now Away apart f = tt
   reads_nothing turn holder lent log j seen now Holds apart f = f
   reads_nothing turn holder lent log j seen now Out apart f = absurd (apart refl)
@@ -62,8 +67,13 @@ module _ {S O E : Type 0} (origin : S → O) (list : S → List E) (seat_of : E 
         few = omega arith;
         home = r.home;
         free = r.free;
-        held = λ one. let h = r.held one in
-            (h.0, set_else s.views id r.holder w (λ (same : r.holder ≡ id). h.3 (let e : h.0 ≡ me.0 = some-injective h.0 me.0 (sym h.1 ∙ (ap (get_elem? s.views) same ∙ at)) in ap (λ (v : View O E). v.stage) e ∙ away)) ∙ h.1, h.2, h.3);
+        held = λ one. let h = r.held one in (
+          h.0,
+          set_else s.views id r.holder w (λ (same : r.holder ≡ id). h.3 (let e : h.0
+              ≡ me.0 = some-injective h.0 me.0 (sym h.1 ∙ (ap (get_elem? s.views) same ∙ at)) in ap (λ (v : View O E). v.stage) e ∙ away)) ∙ h.1,
+          h.2,
+          h.3,
+        );
         undrawn = λ n above. r.undrawn n (omega arith);
         each_view = each_view_set (HoldsOfView seat_of r.o r.log (old + 1) r.turn r.holder r.lent) s.views id w
             (λ _. record {
@@ -74,12 +84,16 @@ module _ {S O E : Type 0} (origin : S → O) (list : S → List E) (seat_of : E 
               drawn = omega arith;
               counts = omega arith;
               stage = f.stage;
-              kept_back = λ n k. let e : n ≡ x = (let a : x ≤ n = k.0 in let b : n < x + 1 = k.1 in omega arith) in
-                  (omega arith, (λ h. omega arith), subst (λ (m : ℕ). by_seat seat_of m r.log ≡ by_seat seat_of m me.0.seen) (sym e) (none_yet ∙ sym none_seen));
+              kept_back = λ n k. let e : n ≡ x = (let a : x ≤ n = k.0 in let b : n < x + 1 = k.1 in omega arith) in (
+                omega arith,
+                (λ h. omega arith),
+                subst (λ (m : ℕ). by_seat seat_of m r.log ≡ by_seat seat_of m me.0.seen) (sym e) (none_yet ∙ sym none_seen),
+              );
               current = λ h. absurd (true≢false (sym h));
               before = f.before;
               own_before = f.own_before;
-              kin = λ k h. let b = f.kin k h in let below : k.number < r.seats = b.0 in (omega arith, b.1, (λ v. (let a : x ≤ k.number = v.0 in absurd (omega arith))), b.3);
+              kin = λ k h. let b = f.kin k h in let below : k.number < r.seats = b.0 in
+                  (omega arith, b.1, (λ v. (let a : x ≤ k.number = v.0 in absurd (omega arith))), b.3);
               no_clash = f.no_clash;
             })
             (λ j d apart there lives. let g = r.each_view j d there lives in
@@ -127,11 +141,30 @@ module _ {S O E : Type 0} (origin : S → O) (list : S → List E) (seat_of : E 
         few = r.few;
         home = r.home;
         free = r.free;
-        held = λ one. let h = r.held one in
-            (h.0, set_else s.views id r.holder w (λ (same : r.holder ≡ id). h.3 (let e : h.0 ≡ me.0 = some-injective h.0 me.0 (sym h.1 ∙ (ap (get_elem? s.views) same ∙ at)) in ap (λ (v : View O E). v.stage) e ∙ away)) ∙ h.1, h.2, h.3);
+        held = λ one. let h = r.held one in (
+          h.0,
+          set_else s.views id r.holder w (λ (same : r.holder ≡ id). h.3 (let e : h.0
+              ≡ me.0 = some-injective h.0 me.0 (sym h.1 ∙ (ap (get_elem? s.views) same ∙ at)) in ap (λ (v : View O E). v.stage) e ∙ away)) ∙ h.1,
+          h.2,
+          h.3,
+        );
         undrawn = r.undrawn;
         each_view = each_view_set (HoldsOfView seat_of r.o r.log r.seats r.turn r.holder r.lent) s.views id w
-            (λ _. record { same_origin = f.same_origin; begins = f.begins; own = f.own; own_seen = f.own_seen; drawn = f.drawn; counts = omega arith; stage = f.stage; kept_back = f.kept_back; current = λ h. absurd (true≢false (sym h)); before = f.before; own_before = f.own_before; kin = f.kin; no_clash = f.no_clash })
+            (λ _. record {
+              same_origin = f.same_origin;
+              begins = f.begins;
+              own = f.own;
+              own_seen = f.own_seen;
+              drawn = f.drawn;
+              counts = omega arith;
+              stage = f.stage;
+              kept_back = f.kept_back;
+              current = λ h. absurd (true≢false (sym h));
+              before = f.before;
+              own_before = f.own_before;
+              kin = f.kin;
+              no_clash = f.no_clash;
+            })
             (λ j d apart there lives. r.each_view j d there lives);
         differ = differ_as s.views id me.0 w at live refl (λ _ h. h) (λ _ h. h) (λ h. absurd (true≢false (sym h))) r.differ;
       } in (
@@ -143,7 +176,8 @@ module _ {S O E : Type 0} (origin : S → O) (list : S → List E) (seat_of : E 
       ))
 
   -- the list of views while a seat is split off
-  pub splits : (id : ℕ) (d : View O E) → d.living ≡ true → d.stage ≡ Away → d.from < d.to → Splits (HoldsOfTurn origin list seat_of) id d (left_view d) (right_view seat_of d)
+  pub splits : (id : ℕ) (d : View O E) → d.living ≡ true → d.stage ≡ Away → d.from < d.to
+      → Splits (HoldsOfTurn origin list seat_of) id d (left_view d) (right_view seat_of d)
   splits id d live away some_kept s r at =
       let f = r.each_view id d at live in
       let l : View O E = left_view d in
@@ -152,10 +186,26 @@ module _ {S O E : Type 0} (origin : S → O) (list : S → List E) (seat_of : E 
       let first = f.kept_back d.from (omega arith, some_kept) in
       let old_fits : (j : ℕ) (e : View O E) → get_elem? vs j ≡ some e → e.living ≡ true → HoldsOfView seat_of r.o r.log r.seats r.turn r.holder r.lent j e =
       each_view_set (HoldsOfView seat_of r.o r.log r.seats r.turn r.holder r.lent) s.views id l
-      (λ _. record { same_origin = f.same_origin; begins = f.begins; own = f.own; own_seen = f.own_seen; drawn = f.drawn; counts = f.counts; stage = f.stage; kept_back = λ n k. (let a : d.to ≤ n = k.0 in let b : n < d.to = k.1 in absurd (omega arith)); current = λ h. absurd (true≢false (sym h)); before = f.before; own_before = f.own_before; kin = λ k h. (let b = f.kin k h in (b.0, b.1, (λ v. (let x : d.to ≤ k.number = v.0 in let y : k.number < d.to = v.1 in omega arith)), b.3)); no_clash = f.no_clash })
+      (λ _. record {
+        same_origin = f.same_origin;
+        begins = f.begins;
+        own = f.own;
+        own_seen = f.own_seen;
+        drawn = f.drawn;
+        counts = f.counts;
+        stage = f.stage;
+        kept_back = λ n k. (let a : d.to ≤ n = k.0 in let b : n < d.to = k.1 in absurd (omega arith));
+        current = λ h. absurd (true≢false (sym h));
+        before = f.before;
+        own_before = f.own_before;
+        kin = λ k h. (let b = f.kin k h in
+            (b.0, b.1, (λ v. (let x : d.to ≤ k.number = v.0 in let y : k.number < d.to = v.1 in omega arith)), b.3));
+        no_clash = f.no_clash;
+      })
       (λ j e _ there lives. r.each_view j e there lives) in
       let old_differ : (i j : ℕ) (x y : View O E) → i ≢ j → get_elem? vs i ≡ some x → get_elem? vs j ≡ some y → x.living ≡ true → y.living ≡ true → Differ x y =
-      differ_as s.views id d l at live refl (λ n k. (let a : d.to ≤ n = k.0 in let b : n < d.to = k.1 in absurd (omega arith))) (λ _ h. h) (λ h. absurd (true≢false (sym h))) r.differ in
+      differ_as s.views id d l at live refl (λ n k. (let a : d.to ≤ n = k.0 in let b : n < d.to = k.1 in absurd (omega arith))) (λ _ h. h)
+      (λ h. absurd (true≢false (sym h))) r.differ in
       record {
         o = r.o;
         log = r.log;
@@ -169,7 +219,8 @@ module _ {S O E : Type 0} (origin : S → O) (list : S → List E) (seat_of : E 
         home = r.home;
         free = r.free;
         held = λ one. let h = r.held one in
-            let apart : r.holder ≢ id = λ same. h.3 (let e : h.0 ≡ d = some-injective h.0 d (sym h.1 ∙ (ap (get_elem? s.views) same ∙ at)) in ap (λ (v : View O E). v.stage) e ∙ away) in
+            let apart : r.holder ≢ id =
+            λ same. h.3 (let e : h.0 ≡ d = some-injective h.0 d (sym h.1 ∙ (ap (get_elem? s.views) same ∙ at)) in ap (λ (v : View O E). v.stage) e ∙ away) in
             (h.0, at_longer vs (n ∷ []) r.holder h.0 (set_else s.views id r.holder l apart ∙ h.1), h.2, h.3);
         undrawn = r.undrawn;
         each_view = each_view_end (HoldsOfView seat_of r.o r.log r.seats r.turn r.holder r.lent) vs n
@@ -204,7 +255,10 @@ module _ {S O E : Type 0} (origin : S → O) (list : S → List E) (seat_of : E 
                 numbers = λ h. first.1 (sym h);
                 kept_back = λ m k h. (let a : d.to ≤ m = k.0 in let b : m < d.to = k.1 in omega arith);
                 both = λ m k q. (let a : d.to ≤ m = k.0 in let b : m < d.to = k.1 in omega arith);
-                kin = λ k h. ((λ q. (f.kin k h).2 (let e' : k.number ≡ d.from = q in (omega arith, omega arith))), (λ v. (f.kin k h).2 (let a : d.from + 1 ≤ k.number = v.0 in (omega arith, v.1))));
+                kin = λ k h. (
+                  (λ q. (f.kin k h).2 (let e' : k.number ≡ d.from = q in (omega arith, omega arith))),
+                  (λ v. (f.kin k h).2 (let a : d.from + 1 ≤ k.number = v.0 in (omega arith, v.1))),
+                );
                 not_alone = λ h. absurd (true≢false (sym h));
               },
             ))
@@ -222,7 +276,10 @@ module _ {S O E : Type 0} (origin : S → O) (list : S → List E) (seat_of : E 
                 numbers = λ h. one.kept_back d.from (omega arith, some_kept) (sym h);
                 kept_back = λ m k h. two.both m k (let e' : m ≡ d.from = h in (omega arith, omega arith));
                 both = λ m k q. two.both m k (let a : d.from + 1 ≤ m = q.0 in (omega arith, q.1));
-                kin = λ k h. ((λ q. (two.kin k h).1 (let e' : k.number ≡ d.from = q in (omega arith, omega arith))), (λ v. (two.kin k h).1 (let a : d.from + 1 ≤ k.number = v.0 in (omega arith, v.1))));
+                kin = λ k h. (
+                  (λ q. (two.kin k h).1 (let e' : k.number ≡ d.from = q in (omega arith, omega arith))),
+                  (λ v. (two.kin k h).1 (let a : d.from + 1 ≤ k.number = v.0 in (omega arith, v.1))),
+                );
                 not_alone = two.not_alone;
               },
             ))
@@ -245,7 +302,8 @@ module _ {S O E : Type 0} (origin : S → O) (list : S → List E) (seat_of : E 
       at_first (suc i) at = inr (at_append e.kin d.kin i k at)
 
   -- a seat takes in another, which is spent
-  pub joins : (id : ℕ) (d : View O E) (other : ℕ) (e : View O E) → d.living ≡ true → d.stage ≢ Out → e.living ≡ true → e.stage ≡ Away → Joins (HoldsOfTurn origin list seat_of) id d other e (joined_view d e) spent_view
+  pub joins : (id : ℕ) (d : View O E) (other : ℕ) (e : View O E) → d.living ≡ true → d.stage ≢ Out → e.living ≡ true → e.stage ≡ Away
+      → Joins (HoldsOfTurn origin list seat_of) id d other e (joined_view d e) spent_view
   joins id d other e live not_out live_e away s r at apart there =
       let f = r.each_view id d at live in
       let both : View O E = joined_view d e in
@@ -273,7 +331,8 @@ module _ {S O E : Type 0} (origin : S → O) (list : S → List E) (seat_of : E 
         own_before = f.own_seen;
         kin = λ k h.
             ⊎_elim
-            (λ (t : k ≡ kin_of e). subst (λ (c : Kin O E). (c.number < r.seats) × (c.number ≢ d.number) × (Reserves both c.number → ⊥) × HoldsOfKin seat_of r.o r.log both.seen c) (sym t)
+            (λ (t : k ≡ kin_of e). subst (λ (c : Kin O E). (c.number < r.seats) × (c.number ≢ d.number) × (Reserves both c.number → ⊥)
+            × HoldsOfKin seat_of r.o r.log both.seen c) (sym t)
             (g.drawn, two.numbers, unreserved e.number, record { same_origin = g.same_origin; begins = grows.1; own = g.own; own_seen = g.own_seen }))
             (λ (t : IsKin e k ⊎ IsKin d k).
             ⊎_elim
@@ -298,7 +357,8 @@ module _ {S O E : Type 0} (origin : S → O) (list : S → List E) (seat_of : E 
         free = r.free;
         held = λ taken.
             let h = r.held taken in
-            let not_other : r.holder ≢ other = λ same. h.3 (let e' : h.0 ≡ e = some-injective h.0 e (sym h.1 ∙ (ap (get_elem? s.views) same ∙ at_e)) in ap (λ (v : View O E). v.stage) e' ∙ away) in
+            let not_other : r.holder ≢ other = λ same.
+            h.3 (let e' : h.0 ≡ e = some-injective h.0 e (sym h.1 ∙ (ap (get_elem? s.views) same ∙ at_e)) in ap (λ (v : View O E). v.stage) e' ∙ away) in
             dite (ℕ_discrete r.holder id)
             (λ (same : r.holder ≡ id).
             let e' : h.0 ≡ d = some-injective h.0 d (sym h.1 ∙ (ap (get_elem? s.views) same ∙ at)) in (
@@ -309,7 +369,8 @@ module _ {S O E : Type 0} (origin : S → O) (list : S → List E) (seat_of : E 
             ))
             (λ (else : r.holder ≢ id). (h.0, set_else vs other r.holder spent_view not_other ∙ (set_else s.views id r.holder both else ∙ h.1), h.2, h.3));
         undrawn = r.undrawn;
-        each_view = each_view_set (HoldsOfView seat_of r.o r.log r.seats r.turn r.holder r.lent) vs other spent_view (λ lives. absurd (true≢false (sym lives))) (λ j v _ in_it lives. vs_views j v in_it lives);
+        each_view = each_view_set (HoldsOfView seat_of r.o r.log r.seats r.turn r.holder r.lent) vs other spent_view (λ lives. absurd (true≢false (sym lives)))
+            (λ j v _ in_it lives. vs_views j v in_it lives);
         differ = differ_two Differ s.views id other both spent_view (λ lives. true≢false (sym lives))
             (λ j v not_me not_other in_it lives _.
             let mine = r.differ id j d v (λ h. not_me (sym h)) at in_it live lives in
@@ -322,7 +383,8 @@ module _ {S O E : Type 0} (origin : S → O) (list : S → List E) (seat_of : E 
                 both = λ n k. absurd (unreserved n k);
                 kin = λ k h.
                     ⊎_elim
-                    (λ (t : k ≡ kin_of e). subst (λ (c : Kin O E). (c.number ≢ v.number) × (Reserves v c.number → ⊥)) (sym t) (its.numbers, λ q. to_it.kept_back e.number q refl))
+                    (λ (t : k ≡ kin_of e).
+                    subst (λ (c : Kin O E). (c.number ≢ v.number) × (Reserves v c.number → ⊥)) (sym t) (its.numbers, λ q. to_it.kept_back e.number q refl))
                     (λ (t : IsKin e k ⊎ IsKin d k). ⊎_elim (λ (u : IsKin e k). its.kin k u) (λ (u : IsKin d k). mine.kin k u) t)
                     (kin_joined d e k h);
                 not_alone = λ h. absurd (true≢false (sym h));
@@ -350,16 +412,19 @@ module _ {S O E : Type 0} (origin : S → O) (list : S → List E) (seat_of : E 
       × ((e.origin ≡ d.origin) × (d.alone ≡ false) × (e.alone ≡ false))
 
   -- what a seat learns that was just joined to another
-  pub joined_tells : (d e : View O E) (c : List (ℕ × Option S)) (m m' : Me (Option S) (View O E)) → m ≡ (joined_view d e, c) → ComparesSeats seat_of (step 0 1 0 0 none) m 0 m'
+  pub joined_tells : (d e : View O E) (c : List (ℕ × Option S)) (m m' : Me (Option S) (View O E)) → m ≡ (joined_view d e, c)
+      → ComparesSeats seat_of (step 0 1 0 0 none) m 0 m'
       → (IsPrefix d.seen m'.0.seen × IsPrefix e.seen m'.0.seen)
       × (KnowsOwn seat_of (seat_value no_turn d) × KnowsOwn seat_of (seat_value no_turn e) × KnowsOwn seat_of (seat_value no_turn m'.0))
       × ((e.origin ≡ d.origin) × (d.alone ≡ false) × (e.alone ≡ false))
   unfolding TellsJoined
   joined_tells d e c m m' is told =
-      let here : ComparesSeats seat_of (step 0 1 0 0 none) (joined_view d e, c) 0 m' = subst (λ (x : Me (Option S) (View O E)). ComparesSeats seat_of (step 0 1 0 0 none) x 0 m') is told in
+      let here : ComparesSeats seat_of (step 0 1 0 0 none) (joined_view d e, c) 0 m' =
+      subst (λ (x : Me (Option S) (View O E)). ComparesSeats seat_of (step 0 1 0 0 none) x 0 m') is told in
       let other = here.5 (kin_of e) (0, refl) in
       let same : m'.0 ≡ joined_view d e = ap (λ (x : Me (Option S) (View O E)). x.0) here.0 in
-      subst (TellsJoined d e) (sym same) ((here.2, other.1), (here.3, other.2, here.4), (let apart = none_either d.alone e.alone here.1 in (other.0, apart.0, apart.1)))
+      subst (TellsJoined d e) (sym same)
+      ((here.2, other.1), (here.3, other.2, here.4), (let apart = none_either d.alone e.alone here.1 in (other.0, apart.0, apart.1)))
 
   -- a new turn over x, of some seats
   pub opens : (x : S) (seats : ℕ) → 0 < seats → seats ≤ 4294967295 → All (λ e. seat_of e < seats) (list x)
@@ -389,25 +454,28 @@ module _ {S O E : Type 0} (origin : S → O) (list : S → List E) (seat_of : E 
       first zero d at = refl
       first (suc i) d at = absurd (some-ne-none d (sym at))
 
-      only : (j : ℕ) (d : View O E) → get_elem? (first_view origin list seat_of x seats ∷ []) j ≡ some d → d.living ≡ true → HoldsOfView seat_of (origin x) (list x) seats 0 0 false j d
-      only zero d at live = subst (HoldsOfView seat_of (origin x) (list x) seats 0 0 false 0) (some-injective (first_view origin list seat_of x seats) d at) record {
-        same_origin = refl;
-        begins = prefix_self (list x);
-        own = refl;
-        own_seen = refl;
-        drawn = some_seat;
-        counts = omega arith;
-        stage = tt;
-        kept_back = λ n k. let a : 1 ≤ n = k.0 in (k.1, (λ h. (let z : n ≡ 0 = h in omega arith)), refl);
-        current = λ _. refl;
-        before = prefix_self (list x);
-        own_before = refl;
-        kin = λ k h. absurd (some-ne-none k (sym h.1));
-        no_clash = refl;
-      }
+      only : (j : ℕ) (d : View O E) → get_elem? (first_view origin list seat_of x seats ∷ []) j ≡ some d → d.living ≡ true
+          → HoldsOfView seat_of (origin x) (list x) seats 0 0 false j d
+      only zero d at live =
+          subst (HoldsOfView seat_of (origin x) (list x) seats 0 0 false 0) (some-injective (first_view origin list seat_of x seats) d at) record {
+            same_origin = refl;
+            begins = prefix_self (list x);
+            own = refl;
+            own_seen = refl;
+            drawn = some_seat;
+            counts = omega arith;
+            stage = tt;
+            kept_back = λ n k. let a : 1 ≤ n = k.0 in (k.1, (λ h. (let z : n ≡ 0 = h in omega arith)), refl);
+            current = λ _. refl;
+            before = prefix_self (list x);
+            own_before = refl;
+            kin = λ k h. absurd (some-ne-none k (sym h.1));
+            no_clash = refl;
+          }
       only (suc j) d at live = absurd (some-ne-none d (sym at))
 
-  pub opens_as : (x y : S) (seats n m len : ℕ) (slots : List (Option S)) → slots ≡ Some x ∷ [] → y ≡ x → n ≡ seats → m ≡ seats → len ≡ length (list x) → 0 < seats → seats ≤ 4294967295 → All (λ e. seat_of e < seats) (list x)
+  pub opens_as : (x y : S) (seats n m len : ℕ) (slots : List (Option S)) → slots ≡ Some x ∷ [] → y ≡ x → n ≡ seats → m ≡ seats → len ≡ length (list x)
+      → 0 < seats → seats ≤ 4294967295 → All (λ e. seat_of e < seats) (list x)
       → HoldsOfTurn origin list seat_of (opening (0 ∷ len ∷ m ∷ []) slots (first_view origin list seat_of y n))
   opens_as x y seats n m len slots slots_are same n_is m_is len_is some_seat few below =
       subst (λ (t : List ℕ × List (Option S) × View O E). HoldsOfTurn origin list seat_of (opening t.0 t.1 t.2))
@@ -415,13 +483,16 @@ module _ {S O E : Type 0} (origin : S → O) (list : S → List E) (seat_of : E 
       (opens x seats some_seat few below)
 
   -- at the end, with the turn held by a seat
-  pub closes : (id : ℕ) (d : View O E) (ws : List ℕ) (xs : List (Option S)) → d.living ≡ true → d.stage ≡ Holds → Final (Seen (HoldsOfTurn origin list seat_of) id d) ws xs
-      → (y : S) × (get_elem? xs 0 ≡ some (Some y)) × Meets origin list seat_of (seat_value no_turn d) y × ((k : Kin O E) → IsKin d k → HoldsOfKin seat_of (origin y) (list y) (list y) k)
+  pub closes : (id : ℕ) (d : View O E) (ws : List ℕ) (xs : List (Option S)) → d.living ≡ true → d.stage ≡ Holds
+      → Final (Seen (HoldsOfTurn origin list seat_of) id d) ws xs
+      → (y : S) × (get_elem? xs 0 ≡ some (Some y)) × Meets origin list seat_of (seat_value no_turn d) y
+      × ((k : Kin O E) → IsKin d k → HoldsOfKin seat_of (origin y) (list y) (list y) k)
   closes id d ws xs live holding final =
       let s = final.0 in
       let r = final.1.0 in
       let f = r.each_view id d final.1.1 live in
-      let mine : (id ≡ r.holder) × (r.turn ≡ 1) × (r.lent ≡ false) = subst (λ (t : Stage). HoldsOfStage r.turn r.holder r.lent r.log id d.seen t) holding f.stage in
+      let mine : (id ≡ r.holder) × (r.turn ≡ 1) × (r.lent ≡ false) =
+      subst (λ (t : Stage). HoldsOfStage r.turn r.holder r.lent r.log id d.seen t) holding f.stage in
       let home : HoldsOfPlace origin list r.o r.log false s.homes = subst (λ (b : Bool). HoldsOfPlace origin list r.o r.log b s.homes) mine.2 r.home in
       let begins : IsPrefix d.seen (list home.0) = subst (λ (l : List E). IsPrefix d.seen l) (sym home.3) f.begins in (
         home.0,
@@ -435,7 +506,12 @@ module _ {S O E : Type 0} (origin : S → O) (list : S → List E) (seat_of : E 
         },
         λ k h.
             let b = (f.kin k h).3 in
-            record { same_origin = b.same_origin ∙ ap Some (sym home.2); begins = prefix_trans k.seen d.seen (list home.0) b.begins begins; own = ap (by_seat seat_of k.number) home.3 ∙ b.own; own_seen = b.own_seen },
+            record {
+              same_origin = b.same_origin ∙ ap Some (sym home.2);
+              begins = prefix_trans k.seen d.seen (list home.0) b.begins begins;
+              own = ap (by_seat seat_of k.number) home.3 ∙ b.own;
+              own_seen = b.own_seen;
+            },
       )
 
   pub draws_as : (slots id old : ℕ) (m me : Me (Option S) (View O E)) → IsAfterTry m me → m.0.living ≡ true → m.0.stage ≡ Away → old < 4294967295
@@ -445,13 +521,15 @@ module _ {S O E : Type 0} (origin : S → O) (list : S → List E) (seat_of : E 
       draws slots id old me (kept.0 ∙ live) (kept.1 ∙ away) room
 
   -- a seat that has just drawn n may be split
-  pub splits_as : (id n : ℕ) (d e : View O E) → e ≡ record d { alone = false; numbers = n + 1; draws = d.draws + 1; from = n; to = n + 1 } → d.living ≡ true → d.stage ≡ Away → Splits (HoldsOfTurn origin list seat_of) id e (left_view e) (right_view seat_of e)
+  pub splits_as : (id n : ℕ) (d e : View O E) → e ≡ record d { alone = false; numbers = n + 1; draws = d.draws + 1; from = n; to = n + 1 } → d.living ≡ true
+      → d.stage ≡ Away → Splits (HoldsOfTurn origin list seat_of) id e (left_view e) (right_view seat_of e)
   splits_as id n d e is live away =
       subst (λ (v : View O E). Splits (HoldsOfTurn origin list seat_of) id v (left_view v) (right_view seat_of v)) (sym is)
       (splits id record d { alone = false; numbers = n + 1; draws = d.draws + 1; from = n; to = n + 1 } live away (omega arith))
 
   -- while the seats of a new turn are dealt
-  pub splits_dealer : (id : ℕ) (x : S) (seats k : ℕ) (m : Me (Option S) (View O E)) → m ≡ (dealer_view origin list seat_of x seats k, []) → k + 1 < seats → Splits (HoldsOfTurn origin list seat_of) id m.0 (left_view m.0) (right_view seat_of m.0)
+  pub splits_dealer : (id : ℕ) (x : S) (seats k : ℕ) (m : Me (Option S) (View O E)) → m ≡ (dealer_view origin list seat_of x seats k, []) → k + 1 < seats
+      → Splits (HoldsOfTurn origin list seat_of) id m.0 (left_view m.0) (right_view seat_of m.0)
   splits_dealer id x seats k m is more =
       subst (λ (v : Me (Option S) (View O E)). Splits (HoldsOfTurn origin list seat_of) id v.0 (left_view v.0) (right_view seat_of v.0)) (sym is)
       (splits id (dealer_view origin list seat_of x seats k) refl refl more)

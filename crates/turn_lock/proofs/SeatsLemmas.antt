@@ -1,12 +1,14 @@
 -- Beginnings of one list, and the entries of one seat in it.
-use Rattle.std.proofs.Common.{◌≡◌, ◌≢◌, ℕ, zero, suc, ◌<◌, ◌≤◌, eqb, eq-eqb, ne_eqb, List, [], ◌∷◌, ◌++◌, length, Bool, true, false, refl, ap, sym, ◌∙◌, arith, append_assoc, length-append, cond, Result, Ok, Err, MatchResult, get_or}
+use Rattle.std.proofs.Common.{◌≡◌, ◌≢◌, ℕ, zero, suc, ◌<◌, ◌≤◌, eqb, eq-eqb, ne_eqb, List, [], ◌∷◌, ◌++◌, length, Bool, true, false, refl, ap, sym, ◌∙◌, arith}
+use Rattle.std.proofs.Common.{append_assoc, length-append, cond, Option, Some, None, Result, Ok, Err, MatchResult, get_or}
 use Rattle.std.proofs.lemmas.List.{append-nil, append_cancel_left}
 use Rattle.std.proofs.lemmas.List.Elements.{filter-append}
 use Rattle.std.proofs.Math.Dec.{ltb}
 use Rattle.std.proofs.lemmas.Bool.{ltb-true, ltb-false}
 use Rattle.std.specs.List.{All}
+use Rattle.std.specs.Prelude.{IfSome}
 use mathlib.Core.List.{IsPrefix}
-use Rattle.turn_lock.specs.Seats.{by_seat, SeatValue, OnlyAdds, seat_after, longer_of}
+use Rattle.turn_lock.specs.Seats.{by_seat, SeatValue, OnlyAdds, with_entry, seat_after, longer_of}
 
 module _ {A : Type 0} where
   pub prefix_self : (xs : List A) → IsPrefix xs xs
@@ -64,7 +66,8 @@ module _ {A : Type 0} where
 
 module _ {O E T F : Type 0} where
   -- the seat after a step that adds one entry where it answers Ok, and else nothing
-  pub seat_after_step : (r : Result T F) (e : E) (xs ys added : List E) (s t : SeatValue O E) → ys ≡ xs ++ added → t ≡ seat_after s ys (s.mine ++ added) → MatchResult r (λ _. ys ≡ xs ++ e ∷ []) (λ _. ys ≡ xs)
+  pub seat_after_step : (r : Result T F) (e : E) (xs ys added : List E) (s t : SeatValue O E) → ys ≡ xs ++ added → t ≡ seat_after s ys (s.mine ++ added)
+      → MatchResult r (λ _. ys ≡ xs ++ e ∷ []) (λ _. ys ≡ xs)
       → MatchResult r (λ _. t ≡ seat_after s (xs ++ e ∷ []) (s.mine ++ e ∷ [])) (λ _. t ≡ seat_after s xs s.mine)
   seat_after_step (Ok v) e xs ys added s t adds is one =
       let mine : added ≡ e ∷ [] = adds_only xs ys added (e ∷ []) adds one in
@@ -73,9 +76,33 @@ module _ {O E T F : Type 0} where
       let none : added ≡ [] = adds_nothing xs ys added adds same in
       is ∙ (ap (λ l. seat_after s l (s.mine ++ added)) same ∙ ap (λ l. seat_after s xs l) (ap (λ l. s.mine ++ l) none ∙ append-nil s.mine))
 
+module _ {O E : Type 0} where
+  -- the seat after a step that adds this entry or none
+  pub seat_after_entry : (e : Option E) (xs ys added : List E) (s t : SeatValue O E) → ys ≡ xs ++ added → t ≡ seat_after s ys (s.mine ++ added)
+      → ys ≡ with_entry xs e
+      → t ≡ seat_after s (with_entry xs e) (with_entry s.mine e)
+  seat_after_entry (Some a) xs ys added s t adds is one =
+      let mine : added ≡ a ∷ [] = adds_only xs ys added (a ∷ []) adds one in
+      is ∙ (ap (λ l. seat_after s l (s.mine ++ added)) one ∙ ap (λ l. seat_after s (xs ++ a ∷ []) (s.mine ++ l)) mine)
+  seat_after_entry None xs ys added s t adds is same =
+      let none : added ≡ [] = adds_nothing xs ys added adds same in
+      is ∙ (ap (λ l. seat_after s l (s.mine ++ added)) same ∙ ap (λ l. seat_after s xs l) (ap (λ l. s.mine ++ l) none ∙ append-nil s.mine))
+
+module _ {S O E : Type 0} (origin : S → O) (list : S → List E) (seat_of : E → ℕ) where
+  -- a step that adds this entry of its seat or none only adds
+  pub entry_only_adds : (n : ℕ) (e : Option E) (x y : S) → origin y ≡ origin x → IfSome e (λ a. seat_of a ≡ n) → list y ≡ with_entry (list x) e
+      → OnlyAdds origin list seat_of n x y
+  entry_only_adds n (Some a) x y same own one = (a ∷ [], (same, one, each))
+    where
+      each : (k : ℕ) (d : E) → k < 1 → seat_of (get_or (a ∷ []) k d) ≡ n
+      each zero d l = own
+      each (suc k) d l = absurd (omega arith)
+  entry_only_adds n None x y same own none = ([], (same, none ∙ sym (append-nil (list x)), λ k d l. absurd (omega arith)))
+
 module _ {S O E T F : Type 0} (origin : S → O) (list : S → List E) (seat_of : E → ℕ) where
   -- a step that adds one entry of its seat where it answers Ok, and else nothing, only adds
-  pub step_only_adds : (r : Result T F) (n : ℕ) (e : E) (x y : S) → origin y ≡ origin x → seat_of e ≡ n → MatchResult r (λ _. list y ≡ list x ++ e ∷ []) (λ _. list y ≡ list x) → OnlyAdds origin list seat_of n x y
+  pub step_only_adds : (r : Result T F) (n : ℕ) (e : E) (x y : S) → origin y ≡ origin x → seat_of e ≡ n
+      → MatchResult r (λ _. list y ≡ list x ++ e ∷ []) (λ _. list y ≡ list x) → OnlyAdds origin list seat_of n x y
   step_only_adds (Ok v) n e x y same own one = (e ∷ [], (same, one, each))
     where
       each : (k : ℕ) (d : E) → k < 1 → seat_of (get_or (e ∷ []) k d) ≡ n
@@ -92,12 +119,14 @@ module _ {E : Type 0} (seat_of : E → ℕ) where
   by_seat-prefix n xs ys p e = append_empty _ (by_seat seat_of n p.0) (sym (by_seat-append n xs p.0) ∙ (ap (by_seat seat_of n) p.1 ∙ e))
 
   -- what two lists have of n, all between them has
-  pub by_seat-between : (n : ℕ) (xs ys zs mine : List E) → IsPrefix xs ys → IsPrefix ys zs → by_seat seat_of n xs ≡ mine → by_seat seat_of n zs ≡ mine → by_seat seat_of n ys ≡ mine
+  pub by_seat-between : (n : ℕ) (xs ys zs mine : List E) → IsPrefix xs ys → IsPrefix ys zs → by_seat seat_of n xs ≡ mine → by_seat seat_of n zs ≡ mine
+      → by_seat seat_of n ys ≡ mine
   by_seat-between n xs ys zs mine p q low high =
       let a = by_seat seat_of n p.0 in
       let b = by_seat seat_of n q.0 in
       let at_ys : by_seat seat_of n ys ≡ mine ++ a = sym (ap (by_seat seat_of n) p.1) ∙ (by_seat-append n xs p.0 ∙ ap (λ w. w ++ a) low) in
-      let at_zs : by_seat seat_of n zs ≡ mine ++ (a ++ b) = sym (ap (by_seat seat_of n) q.1) ∙ (by_seat-append n ys q.0 ∙ (ap (λ w. w ++ b) at_ys ∙ append_assoc mine a b)) in
+      let at_zs : by_seat seat_of n zs ≡ mine ++ (a ++ b) =
+      sym (ap (by_seat seat_of n) q.1) ∙ (by_seat-append n ys q.0 ∙ (ap (λ w. w ++ b) at_ys ∙ append_assoc mine a b)) in
       let none : a ++ b ≡ [] = append_cancel_left mine (a ++ b) [] (sym at_zs ∙ (high ∙ sym (append-nil mine))) in
       at_ys ∙ (ap (λ w. mine ++ w) (append_empty a b none) ∙ append-nil mine)
 
@@ -110,12 +139,14 @@ module _ {E : Type 0} (seat_of : E → ℕ) where
   -- entries of n are all that they have of n
   pub by_seat-own : (n : ℕ) (xs : List E) → All (λ e. seat_of e ≡ n) xs → by_seat seat_of n xs ≡ xs
   by_seat-own n [] h = refl
-  by_seat-own n (x ∷ xs) h = rw (eq-eqb (seat_of x) n (head_all (λ e. seat_of e ≡ n) x xs h)) (ap (λ w. x ∷ w) (by_seat-own n xs (tail_all (λ e. seat_of e ≡ n) x xs h)))
+  by_seat-own n (x ∷ xs) h =
+      rw (eq-eqb (seat_of x) n (head_all (λ e. seat_of e ≡ n) x xs h)) (ap (λ w. x ∷ w) (by_seat-own n xs (tail_all (λ e. seat_of e ≡ n) x xs h)))
 
   -- and have none of another number
   pub by_seat-other : (n m : ℕ) (xs : List E) → All (λ e. seat_of e ≡ n) xs → m ≢ n → by_seat seat_of m xs ≡ []
   by_seat-other n m [] h apart = refl
-  by_seat-other n m (x ∷ xs) h apart = rw (ne_eqb (seat_of x) m (λ e. apart (sym e ∙ head_all (λ e. seat_of e ≡ n) x xs h))) (by_seat-other n m xs (tail_all (λ e. seat_of e ≡ n) x xs h) apart)
+  by_seat-other n m (x ∷ xs) h apart =
+      rw (ne_eqb (seat_of x) m (λ e. apart (sym e ∙ head_all (λ e. seat_of e ≡ n) x xs h))) (by_seat-other n m xs (tail_all (λ e. seat_of e ≡ n) x xs h) apart)
 
   -- entries of numbers below `seats` have none of a number from there on
   pub by_seat-below : (seats m : ℕ) (xs : List E) → All (λ e. seat_of e < seats) xs → seats ≤ m → by_seat seat_of m xs ≡ []

@@ -2,7 +2,8 @@
 -- tells.
 -- The words are the turn (1 while a seat holds it), the length of the stored list, and how many seat
 -- numbers were drawn.
-use Rattle.std.specs.Prelude.{◌++◌, ◌≡◌, ◌≢◌, ◌⊎◌, ℕ, ◌+◌, ◌<◌, ◌≤◌, ◌==◌, ◌||◌, List, [], ◌∷◌, length, Bool, true, false, Option, Some, None, if◌then◌else◌, MatchBool}
+use Rattle.std.specs.Prelude.{◌++◌, ◌≡◌, ◌≢◌, ◌⊎◌, ℕ, ◌+◌, ◌<◌, ◌≤◌, ◌==◌, ◌||◌, List, [], ◌∷◌, length, Bool, true, false, Option, Some, None, if◌then◌else◌}
+use Rattle.std.specs.Prelude.{MatchBool}
 use mathlib.Core.Option.{some, none}
 use mathlib.Core.Option as maybe
 use mathlib.Core.List.{IsPrefix}
@@ -157,7 +158,8 @@ module _ {O E : Type 0} where
 
   -- what a seat shows of its view
   abbrev pub seat_value : TableId → View O E → SeatValue O E
-  seat_value turn d = record { turn = turn; number = d.number; origin = d.origin; seen = d.seen; mine = d.mine; alone = d.alone; numbers = d.numbers; draws = d.draws }
+  seat_value turn d =
+      record { turn = turn; number = d.number; origin = d.origin; seen = d.seen; mine = d.mine; alone = d.alone; numbers = d.numbers; draws = d.draws }
 
   -- what a seat shows of its views, of which it has one
   abbrev pub value_of_views : TableId → List (View O E) → SeatValue O E
@@ -173,9 +175,9 @@ module _ {O E : Type 0} where
   abbrev pub IsAtRest : View O E → Type 0
   IsAtRest d = (d.living ≡ true) × (d.stage ≡ Away)
 
-  -- the one view of a seat of this number that lies with its holder
-  abbrev pub Rests : ℕ → List (View O E) → Type 0
-  Rests number views = (d : View O E) × (views ≡ d ∷ []) × IsAtRest d × (d.number ≡ number)
+  -- the one view of a seat of this number that lies with its holder, and has seen so many entries
+  abbrev pub Rests : ℕ → ℕ → List (View O E) → Type 0
+  Rests number seen views = (d : View O E) × (views ≡ d ∷ []) × IsAtRest d × (d.number ≡ number) × (length d.seen ≡ seen)
 
 -- what a seat of the base has: its view, and the slots that it has taken
 abbrev BaseSeat : Type 0 → Type 0 → Type 0 → Type 0
@@ -205,7 +207,8 @@ module _ {S O E : Type 0} where
   abbrev pub DrawsNumber : (E → ℕ) → Step (Option S) → BaseSeat S O E → ℕ → BaseSeat S O E → Type 0
   DrawsNumber seat_of s m n m' =
       MatchBool (n == s.first)
-      ((m' ≡ (record m.0 { alone = false; numbers = n + 1; draws = m.0.draws + 1; from = n; to = n + 1 }, m.1)) × (by_seat seat_of n m.0.seen ≡ []) × (m.0.numbers ≤ n))
+      ((m' ≡ (record m.0 { alone = false; numbers = n + 1; draws = m.0.draws + 1; from = n; to = n + 1 }, m.1)) × (by_seat seat_of n m.0.seen ≡ [])
+      × (m.0.numbers ≤ n))
       ((m' ≡ (record m.0 { alone = false; numbers = n }, m.1)) × (m.0.numbers ≤ n) × (n ≤ seat_limit))
       × KnowsOwn seat_of (seat_value no_turn m.0)
 

@@ -1,5 +1,5 @@
 -- What the holder of a seat knows, and what it may do.
-use Rattle.std.specs.Prelude.{◌≡◌, ℕ, ◌+◌, ◌==◌, List, ◌++◌, [], length, Bool, true, false, Option, Some, All, if◌then◌else◌}
+use Rattle.std.specs.Prelude.{◌≡◌, ℕ, ◌+◌, ◌==◌, List, ◌++◌, [], ◌∷◌, length, Bool, true, false, Option, Some, None, All, if◌then◌else◌}
 use Rattle.std.proofs.Math.Dec.{ltb}
 use Rattle.std.specs.List.{filter}
 use mathlib.Core.List.{IsPrefix}
@@ -47,12 +47,18 @@ Adds origin list seat_of n x added y =
 abbrev pub OnlyAdds : {S O E : Type 0} → (S → O) → (S → List E) → (E → ℕ) → ℕ → S → S → Type 0
 OnlyAdds {S} {O} {E} origin list seat_of n x y = (added : List E) × Adds origin list seat_of n x added y
 
+-- the list with this entry behind it, where there is one
+abbrev pub with_entry : {E : Type 0} → List E → Option E → List E
+with_entry xs None = xs
+with_entry xs (Some e) = xs ++ e ∷ []
+
 -- f may be called at a `&mut` to x, and at the seat number n
 abbrev pub TakesChange : {F S R : Type 0} → Once F (MutBor S × (ℕ × Unit {0})) (R × (MutBor S × Unit {0})) → F → S → ℕ → Type 0
 TakesChange {F} {S} g f x n = (p : MutBor S) → p.now ≡ x → g.pre f (p, (n, tt))
 
 -- called at a `&mut` to x, and at the seat number n, f may give r and leave y
-pub record GivesChange {F S R : Type 0} (g : Once F (MutBor S × (ℕ × Unit {0})) (R × (MutBor S × Unit {0}))) (f : F) (x : S) (n : ℕ) (r : R) (y : S) : Type 0 where
+pub record GivesChange {F S R : Type 0} (g : Once F (MutBor S × (ℕ × Unit {0})) (R × (MutBor S × Unit {0}))) (f : F) (x : S) (n : ℕ) (r : R)
+    (y : S) : Type 0 where
   pub shown : MutBor S
   pub shows : shown.now ≡ x
   pub left : MutBor S

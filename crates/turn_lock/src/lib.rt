@@ -8,11 +8,12 @@
 //! - `rule`: the eight kinds of atomic step, the rule that each keeps, and what it tells. It runs no code.
 //! - `threads`: turns and seats may go from thread to thread.
 //!
-//! The promise to the layer above: all seats of a turn have one origin. What a seat has seen begins
-//! the list of every value that it is handed. Of the seat's number, that list and its beginning have
-//! just the entries that the seat made. A change adds entries of the seat's own number alone. The
-//! value that `close` hands out is such a value for each seat that it is given. Nothing is promised
-//! of progress or of fairness: a call that waits keeps its promise if it returns.
+//! The promise to the layer above: all seats of a turn have one origin. Of each value that is handed over
+//! holds what its type says of every value. What a seat has seen begins the list of every value that it is
+//! handed. Of the seat's number, that list and its beginning have just the entries that the seat made. A
+//! change adds entries of the seat's own number alone. The value that `close` hands out is such a value for
+//! each seat that it is given. Nothing is promised of progress or of fairness: a call that waits keeps its
+//! promise if it returns.
 #![tactic(auto)]
 
 mod laws;

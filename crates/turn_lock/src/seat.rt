@@ -1,4 +1,4 @@
-ghost use Rattle.std.specs.Prelude.{◌≡◌};
+ghost use Rattle.std.specs.Prelude.{◌≡◌, length};
 
 use crate::rule::View;
 use atomic_table::Badge;
@@ -8,10 +8,12 @@ use std::marker::Model;
 ///
 /// Contracts see it as a `SeatValue`: its turn, its number, its origin, `seen` and `mine`, whether it
 /// is alone, how many numbers it has seen drawn, and how many it drew itself. When it runs, it is its
-/// number alone.
+/// number, and how many entries it has seen.
 #[derive(Drop)]
 pub struct Seat<O, E> {
     pub(crate) number: u32,
+    /// How many entries it has seen.
+    pub(crate) seen: u64,
     pub(crate) badge: Badge<View<O, E>>,
 }
 
@@ -24,7 +26,7 @@ impl<O, E> Model for Seat<O, E> {
 
     ghost view = { λ s. value_of_views s.badge.table_id s.badge.views };
 
-    ghost invariant = { λ s. Rests s.number s.badge.views };
+    ghost invariant = { λ s. Rests s.number s.seen s.badge.views };
 }
 
 impl<O, E> Seat<O, E> {
@@ -33,5 +35,12 @@ impl<O, E> Seat<O, E> {
         ensures { result ≡ self.now.number }
     {
         self.number
+    }
+
+    /// How many entries the seat has seen.
+    pub fn seen(&self) -> u64
+        ensures { result ≡ length self.now.seen }
+    {
+        self.seen
     }
 }

@@ -17,7 +17,12 @@ pub trait Standing: Drop {
     /// The number of the seat that made an entry.
     ghost seat_of: { Self.Entry → ℕ };
 
-    /// How many entries there are.
+    /// What is true of each value that stands for an origin and a list, beyond these. By default it says
+    /// nothing.
+    ghost holds: { Self → Type 0 } = { λ _. Unit {0} };
+
+    /// How many entries there are. It also tells that the value holds.
     fn entries(&self) -> u64
-        ensures { result ≡ length (list self.now) };
+        ensures count { result ≡ length (list self.now) }
+        ensures stands { holds self.now };
 }

@@ -1,9 +1,11 @@
 //! The atomic steps of a turn, each as a function over the base's table and one seat of it.
-ghost use Rattle.std.specs.Prelude.{◌≡◌, ◌≢◌, ℕ, ◌+◌, ◌<◌, ◌≤◌, true, false, List, [], ◌∷◌, ◌++◌, length, Some, None, MatchOption, All, slice_get, vec_capacity};
+ghost use Rattle.std.specs.Prelude.{◌≡◌, ◌≢◌, ℕ, ◌+◌, ◌<◌, ◌≤◌, true, false, List, [], ◌∷◌, ◌++◌, length, Some, None};
+ghost use Rattle.std.specs.Prelude.{MatchOption, All, slice_get, vec_capacity};
 ghost use mathlib.Core.List.{IsPrefix};
 ghost use Rattle.turn_lock.specs.declared.rule.Stage.TheVariants.{Away, Holds, Out};
 ghost use Rattle.turn_lock.specs.Seats.{by_seat, KnowsOwn, Meets, new_seat, seat_limit};
-ghost use Rattle.turn_lock.specs.Rule.{IsSeatOf, IsSameSeat, IsAtRest, no_turn, seat_value, view_at, left_view, right_view, joined_view, first_view, IsHolding, IsSameWork, IsJoined};
+ghost use Rattle.turn_lock.specs.Rule.{IsSeatOf, IsSameSeat, IsAtRest, no_turn, seat_value, view_at, left_view};
+ghost use Rattle.turn_lock.specs.Rule.{right_view, joined_view, first_view, IsHolding, IsSameWork, IsJoined};
 
 use crate::rule::{
     CompareSeats, DrawNumber, GiveTurnBack, JoinSeats, NextList, Opening, ReadHistory, SplitOff,
@@ -70,25 +72,27 @@ pub(crate) fn take_out<S: Standing>(top: &Top<S>, place: &mut Place<S>) -> S
 pub(crate) fn store_length<S: Standing, J: NextList<S::Entry>>(
     top: &Top<S>,
     place: &mut Place<S>,
-    value: &S,
+    _value: &S,
+    entries: u64,
 )
     requires own { IsSeatOf top.now.table_id place.old × (place.old.me.0.living ≡ true)
         × (place.old.me.0.stage ≡ Out) }
-    requires next { J.next_list ≡ S.list value.now }
+    requires next { J.next_list ≡ S.list _value.now }
+    requires length { length (S.list _value.now) ≡ entries }
     requires grown { (added : List S.Entry)
-        × (S.list value.now ≡ place.old.me.0.seen ++ added)
+        × (S.list _value.now ≡ place.old.me.0.seen ++ added)
         × All (λ e. S.seat_of e ≡ place.old.me.0.number) added }
     ensures { IsSameSeat place.old place.new
         × (place.new.me ≡ (
           record place.old.me.0 {
-            seen = S.list value.now;
-            mine = by_seat S.seat_of place.old.me.0.number (S.list value.now);
-            before = S.list value.now;
+            seen = S.list _value.now;
+            mine = by_seat S.seat_of place.old.me.0.number (S.list _value.now);
+            before = S.list _value.now;
           },
           place.old.me.1,
         )) }
 {
-    top.store::<StoreHistory<S, J>>(place, HISTORY, value.entries());
+    top.store::<StoreHistory<S, J>>(place, HISTORY, entries);
 }
 
 /// Puts the value back, and gives the turn back.
@@ -176,7 +180,11 @@ pub(crate) fn join_all<S: Standing>(
     ensures alone { place.old.me.0.alone ≡ true → place.new.me.0 ≡ place.old.me.0 }
 {
     while let Some(other) = seats.pop() {
-        let RestingSeat::<S> { number: _, badge } = other;
+        let RestingSeat::<S> {
+            number: _,
+            seen: _,
+            badge,
+        } = other;
         join(top, place, badge.into_seat());
     }
 }
@@ -187,12 +195,14 @@ pub(crate) fn deal<S: Standing>(
     first: Place<S>,
     about: &Opening<S>,
     seats: u32,
+    entries: u64,
     mut all: Vec<RestingSeat<S>>,
 ) -> Vec<RestingSeat<S>>
     requires seats { (0 < seats) × (about.now.seats ≡ seats) }
     requires room { (all.items ≡ []) × (seats ≤ vec_capacity all) }
     requires first { IsSeatOf top.now.table_id first
         × (first.me ≡ (first_view S.origin S.list S.seat_of about.now.value.value seats, [])) }
+    requires entries { length (S.list about.now.value.value) ≡ entries }
     ensures count { length result.items ≡ seats }
     ensures each { let seat = new_seat S.origin S.list S.seat_of top.now.table_id about.now.value.value seats
         in (k : ℕ) → k < seats → slice_get result.items k ≡ Some (seat k) }
@@ -202,12 +212,14 @@ pub(crate) fn deal<S: Standing>(
         let next = top.split_seat::<SplitOff<S>>(&mut place);
         all.push_reserved(RestingSeat::<S> {
             number,
+            seen: entries,
             badge: place.into_badge(),
         });
         place = next;
     }
     all.push_reserved(RestingSeat::<S> {
         number: seats - 1,
+        seen: entries,
         badge: place.into_badge(),
     });
     all

@@ -1,7 +1,10 @@
-ghost use Rattle.std.specs.Prelude.{◌≡◌, ℕ, ◌+◌, ◌<◌, ◌≤◌, true, false, List, [], ◌∷◌, ◌++◌, length, Some, All, IfOk, IfErr, MatchResult, slice_get};
+ghost use Rattle.std.specs.Prelude.{◌≡◌, ℕ, ◌+◌, ◌<◌, ◌≤◌, true, false, List, [], ◌∷◌, ◌++◌, length, Some, All, IfOk};
+ghost use Rattle.std.specs.Prelude.{IfErr, MatchResult, slice_get};
 ghost use Rattle.std.specs.Fn.{FnOnceTakesAt, FnOnceReturnsAt};
 ghost use mathlib.Core.List.{IsPrefix};
-ghost use Rattle.turn_lock.specs.Seats.{by_seat, KnowsOwn, Meets, Adds, OnlyAdds, TakesChange, GivesChange, new_seat, seat_after, seat_beside, seat_after_draw, seat_when_full, seat_limit, longer_of};
+ghost use Rattle.turn_lock.specs.Seats.{by_seat, KnowsOwn, Meets, Adds, OnlyAdds, TakesChange, GivesChange, new_seat};
+ghost use Rattle.turn_lock.specs.Seats.{seat_after, seat_beside, seat_after_draw, seat_when_full, seat_limit};
+ghost use Rattle.turn_lock.specs.Seats.{longer_of};
 ghost use Rattle.turn_lock.specs.declared.turn.SplitFault.TheVariants.{NoMemory as split_no_memory};
 
 use crate::rule::{Opening, SplitOff, TurnRule};
@@ -84,13 +87,14 @@ impl<S: Standing> Turn<S> {
             value: Snapshot::of(&value),
             seats: u64::from(seats),
         };
-        let words = [0, value.entries(), u64::from(seats)];
+        let seen = value.entries();
+        let words = [0, seen, u64::from(seats)];
         let mut slots = Vec::with_capacity(alloc, 1)?;
         slots.push_reserved(Some(value));
         let Ok((table, first)) = Table::new(alloc, &words, slots, &about) else {
             return Err(NoMemory);
         };
-        let all = deal(&table.shared, first, &about, seats, all);
+        let all = deal(&table.shared, first, &about, seats, seen, all);
         Ok((Turn { table }, all))
     }
 
@@ -99,17 +103,25 @@ impl<S: Standing> Turn<S> {
     pub fn close<W: Wait>(self, rt: &W, mut seats: Vec<Seat<S::Origin, S::Entry>>) -> S
         requires some { 0 < length seats.items }
         requires own { All (λ s. s.turn ≡ self) seats.items }
-        ensures { All (λ s. Meets S.origin S.list S.seat_of s result) seats.items }
+        ensures meets { All (λ s. Meets S.origin S.list S.seat_of s result) seats.items }
+        ensures stands { S.holds result }
     {
         let Turn { table } = self;
-        let Seat { number: _, badge } = seats.remove(0);
+        let Seat {
+            number: _,
+            seen: _,
+            badge,
+        } = seats.remove(0);
         let mut place: Place<S> = badge.into_seat();
         take_turn(rt, &table.shared, &mut place);
         join_all(&table.shared, &mut place, seats);
         let mut closed = table.close_with(place);
         let value = closed.take(0);
         closed.free();
-        value.unwrap()
+        let value = value.unwrap();
+        // `entries` tells that the value holds.
+        value.entries();
+        value
     }
 
     /// Hands `f` the value, as it stands at this turn. It waits.
@@ -120,20 +132,23 @@ impl<S: Standing> Turn<S> {
         f: F,
     ) -> R
         requires own { seat.old.turn ≡ self.now }
-        requires callable { (x : S) → Meets S.origin S.list S.seat_of seat.old x
+        requires callable { (x : S) → Meets S.origin S.list S.seat_of seat.old x → S.holds x
             → FnOnceTakesAt F.FnOnce f x }
         ensures read { (x : S)
             × Meets S.origin S.list S.seat_of seat.old x
             × FnOnceReturnsAt F.FnOnce f x result
-            × (seat.new ≡ seat_after seat.old (S.list x) seat.old.mine) }
+            × (seat.new ≡ seat_after seat.old (S.list x) seat.old.mine)
+            × S.holds x }
         ensures own { KnowsOwn S.seat_of seat.old × KnowsOwn S.seat_of seat.new }
     {
         let top = &self.table.shared;
         let mut place: Place<S> = replace(&mut seat.badge, Badge::blank()).into_seat();
         take_turn(rt, top, &mut place);
         let value = take_out(top, &mut place);
+        let seen = value.entries();
         let answer = f(&value);
         give_back(top, &mut place, value);
+        seat.seen = seen;
         seat.badge = place.into_badge();
         answer
     }
@@ -146,16 +161,18 @@ impl<S: Standing> Turn<S> {
         f: F,
     ) -> R
         requires own { seat.old.turn ≡ self.now }
-        requires callable { (x : S) → Meets S.origin S.list S.seat_of seat.old x
+        requires callable { (x : S) → Meets S.origin S.list S.seat_of seat.old x → S.holds x
             → TakesChange F.FnOnce f x seat.old.number }
-        requires only_adds { (x y : S) (r : R) → Meets S.origin S.list S.seat_of seat.old x
-            → GivesChange F.FnOnce f x seat.old.number r y
+        requires only_adds { (x y : S) (r : R) → Meets S.origin S.list S.seat_of seat.old x → S.holds x
+            → GivesChange F.FnOnce f x seat.old.number r y → S.holds y
             → OnlyAdds S.origin S.list S.seat_of seat.old.number x y }
         ensures change { (x : S) × (y : S) × (added : List S.Entry)
             × Meets S.origin S.list S.seat_of seat.old x
             × GivesChange F.FnOnce f x seat.old.number result y
             × Adds S.origin S.list S.seat_of seat.old.number x added y
-            × (seat.new ≡ seat_after seat.old (S.list y) (seat.old.mine ++ added)) }
+            × (seat.new ≡ seat_after seat.old (S.list y) (seat.old.mine ++ added))
+            × S.holds x
+            × S.holds y }
         ensures own { KnowsOwn S.seat_of seat.old × KnowsOwn S.seat_of seat.new }
     {
         let top = &self.table.shared;
@@ -163,9 +180,13 @@ impl<S: Standing> Turn<S> {
         let mut place: Place<S> = replace(&mut seat.badge, Badge::blank()).into_seat();
         take_turn(rt, top, &mut place);
         let mut value = take_out(top, &mut place);
+        // That the value holds is told by `entries`, before the change and behind it.
+        let _found = value.entries();
         let answer = f(&mut value, number);
-        store_length::<S, Brand>(top, &mut place, &value);
+        let left = value.entries();
+        store_length::<S, Brand>(top, &mut place, &value, left);
         give_back(top, &mut place, value);
+        seat.seen = left;
         seat.badge = place.into_badge();
         answer
     }
@@ -193,6 +214,7 @@ impl<S: Standing> Turn<S> {
         let split = match drawn {
             Some(number) => Ok(Seat {
                 number,
+                seen: seat.seen,
                 badge: top.split_seat::<SplitOff<S>>(&mut place).into_badge(),
             }),
             None => Err(SplitFault::Full),
@@ -221,8 +243,13 @@ impl<S: Standing> Turn<S> {
     {
         let top = &self.table.shared;
         let mut place: Place<S> = replace(&mut seat.badge, Badge::blank()).into_seat();
-        let Seat { number: _, badge } = other;
+        let Seat {
+            number: _,
+            seen,
+            badge,
+        } = other;
         join(top, &mut place, badge.into_seat());
+        seat.seen = seat.seen.max(seen);
         seat.badge = place.into_badge();
     }
 }

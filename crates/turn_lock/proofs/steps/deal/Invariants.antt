@@ -9,4 +9,5 @@ invariant-loop-number g l =
     × (l.place.me ≡ (dealer_view g.S.Standing.origin g.S.Standing.list g.S.Standing.seat_of l.about.value.value l.seats l.number, []))
     × (length l.all.items ≡ l.number)
     × (l.seats ≤ vec_capacity l.all)
-    × ((k : ℕ) → k < l.number → slice_get l.all.items k ≡ Some (new_seat g.S.Standing.origin g.S.Standing.list g.S.Standing.seat_of l.top.table_id l.about.value.value l.seats k))
+    × ((k : ℕ) → k < l.number
+    → slice_get l.all.items k ≡ Some (new_seat g.S.Standing.origin g.S.Standing.list g.S.Standing.seat_of l.top.table_id l.about.value.value l.seats k))

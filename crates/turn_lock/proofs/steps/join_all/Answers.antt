@@ -16,8 +16,10 @@ loop-other-preserved g c =
       (All-pop (λ s. s.turn ≡ c.args.top.now.table_id) c.loop-other.seats.items c.pop.new.self.items c.pop.result c.pop.ensures.items inv.3).0,
       prefix_trans c.args.place.now.me.0.seen c.loop-other.place.me.0.seen c.join.new.place.me.0.seen inv.4 here.begins.0,
       (λ h. absurd (true≢false (sym h ∙ (sym (ap (λ v. v.alone) (inv.5 h)) ∙ here.beside.1)))),
-      joined_more c.loop-other.place.me.0.kin c.into_seat.result.me.0.kin c.join.new.place.me.0.kin (kin_of c.into_seat.result.me.0) c.loop-other.seats.items c.pop.new.self.items done.0 c.args.seats.items c.in-Some.other done.1 c.in-Some.ensures.items (ap (λ m. m.0.kin) here.same.1) done.2
-          (was_joined c.into_seat.result.me.0 c.in-Some.other c.other.inside.badge.table_id c.other.inside.badge.views c.join.new.place.me.0.kin _ c.other.view_is c.into_seat.ensures.2 here.beside.2 (ap (λ m. m.0.kin) here.same.1)),
+      joined_more c.loop-other.place.me.0.kin c.into_seat.result.me.0.kin c.join.new.place.me.0.kin (kin_of c.into_seat.result.me.0) c.loop-other.seats.items
+          c.pop.new.self.items done.0 c.args.seats.items c.in-Some.other done.1 c.in-Some.ensures.items (ap (λ m. m.0.kin) here.same.1) done.2
+          (was_joined c.into_seat.result.me.0 c.in-Some.other c.other.inside.badge.table_id c.other.inside.badge.views c.join.new.place.me.0.kin _
+          c.other.view_is c.into_seat.ensures.2 here.beside.2 (ap (λ m. m.0.kin) here.same.1)),
     )
 
 pub returns-clause-joined : goal.returns-clause-joined
