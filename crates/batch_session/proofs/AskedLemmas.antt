@@ -3,7 +3,8 @@ use Rattle.std.proofs.Common.{inl, inr, ◌≡◌, ◌⊎◌, ℕ, Bool, true, f
 use Rattle.std.specs.Prelude.{◌&&◌, nat_le, length, Option, Some, None, IfSome, option_map, codes, if◌then◌else◌}
 use Rattle.std.specs.Str.{bytes_eq, is_utf8}
 use Rattle.lake_calls.specs.Calls.{Call}
-use Rattle.batch_session.specs.Command.{LineValue, Skipped, NotBuilt, Asks, call_of, call_of_words, cat_call, cat_of_words, is_plain, is_skipped, line_of_call, line_value, path_of, upload_call, upload_of_words, words_of}
+use Rattle.batch_session.specs.Command.{LineValue, Skipped, NotBuilt, Asks, call_of, call_of_words, cat_call, cat_of_words, is_plain, is_skipped, line_of_call}
+use Rattle.batch_session.specs.Command.{line_value, path_of, upload_call, upload_of_words, words_of}
 
 -- an upload to the branch, or a reading of it
 abbrev pub IsOnBranch : Call → Type 0

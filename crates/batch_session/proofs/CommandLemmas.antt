@@ -13,7 +13,8 @@ path_of_by uri begins found is =
     ∙ ap (valid_path (drop (length branch_uri) uri)) is
 
 -- a refusal that isn't out of memory is the first fault
-pub fault_found : {X : Type 0} (P : X → Type 0) (fault : NameFault) (found : Option NameFault) → ReadsName (Err fault) found P → fault ≢ NoMemory → found ≡ Some fault
+pub fault_found : {X : Type 0} (P : X → Type 0) (fault : NameFault) (found : Option NameFault) → ReadsName (Err fault) found P → fault ≢ NoMemory
+    → found ≡ Some fault
 fault_found P Empty found is other = is
 fault_found P TooShort found is other = is
 fault_found P TooLong found is other = is

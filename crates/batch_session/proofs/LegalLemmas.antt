@@ -19,7 +19,8 @@ use Rattle.lake_calls.specs.Courses.{upload_entry}
 use Rattle.lake_calls.specs.Effects.{drop_entry, effect, upload_effect}
 use Rattle.lake_calls.specs.Replies.{stage_refusal, ticket_entry, ticket_refusal}
 use Rattle.lake_calls.proofs.EffectLemmas.{both_none}
-use Rattle.batch_session.specs.Batch.{AreServed, CutShort, IsCallServed, IsValueServed, Lake, LineEffect, Served, Unread, first_lake, lake_left, state_of, usual_cut}
+use Rattle.batch_session.specs.Batch.{AreServed, CutShort, IsCallServed, IsValueServed, Lake, LineEffect, Served, Unread, first_lake, lake_left, state_of}
+use Rattle.batch_session.specs.Batch.{usual_cut}
 use Rattle.batch_session.specs.Command.{LineValue, Skipped, NotBuilt, Asks, line_value}
 use Rattle.batch_session.proofs.GuardLemmas.{current_causes}
 use Rattle.batch_session.proofs.TicketLemmas.{ticket_tied}
@@ -57,7 +58,8 @@ module _ (laws : StepLaws) where
   legal_upload s request u None (Some fault) first second is =
       let take : HistoryEntry = ticket_entry s request.by u in (
         laws.take s request.by u.repo u.branch first,
-        legal_drops (after s take) request.by s.next_number (is_none (first_cause (causes_of_change (after s take)))) refl (ticket_tied s request.by s.next_number),
+        legal_drops (after s take) request.by s.next_number (is_none (first_cause (causes_of_change (after s take)))) refl
+            (ticket_tied s request.by s.next_number),
       )
   legal_upload s request u None None first second is =
       let take : HistoryEntry = ticket_entry s request.by u in
@@ -74,7 +76,8 @@ module _ (laws : StepLaws) where
       )
 
   legal_effect : (s : State) (by : By) (moment : ℕ) (call : Call) → IsLegal s (effect s (record { call = call; moment = moment; by = by })).entries
-  legal_effect s by moment (Upload u) = legal_upload s (record { call = Upload u; moment = moment; by = by }) u (ticket_refusal s u) (stage_refusal s by u) refl refl refl
+  legal_effect s by moment (Upload u) =
+      legal_upload s (record { call = Upload u; moment = moment; by = by }) u (ticket_refusal s u) (stage_refusal s by u) refl refl refl
   legal_effect s by moment (Object o) = tt
 
   -- ---- lines

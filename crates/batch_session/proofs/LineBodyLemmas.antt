@@ -30,12 +30,14 @@ use Rattle.lake_calls.specs.Calls.{Call, UploadCall, Upload, Request}
 use Rattle.lake_calls.specs.Courses.{upload_entry}
 use Rattle.lake_calls.specs.Effects.{drop_entries, drop_entry, effect, upload_effect}
 use Rattle.lake_calls.specs.Replies.{CallReply, Lost, UploadReply, is_done, object_reply, reply_or, stage_refusal, ticket_entry, ticket_refusal}
-use Rattle.batch_session.specs.Batch.{AreServed, CutShort, IsCallServed, IsLineServed, IsValueServed, Lake, LineEffect, Served, Unread, any_starved, first_lake, lake_left, next_request, reply_of, state_of, usual_cut, with_object}
+use Rattle.batch_session.specs.Batch.{AreServed, CutShort, IsCallServed, IsLineServed, IsValueServed, Lake, LineEffect, Served, Unread, any_starved, first_lake}
+use Rattle.batch_session.specs.Batch.{lake_left, next_request, reply_of, state_of, usual_cut, with_object}
 use Rattle.batch_session.specs.Command.{LineValue, Skipped, NotBuilt, Asks, cat_call, line_value}
 use Rattle.batch_session.specs.LastUploads.{HasMemory, body_put, cat_text, last_upload}
 use Rattle.batch_session.specs.Text.{names_of, reply_text}
 use Rattle.batch_session.proofs.AskedLemmas.{IsOnBranch, IsOnBranchOnly, asked}
-use Rattle.batch_session.proofs.LastUploadLemmas.{HasBodies, IsBodyOf, IsReading, body_over, drop_bodies, main, quickstart, reading_of, same_bodies, stage_bodies, ticket_bodies}
+use Rattle.batch_session.proofs.LastUploadLemmas.{HasBodies, IsBodyOf, IsReading, body_over, drop_bodies, main, quickstart, reading_of, same_bodies}
+use Rattle.batch_session.proofs.LastUploadLemmas.{stage_bodies, ticket_bodies}
 use Rattle.batch_session.proofs.TicketLemmas.{drops_are}
 
 -- ---- the fresh lake
@@ -126,7 +128,8 @@ call_bodies lake bodies call moment (inl (path, text, is)) has =
     (λ q. option_or (body_put q (Asks c) (is_done (reply_of lake (next_request lake c moment)))) (bodies q))) (sym is)
     (upload_bodies (state_of lake) lake.objects bodies (record { seat = 0; call = lake.calls + 1 }) moment path text has
     (ticket_refusal (state_of lake) (u (state_of lake) lake.objects bodies (record { seat = 0; call = lake.calls + 1 }) moment path text has))
-    (stage_refusal (state_of lake) (record { seat = 0; call = lake.calls + 1 }) (u (state_of lake) lake.objects bodies (record { seat = 0; call = lake.calls + 1 }) moment path text has)))
+    (stage_refusal (state_of lake) (record { seat = 0; call = lake.calls + 1 })
+    (u (state_of lake) lake.objects bodies (record { seat = 0; call = lake.calls + 1 }) moment path text has)))
 call_bodies lake bodies call moment (inr (path, is)) has =
     subst (λ c. HasBodies (replay (state_of lake) (effect (state_of lake) (next_request lake c moment)).entries)
     (with_object (effect (state_of lake) (next_request lake c moment)).body lake.objects)
@@ -190,7 +193,8 @@ reading_text path answer None is = ap (reply_text (names_of (cat_call path))) is
 reading_text path answer (Some body) is = ap (reply_text (names_of (cat_call path))) is.1
 
 cat_shown : (lake : Lake) (path : List ℕ) (its : Option (List ℕ)) (one : LineEffect) → IsCallServed lake (cat_call path) one → one.starved ≡ false
-    → IsReading (object_reply (state_of lake) (get lake.objects) (record { repo = quickstart; e = record { name = main; at = false; moves = [] }; text = main; path = path })) its
+    → IsReading (object_reply (state_of lake) (get lake.objects)
+    (record { repo = quickstart; e = record { name = main; at = false; moves = [] }; text = main; path = path })) its
     → one.text ≡ cat_text path its
 cat_shown lake path its one (Served moment is) memory reading = ap (λ (o : LineEffect). o.text) is ∙ reading_text path _ its reading
 cat_shown lake path its one (Unread is) memory reading = let starved = ap (λ (o : LineEffect). o.starved) is in absurd cc
@@ -227,4 +231,5 @@ pub never_lost : (texts : List (List ℕ)) (lines : List LineEffect) (text : Lis
     → AreServed texts first_lake lines → HasMemory lines → line_value text ≡ Asks call
     → reply_of (lake_left first_lake lines) (next_request (lake_left first_lake lines) call moment) ≢ Lost number
 never_lost texts lines text call moment number are memory asks =
-    call_kept (lake_left first_lake lines) (λ q. last_upload q texts lines) call moment number (subst IsOnBranchOnly asks (asked text)) (batch_bodies texts lines are memory)
+    call_kept (lake_left first_lake lines) (λ q. last_upload q texts lines) call moment number (subst IsOnBranchOnly asks (asked text))
+    (batch_bodies texts lines are memory)

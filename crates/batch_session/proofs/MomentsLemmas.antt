@@ -22,7 +22,8 @@ each_append : (P : ℕ → Type 0) (m n : List ℕ) → AllByRecursion P m → A
 each_append P [] n f g = g
 each_append P (x ∷ m) n f g = (f.0, each_append P m n f.1 g)
 
-pub moments_then : (timing : Timing) (a b c : Option (List ℕ)) (m n : List ℕ) → AreMoments timing a b m → AreMoments timing b c n → AreMoments timing a c (m ++ n)
+pub moments_then : (timing : Timing) (a b c : Option (List ℕ)) (m n : List ℕ) → AreMoments timing a b m → AreMoments timing b c n
+    → AreMoments timing a c (m ++ n)
 moments_then Clock a b c m n f g = clock_then a b c m n f g
 moments_then (At moment) a b c m n f g = (g.0 ∙ f.0, each_append (λ x. x ≡ moment) m n f.1 g.1)
 

@@ -1,5 +1,6 @@
 -- An accepted upload stands in the history once.
-use Rattle.std.proofs.Common.{inl, inr, ◌≡◌, ◌⊎◌, ◌<◌, ◌≤◌, ◌++◌, ◌∷◌, [], ◌+◌, ℕ, Bool, true, false, cond, List, refl, sym, ap, ◌∙◌, subst, arith, eqb-true, eq-eqb}
+use Rattle.std.proofs.Common.{inl, inr, ◌≡◌, ◌⊎◌, ◌<◌, ◌≤◌, ◌++◌, ◌∷◌, [], ◌+◌, ℕ, Bool, true, false, cond, List, refl, sym, ap, ◌∙◌, subst, arith, eqb-true}
+use Rattle.std.proofs.Common.{eq-eqb}
 use Rattle.std.proofs.lemmas.List.{append-nil}
 use Rattle.std.proofs.lemmas.List.Elements.{All-contains, All-from_recursion, filter-append}
 use Rattle.std.specs.Prelude.{◌==◌, Option, Some, None}
@@ -14,7 +15,8 @@ use Rattle.lake_calls.specs.Courses.{course_entries, upload_entry}
 use Rattle.lake_calls.specs.Effects.{CallEffect, drop_entry, effect, fronts, upload_effect}
 use Rattle.lake_calls.specs.Replies.{stage_refusal, ticket_entry, ticket_refusal}
 use Rattle.lake_calls.proofs.EffectLemmas.{accepted_effect, both_none, done_by}
-use Rattle.batch_session.specs.Batch.{AreServed, CutShort, IsCallServed, IsLineServed, IsValueServed, Lake, LineEffect, Served, Unread, after_call, first_lake, lake_left, next_request, state_of}
+use Rattle.batch_session.specs.Batch.{AreServed, CutShort, IsCallServed, IsLineServed, IsValueServed, Lake, LineEffect, Served, Unread, after_call, first_lake}
+use Rattle.batch_session.specs.Batch.{lake_left, next_request, state_of}
 use Rattle.batch_session.specs.Command.{LineValue, Skipped, NotBuilt, Asks, line_value}
 use Rattle.batch_session.specs.OwnEntries.{entries_by}
 use Rattle.batch_session.proofs.TicketLemmas.{drops_are}
@@ -61,7 +63,8 @@ drop_by : (s : State) (by : By) (number : ℕ) (drops : List HistoryEntry) → (
 drop_by s by number drops (inl none) = subst (AreBy by.call) (sym none) tt
 drop_by s by number drops (inr one) = subst (AreBy by.call) (sym one) (refl, tt)
 
-upload_by : (s : State) (request : Request) (u : UploadCall) → request.call ≡ Upload u → (a b : Option StepFault) → AreBy request.by.call (upload_effect s request u a b).entries
+upload_by : (s : State) (request : Request) (u : UploadCall) → request.call ≡ Upload u → (a b : Option StepFault)
+    → AreBy request.by.call (upload_effect s request u a b).entries
 upload_by s request u is (Some fault) b = tt
 upload_by s request u is None (Some fault) =
     (refl, drop_by s request.by s.next_number _ (drops_are (after s (ticket_entry s request.by u)) request.by s.next_number))
@@ -158,7 +161,8 @@ call_stays call lake next made grows =
     ∙ ap (λ es. entries_by call lake.history ++ es) (by_later call (lake.calls + 1) grows.added (omega arith) grows.own)
     ∙ append-nil (entries_by call lake.history)
 
-lines_none_later : (texts : List (List ℕ)) (lake : Lake) (lines : List LineEffect) → AreServed texts lake lines → NoneLater lake → NoneLater (lake_left lake lines)
+lines_none_later : (texts : List (List ℕ)) (lake : Lake) (lines : List LineEffect) → AreServed texts lake lines → NoneLater lake
+    → NoneLater (lake_left lake lines)
 lines_none_later [] lake [] are none = none
 lines_none_later [] lake (one ∷ lines) are none = absurd are
 lines_none_later (text ∷ texts) lake [] are none = absurd are

@@ -14,7 +14,8 @@ use Rattle.lake_calls.specs.Calls.{Call}
 use Rattle.lake_calls.specs.Effects.{nothing}
 use Rattle.lake_calls.specs.Replies.{CallReply, seen_reply}
 use Rattle.batch_session.specs.declared.reply.Reply.{Reply}
-use Rattle.batch_session.specs.Batch.{CutShort, IsCallServed, IsValueServed, Lake, LineEffect, Served, Unread, after_call, call_line_effect, next_request, starved_effect, state_of, usual_cut}
+use Rattle.batch_session.specs.Batch.{CutShort, IsCallServed, IsValueServed, Lake, LineEffect, Served, Unread, after_call, call_line_effect, next_request}
+use Rattle.batch_session.specs.Batch.{starved_effect, state_of, usual_cut}
 use Rattle.batch_session.specs.Calling.{IsAnswered, IsCutOff, ServesCall, ShowsReply, upload_request}
 use Rattle.batch_session.specs.Command.{LineValue, Skipped, NotBuilt, Asks, call_of, cat_call, is_skipped, line_of_call, line_value, upload_call}
 use Rattle.batch_session.specs.Text.{batch_names, out_of_memory_text, reply_text}
@@ -29,7 +30,8 @@ pub upload_served : (old new : Lake) (by : By) (moment : ℕ) (repo branch path 
     → ServesCall old (upload_request by moment (upload_of repo branch path text)) result new
     → ServesCall old (next_request old (upload_call path text) moment) result new
 upload_served old new by moment repo branch path text result by_is repo_is branch_is serves =
-    subst (λ b. ServesCall old (upload_request (record { seat = 0; call = old.calls + 1 }) moment (upload_of (codes "quickstart") b path text)) result new) branch_is
+    subst
+    (λ b. ServesCall old (upload_request (record { seat = 0; call = old.calls + 1 }) moment (upload_of (codes "quickstart") b path text)) result new) branch_is
     (subst (λ r. ServesCall old (upload_request (record { seat = 0; call = old.calls + 1 }) moment (upload_of r branch path text)) result new) repo_is
     (subst (λ b. ServesCall old (upload_request b moment (upload_of repo branch path text)) result new) by_is serves))
 
@@ -42,7 +44,8 @@ abbrev pub main_expression : RefExprValue
 main_expression = record { name = codes "main"; at = false; moves = [] }
 
 cat_answered : (old new : Lake) (moment : ℕ) (path : List ℕ) (result : Result Reply no_memory)
-    → IfOk result (ShowsReply (reply_text (batch_names path) (cat_answer old (codes "quickstart") main_expression path)) (cat_answer old (codes "quickstart") main_expression path))
+    → IfOk result (ShowsReply (reply_text (batch_names path) (cat_answer old (codes "quickstart") main_expression path))
+    (cat_answer old (codes "quickstart") main_expression path))
     → new ≡ after_call nothing old → ServesCall old (next_request old (cat_call path) moment) result new
 cat_answered old new moment path (Ok r) shows left = record { reply = shows; left = left }
 cat_answered old new moment path (Err x) shows left = record { added = nothing; front = (0, lit< tt, refl); left = left }
@@ -55,7 +58,8 @@ pub cat_served : (old new : Lake) (moment : ℕ) (repo : List ℕ) (e : RefExprV
     → ServesCall old (next_request old (cat_call path) moment) result new
 cat_served old new moment repo e path result repo_is e_is shows history objects calls =
     cat_answered old new moment path result
-    (subst (λ x. IfOk result (ShowsReply (reply_text (batch_names path) (cat_answer old (codes "quickstart") x path)) (cat_answer old (codes "quickstart") x path))) e_is
+    (subst (λ x.
+    IfOk result (ShowsReply (reply_text (batch_names path) (cat_answer old (codes "quickstart") x path)) (cat_answer old (codes "quickstart") x path))) e_is
     (subst (λ r. IfOk result (ShowsReply (reply_text (batch_names path) (cat_answer old r e path)) (cat_answer old r e path))) repo_is shows))
     (ap (λ h. let l : Lake = record { history = h; objects = new.objects; calls = new.calls } in l) (history ∙ sym (append-nil old.history))
     ∙ ap (λ o. let l : Lake = record { history = old.history ++ []; objects = o; calls = new.calls } in l) objects

@@ -100,7 +100,8 @@ read_branch given repo branch at false answer is =
     subst (λ a. IsRead (branch_version given repo branch) a (Some NoRef)) (sym is) refl
 
 read_repository : (given : VersionsGiven) (repo branch : List ℕ) (at : ℕ) (found : Option Repository) (answer : Result Versions StepFault)
-    → answer ≡ option_map_or (λ (r : Repository). if is_some (get r.branches branch) then Ok (versions_at at given repo branch) else Err NoRef) found (Err NoRepo)
+    → answer
+    ≡ option_map_or (λ (r : Repository). if is_some (get r.branches branch) then Ok (versions_at at given repo branch) else Err NoRef) found (Err NoRepo)
     → IsRead (branch_version given repo branch) answer (missing (is_some found) (is_some (option_and_then (λ (r : Repository). get r.branches branch) found)))
 read_repository given repo branch at (Some r) answer is = read_branch given repo branch at (is_some (get r.branches branch)) answer is
 read_repository given repo branch at None answer is =
@@ -112,7 +113,8 @@ pub versions_read : (s : State) (given : VersionsGiven) (repo branch : List ℕ)
 versions_read s given repo branch answer is = read_repository given repo branch s.entries (get s.repositories repo) answer is
 
 -- a guarded step that was read
-pub guarded_step : {X : Type 0} (refusal write stage : Option StepFault) (value : X) (entry : HistoryEntry) (result : Result X StepFault) (old new : List HistoryEntry)
+pub guarded_step :
+    {X : Type 0} (refusal write stage : Option StepFault) (value : X) (entry : HistoryEntry) (result : Result X StepFault) (old new : List HistoryEntry)
     → refusal ≡ None → stage ≡ write → IsStep stage value entry result old new → IsStep (option_or refusal write) value entry result old new
 guarded_step refusal write stage value entry result old new none is step =
     subst (λ r. IsStep (option_or r write) value entry result old new) (sym none)
@@ -139,11 +141,14 @@ pub staged_step : (by : By) (lake next : LakeValue KeptPairs) (history : List Hi
 staged_step by lake next history made given repo branch versions result same view told gives leaves =
     let read : (first_cause (reading_causes (state lake) repo branch) ≡ None) × (versions.version ≡ branch_version given repo branch) =
     versions_read (state lake) given repo branch (Ok versions) told in
-    let sure = sure_step sure_view (λ pairs. refl) by made (first_cause (stage_causes (state lake) given repo branch versions.version)) ((state lake).entries + 1) lake next result gives leaves in
+    let sure = sure_step sure_view (λ pairs. refl) by made (first_cause (stage_causes (state lake) given repo branch versions.version))
+    ((state lake).entries + 1) lake next result gives leaves in
     subst (λ s. IsStep (guarded_refusal s repo branch) (s.entries + 1) (accepted_entry by made.operation) result history next.history) same
-    (subst (λ h. IsStep (guarded_refusal (state lake) repo branch) ((state lake).entries + 1) (accepted_entry by made.operation) result h next.history) (sym view)
+    (subst (λ h. IsStep (guarded_refusal (state lake) repo branch) ((state lake).entries + 1) (accepted_entry by made.operation) result h next.history)
+    (sym view)
     (guarded_step (first_cause (reading_causes (state lake) repo branch)) (first_cause (write_causes (state lake) repo branch))
-    (first_cause (stage_causes (state lake) given repo branch versions.version)) ((state lake).entries + 1) (accepted_entry by made.operation) result lake.history next.history
+    (first_cause (stage_causes (state lake) given repo branch versions.version)) ((state lake).entries + 1)
+    (accepted_entry by made.operation) result lake.history next.history
     read.0 (current_causes (state lake) given repo branch versions.version read.1) sure.step))
 
 -- a version that can't be read
@@ -154,7 +159,8 @@ unread_branch s lake given repo branch fault same told =
     (ap (λ r. option_or r (first_cause (write_causes (state lake) repo branch))) (versions_read (state lake) given repo branch (Err fault) told))
 
 -- a lake over an empty keeper that never fails isn't opened for lack of memory alone
-pub opens_but_for_memory : (cut : Cut) (keeper back : KeptPairs) (fault : OpenFault) → IsUnopened sure_view cut keeper fault back → keeper ≡ empty → fault ≡ opening.NoMemory
+pub opens_but_for_memory : (cut : Cut) (keeper back : KeptPairs) (fault : OpenFault) → IsUnopened sure_view cut keeper fault back → keeper ≡ empty
+    → fault ≡ opening.NoMemory
 opens_but_for_memory cut keeper back opening.StoreFault is none = let rose : 0 < 0 = is.cause (omega arith) in absurd (omega arith)
 opens_but_for_memory cut keeper back (opening.BadPair number) is none = absurd (is.cause.1.0 none)
 opens_but_for_memory cut keeper back opening.NoMemory is none = refl

@@ -1,5 +1,6 @@
 -- The first word of a line.
-use Rattle.std.proofs.Common.{◌≡◌, ◌≢◌, ◌<◌, ◌≤◌, ◌==◌, ℕ, zero, suc, false, nat_lt, List, [], ◌∷◌, ◌++◌, length, filter, get_or, take, drop, refl, sym, ◌∙◌, ap, subst, arith, take-append-drop}
+use Rattle.std.proofs.Common.{◌≡◌, ◌≢◌, ◌<◌, ◌≤◌, ◌==◌, ℕ, zero, suc, false, nat_lt, List, [], ◌∷◌, ◌++◌, length, filter, get_or, take, drop, refl, sym, ◌∙◌}
+use Rattle.std.proofs.Common.{ap, subst, arith, take-append-drop}
 use Rattle.std.proofs.lemmas.Bool.Decides.{nat_tests}
 use Rattle.std.proofs.lemmas.List.{append-nil}
 use Rattle.std.proofs.lemmas.List.Elements.{All-nil, All-cons}
@@ -13,12 +14,15 @@ abbrev EndsWord : List ℕ → Type 0
 EndsWord [] = Unit {0}
 EndsWord (byte ∷ bytes) = byte ≡ 32
 
-word_kept : (word : List ℕ) (words : List (List ℕ)) → 0 < length word → filter (λ w. nat_lt 0 (length w)) (word ∷ words) ≡ word ∷ filter (λ w. nat_lt 0 (length w)) words
+word_kept : (word : List ℕ) (words : List (List ℕ)) → 0 < length word
+    → filter (λ w. nat_lt 0 (length w)) (word ∷ words) ≡ word ∷ filter (λ w. nat_lt 0 (length w)) words
 word_kept word words some = grind (arith, nat_tests)
 
-words_of-append : (word rest : List ℕ) → All (λ byte. (byte == 32) ≡ false) word → 0 < length word → EndsWord rest → words_of (word ++ rest) ≡ word ∷ words_of rest
+words_of-append : (word rest : List ℕ) → All (λ byte. (byte == 32) ≡ false) word → 0 < length word → EndsWord rest
+    → words_of (word ++ rest) ≡ word ∷ words_of rest
 words_of-append word [] none some ends =
-    ap words_of (append-nil word) ∙ ap (λ parts. filter (λ w. nat_lt 0 (length w)) parts) (slice_split_none (λ byte. byte == 32) word none) ∙ word_kept word [] some
+    ap words_of (append-nil word) ∙ ap (λ parts. filter (λ w. nat_lt 0 (length w)) parts) (slice_split_none (λ byte. byte == 32) word none)
+    ∙ word_kept word [] some
 words_of-append word (byte ∷ rest) none some ends =
     ap (λ parts. filter (λ w. nat_lt 0 (length w)) parts) (slice_split_at (λ b. b == 32) word byte rest none (grind (arith, nat_tests)))
     ∙ word_kept word (slice_split (λ b. b == 32) rest) some
@@ -46,8 +50,10 @@ none_before [] (suc n) before = All-nil NotSpace
 none_before (byte ∷ bytes) (suc n) before =
     All-cons NotSpace byte (take n bytes) (not_space byte (before 0 (omega arith))) (none_before bytes n (λ k below. before (suc k) (omega arith)))
 
-pub first_word : (bytes : List ℕ) (n : ℕ) → 0 < length bytes → get_or bytes 0 0 ≢ 32 → n ≤ length bytes → ((k : ℕ) → k < n → get_or bytes k 0 ≢ 32) → (n < length bytes → get_or bytes n 0 ≡ 32)
+pub first_word : (bytes : List ℕ) (n : ℕ) → 0 < length bytes → get_or bytes 0 0 ≢ 32 → n ≤ length bytes → ((k : ℕ) → k < n → get_or bytes k 0 ≢ 32)
+    → (n < length bytes → get_or bytes n 0 ≡ 32)
     → words_of bytes ≡ take n bytes ∷ words_of (drop n bytes)
 first_word bytes n some begins within before found =
     let long : 0 < n = grind (arith, found) in
-    ap words_of (sym (take-append-drop n bytes)) ∙ words_of-append (take n bytes) (drop n bytes) (none_before bytes n before) (grind (arith, common_steps)) (ends_at bytes n found)
+    ap words_of (sym (take-append-drop n bytes))
+    ∙ words_of-append (take n bytes) (drop n bytes) (none_before bytes n before) (grind (arith, common_steps)) (ends_at bytes n found)

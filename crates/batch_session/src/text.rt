@@ -1,7 +1,8 @@
 //! What a batch prints.
 ghost use Rattle.std.specs.Prelude.{◌≡◌, ◌≢◌, ◌++◌, ℕ, List, IfOk};
 ghost use Rattle.lake_base.specs.Digest.{encode_lower};
-ghost use Rattle.batch_session.specs.Text.{CallNames, batch_names, gone_text, lost_text, no_path_text, outside_text, refusal_text, upload_text};
+ghost use Rattle.batch_session.specs.Text.{CallNames, batch_names, gone_text, lost_text, no_path_text, outside_text};
+ghost use Rattle.batch_session.specs.Text.{refusal_text, upload_text};
 ghost use Rattle.batch_session.specs.TextView.{text_bytes};
 
 use lake_base::{Digest, NoMemory, Path};

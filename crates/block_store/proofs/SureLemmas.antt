@@ -56,5 +56,6 @@ entries-from (e ∷ es) h =
     ∙ put-below e es h
 
 -- the keys of entries in order are the map's
-pub keys-from : {X : Type 0} (es : List (ℕ × X)) → IsStrictlySortedBy nat_cmp (list_map (λ e. e.0) es) → map.keys (map.from_entries {R = nat_cmp} es) ≡ list_map (λ e. e.0) es
+pub keys-from : {X : Type 0} (es : List (ℕ × X)) → IsStrictlySortedBy nat_cmp (list_map (λ e. e.0) es)
+    → map.keys (map.from_entries {R = nat_cmp} es) ≡ list_map (λ e. e.0) es
 keys-from es h = ap (list_map (λ e. e.0)) (entries-from es h)

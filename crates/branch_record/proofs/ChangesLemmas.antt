@@ -6,7 +6,8 @@ use Rattle.std.specs.Ordering.{eq_by_cmp}
 use Rattle.std.specs.Map.{lookup}
 use Rattle.std.specs.Cmp.{eq_by_cmp_equiv}
 use Rattle.std.proofs.lemmas.Cmp.{nat_list_cmp_total}
-use Rattle.std.specs.FinMap.{find, get, entries, from_entries, from_sorted, insert, remove, get-from_entries, get-from_sorted, get-insert, get-remove, entries-from_sorted, len, len-entries}
+use Rattle.std.specs.FinMap.{find, get, entries, from_entries, from_sorted, insert, remove, get-from_entries, get-from_sorted, get-insert, get-remove}
+use Rattle.std.specs.FinMap.{entries-from_sorted, len, len-entries}
 use Rattle.std.specs.FinMap.Entries.{find-where_key}
 use Rattle.lake_base.specs.Maps.{byte_order}
 use Rattle.lake_base.proofs.MapsLemmas.{same_key, tied, ascend_from}
@@ -60,7 +61,8 @@ turned_test true x y = refl
 turned_test false x y = refl
 
 -- the rows that a reset doesn't drop are what it leaves
-pub rows_reset : (what : ResetWhat) (es : Rows) → from_entries {R = byte_order} (filter (λ e. not (drops_path what e.0)) es) ≡ changes_after_reset what (from_entries es)
+pub rows_reset : (what : ResetWhat) (es : Rows)
+    → from_entries {R = byte_order} (filter (λ e. not (drops_path what e.0)) es) ≡ changes_after_reset what (from_entries es)
 rows_reset what es = same _ _ (λ q.
     get-from_entries nat_list_cmp_total _ q
     ∙ find-where_key byte_order (λ path. not (drops_path what path)) q (λ x t. ap (λ k. not (drops_path what k)) (sym (same_key q x t))) es

@@ -135,13 +135,17 @@ between_from path [] = refl
 between_from path (row ∷ rows) = by (byte_order row.0 path) refl (between_from path rows)
   where
     kept : Ordering → Rows
-    kept o = cond (is_le o && true) (row ∷ entries_between byte_order (Included path) Unbounded rows) (entries_between byte_order (Included path) Unbounded rows)
+    kept o =
+        cond (is_le o && true) (row ∷ entries_between byte_order (Included path) Unbounded rows) (entries_between byte_order (Included path) Unbounded rows)
 
     by : (o : Ordering) → byte_order row.0 path ≡ o → entries_between byte_order (Included path) Unbounded rows ≡ entries_from path rows
         → kept (byte_order path row.0) ≡ cond (not (is_lt (byte_order row.0 path))) (row ∷ entries_from path rows) (entries_from path rows)
-    by Less is rest = ap kept (turned row.0 path Less is) ∙ rest ∙ sym (ap (λ o. cond (not (is_lt o)) (row ∷ entries_from path rows) (entries_from path rows)) is)
-    by Equal is rest = ap kept (turned row.0 path Equal is) ∙ ap (λ l. row ∷ l) rest ∙ sym (ap (λ o. cond (not (is_lt o)) (row ∷ entries_from path rows) (entries_from path rows)) is)
-    by Greater is rest = ap kept (turned row.0 path Greater is) ∙ ap (λ l. row ∷ l) rest ∙ sym (ap (λ o. cond (not (is_lt o)) (row ∷ entries_from path rows) (entries_from path rows)) is)
+    by Less is rest =
+        ap kept (turned row.0 path Less is) ∙ rest ∙ sym (ap (λ o. cond (not (is_lt o)) (row ∷ entries_from path rows) (entries_from path rows)) is)
+    by Equal is rest = ap kept (turned row.0 path Equal is) ∙ ap (λ l. row ∷ l) rest
+        ∙ sym (ap (λ o. cond (not (is_lt o)) (row ∷ entries_from path rows) (entries_from path rows)) is)
+    by Greater is rest = ap kept (turned row.0 path Greater is) ∙ ap (λ l. row ∷ l) rest
+        ∙ sym (ap (λ o. cond (not (is_lt o)) (row ∷ entries_from path rows) (entries_from path rows)) is)
 
 -- ---- one more row in its place
 module _ (least path : List ℕ) (change : Change) where
@@ -183,25 +187,30 @@ module _ (least path : List ℕ) (change : Change) where
           absurd cc
       by Less is false never rest =
           ap (λ b. cond (not b) (own ∷ from (row ∷ rows)) (from (row ∷ rows))) high ∙ ap (λ l. own ∷ l) (kept false never)
-          ∙ sym (ap (put byte_order path change) (kept false never) ∙ ap (λ o. by_order o (own ∷ row ∷ from rows) ((row.0, change) ∷ from rows) (row ∷ put byte_order path change (from rows))) is)
+          ∙ sym (ap (put byte_order path change) (kept false never)
+          ∙ ap (λ o. by_order o (own ∷ row ∷ from rows) ((row.0, change) ∷ from rows) (row ∷ put byte_order path change (from rows))) is)
       by Equal is true low rest =
           let wrong : true ≡ false = sym (ap (λ k. is_lt (byte_order k least)) (same_key path row.0 is) ∙ low) ∙ high in
           absurd cc
       by Equal is false never rest =
           ap (λ b. cond (not b) ((row.0, change) ∷ from rows) (from rows)) never
-          ∙ sym (ap (put byte_order path change) (kept false never) ∙ ap (λ o. by_order o (own ∷ row ∷ from rows) ((row.0, change) ∷ from rows) (row ∷ put byte_order path change (from rows))) is)
+          ∙ sym (ap (put byte_order path change) (kept false never)
+          ∙ ap (λ o. by_order o (own ∷ row ∷ from rows) ((row.0, change) ∷ from rows) (row ∷ put byte_order path change (from rows))) is)
       by Greater is true low rest =
           ap (λ b. cond (not b) (row ∷ from (put byte_order path change rows)) (from (put byte_order path change rows))) low ∙ rest
           ∙ sym (ap (put byte_order path change) (kept true low))
       by Greater is false never rest =
           ap (λ b. cond (not b) (row ∷ from (put byte_order path change rows)) (from (put byte_order path change rows))) never ∙ ap (λ l. row ∷ l) rest
-          ∙ sym (ap (put byte_order path change) (kept false never) ∙ ap (λ o. by_order o (own ∷ row ∷ from rows) ((row.0, change) ∷ from rows) (row ∷ put byte_order path change (from rows))) is)
+          ∙ sym (ap (put byte_order path change) (kept false never)
+          ∙ ap (λ o. by_order o (own ∷ row ∷ from rows) ((row.0, change) ∷ from rows) (row ∷ put byte_order path change (from rows))) is)
 
-pub from_put : (least : List ℕ) (waiting : Option Row) (rows : Rows) → entries_from least (put_row waiting rows) ≡ put_row (row_above least waiting) (entries_from least rows)
+pub from_put : (least : List ℕ) (waiting : Option Row) (rows : Rows)
+    → entries_from least (put_row waiting rows) ≡ put_row (row_above least waiting) (entries_from least rows)
 from_put least None rows = refl
 from_put least (Some w) rows = by (is_lt (byte_order w.0 least)) refl
   where
-    by : (b : Bool) → is_lt (byte_order w.0 least) ≡ b → entries_from least (put byte_order w.0 w.1 rows) ≡ put_row (cond b None (Some w)) (entries_from least rows)
+    by : (b : Bool) → is_lt (byte_order w.0 least) ≡ b
+        → entries_from least (put byte_order w.0 w.1 rows) ≡ put_row (cond b None (Some w)) (entries_from least rows)
     by true low = put_low least w.0 w.1 low rows
     by false high = put_high least w.0 w.1 high rows
 

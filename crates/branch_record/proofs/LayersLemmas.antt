@@ -1,5 +1,6 @@
 -- What the changes of tokens, the newer over the older, say of a path.
-use Rattle.std.proofs.Common.{◌≡◌, ℕ, Bool, true, false, cond, List, [], ◌∷◌, ◌++◌, Some, None, Option, refl, sym, ap, ◌∙◌, suc, ◌+◌, ◌<◌, ◌≤◌, length, drop, get_or, drop-cons, add-one, arith}
+use Rattle.std.proofs.Common.{◌≡◌, ℕ, Bool, true, false, cond, List, [], ◌∷◌, ◌++◌, Some, None, Option, refl, sym, ap, ◌∙◌, suc, ◌+◌, ◌<◌, ◌≤◌, length, drop}
+use Rattle.std.proofs.Common.{get_or, drop-cons, add-one, arith}
 use Rattle.std.specs.Bool.{nat_eq}
 use Rattle.std.specs.List.{AllByRecursion, IsDistinct}
 use Rattle.std.specs.Option.{option_or}
@@ -67,7 +68,8 @@ module _ (t : TokenMap) where
   get_overlay r path =
       get_over (staged_changes r t) (sealed_changes r t) path ∙ ap (option_or (get (staged_changes r t) path)) (get_layered r.sealed path)
 
-  pub said_next : (token : ℕ) (older : List ℕ) (path : List ℕ) → first_change t (token ∷ older) path ≡ option_or (get (changes_under t token) path) (first_change t older path)
+  pub said_next : (token : ℕ) (older : List ℕ) (path : List ℕ)
+      → first_change t (token ∷ older) path ≡ option_or (get (changes_under t token) path) (first_change t older path)
   unfolding first_change
   said_next token older path = refl
 
@@ -130,12 +132,14 @@ module _ (t : TokenMap) (token : ℕ) (path : List ℕ) (change : Change) where
   other_token k ne = under_other t token _ k (turned k token ∙ ne)
 
   -- other tokens say what they said
-  others_say : (these : List ℕ) (q : List ℕ) → AllByRecursion (λ y. nat_eq token y ≡ false) these → first_change (with_change t token path change) these q ≡ first_change t these q
+  others_say : (these : List ℕ) (q : List ℕ) → AllByRecursion (λ y. nat_eq token y ≡ false) these
+      → first_change (with_change t token path change) these q ≡ first_change t these q
   unfolding first_change
   others_say [] q h = refl
   others_say (k ∷ these) q h = λ i. option_or (get (other_token k h.0 i) q) (others_say these q h.1 i)
 
-  this_token : (q : List ℕ) → get (changes_under (with_change t token path change) token) q ≡ cond (bytes_eq q path) (Some change) (get (changes_under t token) q)
+  this_token : (q : List ℕ)
+      → get (changes_under (with_change t token path change) token) q ≡ cond (bytes_eq q path) (Some change) (get (changes_under t token) q)
   unfolding with_change
   this_token q =
       ap (λ c. get c q) (under_here t token _) ∙ get-insert nat_list_cmp_total (changes_under t token) path change q
@@ -146,7 +150,8 @@ module _ (t : TokenMap) (token : ℕ) (path : List ℕ) (change : Change) where
   or_changed false o p = refl
 
   -- the first of the tokens says the change of its path
-  pub said_changed : (these : List ℕ) (q : List ℕ) → AreDistinct (token ∷ these) → first_change (with_change t token path change) (token ∷ these) q ≡ cond (bytes_eq q path) (Some change) (first_change t (token ∷ these) q)
+  pub said_changed : (these : List ℕ) (q : List ℕ) → AreDistinct (token ∷ these)
+      → first_change (with_change t token path change) (token ∷ these) q ≡ cond (bytes_eq q path) (Some change) (first_change t (token ∷ these) q)
   unfolding first_change IsDistinct
   said_changed these q h =
       (λ i. option_or (this_token q i) (others_say these q h.0 i)) ∙ or_changed (bytes_eq q path) (get (changes_under t token) q) (first_change t these q)

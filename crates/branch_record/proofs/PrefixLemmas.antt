@@ -65,7 +65,8 @@ between (x ∷ p) (y ∷ q) (z ∷ r) low high e =
     ]
 
 module _ (what : ResetWhat) (changes : ChangesValue) where
-  left_alone : (q : List ℕ) → (drops_path what q ≡ true → get changes q ≡ None) → (b : Bool) → drops_path what q ≡ b → cond b None (get changes q) ≡ get changes q
+  left_alone : (q : List ℕ) → (drops_path what q ≡ true → get changes q ≡ None) → (b : Bool) → drops_path what q ≡ b
+      → cond b None (get changes q) ≡ get changes q
   left_alone q none true e = sym (none e)
   left_alone q none false e = refl
 
@@ -109,7 +110,8 @@ module _ (m : BTreeMap (List ℕ) Change) (prefix : List ℕ) (found : Rows) (ra
         by : (o : Option Change) → lookup (eq_by_cmp byte_order path) m.entries ≡ o → find byte_order path m.entries ≡ None
         by None e = find_lookup m.entries path ∙ e
         by (Some v) e =
-            let high : is_gt (byte_order first.0 path) ≡ false = subst (λ l. IfSome (slice_get l 0) (λ e. IsLeBy byte_order e.0 path)) is (range.2 path (not_below prefix path begins, tt) (ap is_some e)) in
+            let high : is_gt (byte_order first.0 path) ≡ false =
+            subst (λ l. IfSome (slice_get l 0) (λ e. IsLeBy byte_order e.0 path)) is (range.2 path (not_below prefix path begins, tt) (ap is_some e)) in
             let also = between prefix first.0 path here.0.0 high begins in
             let wrong : true ≡ false = sym also ∙ not in
             absurd cc

@@ -46,16 +46,19 @@ module _ (what : ResetWhat) (t : TokenMap) (these : List ℕ) where
       under_changed (changes_after_reset what) t these k ∙ ap (λ b. cond b (changes_after_reset what (changes_under t k)) (changes_under t k)) among
 
   -- some of the tokens say nothing of a path that the reset drops, and of others what they said
-  said_left : (some : List ℕ) → ((k : ℕ) → is_among some k ≡ true → is_among these k ≡ true) → (q : List ℕ) → first_change tokens_left some q ≡ cond (drops_path what q) None (first_change t some q)
+  said_left : (some : List ℕ) → ((k : ℕ) → is_among some k ≡ true → is_among these k ≡ true) → (q : List ℕ)
+      → first_change tokens_left some q ≡ cond (drops_path what q) None (first_change t some q)
   unfolding first_change
   said_left [] among q = either (drops_path what q) None
   said_left (k ∷ older) among q =
-      let here : get (changes_under tokens_left k) q ≡ cond (drops_path what q) None (get (changes_under t k) q) = ap (λ c. get c q) (under_left k (among k (among_first k older))) ∙ get_reset what (changes_under t k) q in
+      let here : get (changes_under tokens_left k) q ≡ cond (drops_path what q) None (get (changes_under t k) q) =
+      ap (λ c. get c q) (under_left k (among k (among_first k older))) ∙ get_reset what (changes_under t k) q in
       (λ i. option_or (here i) (said_left older (λ j e. among j (among_more k older j e)) q i))
       ∙ left_or (drops_path what q) (get (changes_under t k) q) (first_change t older q)
 
   -- the changes of some of the tokens are what the reset leaves of them
-  layers_left : (some : List ℕ) → ((k : ℕ) → is_among some k ≡ true → is_among these k ≡ true) → layers_of tokens_left some ≡ changes_after_reset what (layers_of t some)
+  layers_left : (some : List ℕ) → ((k : ℕ) → is_among some k ≡ true → is_among these k ≡ true)
+      → layers_of tokens_left some ≡ changes_after_reset what (layers_of t some)
   layers_left some among = same _ _ (λ q.
       get_layered tokens_left some q ∙ said_left some among q
       ∙ ap (cond (drops_path what q) None) (sym (get_layered t some q))
@@ -68,10 +71,12 @@ module _ (r : BranchRecordValue) (t : TokenMap) (what : ResetWhat) where
   pub sealed_left : sealed_changes r (with_each (named_tokens r) (changes_after_reset what) t) ≡ changes_after_reset what (sealed_changes r t)
   sealed_left = layers_left what t (named_tokens r) r.sealed (among_more r.staging r.sealed)
 
-  pub looked_left : (path : List ℕ) → branch_change r (with_each (named_tokens r) (changes_after_reset what) t) path ≡ cond (drops_path what path) None (branch_change r t path)
+  pub looked_left : (path : List ℕ)
+      → branch_change r (with_each (named_tokens r) (changes_after_reset what) t) path ≡ cond (drops_path what path) None (branch_change r t path)
   looked_left path = said_left what t (named_tokens r) (named_tokens r) (λ k among. among) path
 
 -- ---- the sealed changes are dropped: the staged ones stay
-pub staged_kept : (r : BranchRecordValue) (t : TokenMap) → AreDistinct (named_tokens r) → changes_under (with_each r.sealed (λ _. empty) t) r.staging ≡ staged_changes r t
+pub staged_kept : (r : BranchRecordValue) (t : TokenMap) → AreDistinct (named_tokens r)
+    → changes_under (with_each r.sealed (λ _. empty) t) r.staging ≡ staged_changes r t
 staged_kept r t distinct =
     under_changed (λ _. empty) t r.sealed r.staging ∙ ap (λ b. cond b empty (staged_changes r t)) (first_apart r.staging r.sealed distinct)

@@ -20,7 +20,8 @@ use Rattle.branch_record.specs.Tokens.{TokenMap, HasNoEmptyToken, changes_under,
 use Rattle.branch_record.specs.TokenRows.{Waiting, room, some_changes, tokens_of, with_waiting, waiting_after, waiting_under, waiting_said, put_row, rows_under}
 use Rattle.branch_record.proofs.ChangesLemmas.{reset_dropped, reset_kept}
 use Rattle.branch_record.proofs.PrefixLemmas.{reset_nothing}
-use Rattle.branch_record.proofs.TokensLemmas.{kept, value, value_kept, kept_empty, same_tokens, turned, get_with, under_with, under_here, under_other, with_with, with_other}
+use Rattle.branch_record.proofs.TokensLemmas.{kept, value, value_kept, kept_empty, same_tokens, turned, get_with, under_with, under_here, under_other}
+use Rattle.branch_record.proofs.TokensLemmas.{with_with, with_other}
 
 abbrev pub TokenRows : Type 0
 TokenRows = List (ℕ × ChangesValue)
@@ -101,7 +102,8 @@ waits_either true x c = refl
 waits_either false x c = refl
 
 -- whether there are changes under a token
-pub contains_waiting : (w : Waiting) (m : TokenMap) (token : ℕ) → contains_key (with_waiting w m) token ≡ (is_some (waiting_under w token) || contains_key m token)
+pub contains_waiting : (w : Waiting) (m : TokenMap) (token : ℕ)
+    → contains_key (with_waiting w m) token ≡ (is_some (waiting_under w token) || contains_key m token)
 unfolding with_waiting with_change
 contains_waiting None m token = refl
 contains_waiting (Some w) m token =
@@ -129,7 +131,8 @@ module _ (m : TokenMap) (path : List ℕ) where
   found_waiting w token false e = refl
 
   -- what is found under a token at a path
-  pub get_waiting : (w : Waiting) (token : ℕ) → get (changes_under (with_waiting w m) token) path ≡ option_or (waiting_said w token path) (get (changes_under m token) path)
+  pub get_waiting : (w : Waiting) (token : ℕ)
+      → get (changes_under (with_waiting w m) token) path ≡ option_or (waiting_said w token path) (get (changes_under m token) path)
   unfolding with_waiting with_change
   get_waiting None token = refl
   get_waiting (Some w) token =
@@ -146,7 +149,8 @@ module _ (m : TokenMap) where
   rows_waiting w token false e = refl
 
   -- the rows under a token, in order
-  pub entries_waiting : (w : Waiting) (token : ℕ) → entries (changes_under (with_waiting w m) token) ≡ put_row (waiting_under w token) (entries (changes_under m token))
+  pub entries_waiting : (w : Waiting) (token : ℕ)
+      → entries (changes_under (with_waiting w m) token) ≡ put_row (waiting_under w token) (entries (changes_under m token))
   unfolding with_waiting with_change
   entries_waiting None token = refl
   entries_waiting (Some w) token =
@@ -164,7 +168,8 @@ module _ (m : TokenMap) where
     unfolding with_change
     elsewhere k token ne =
         let new = insert (changes_under m k) path change in
-        ap (λ c. with_changes (with_changes m token (left (changes_under m token))) k (insert c path change)) (under_other m token (left (changes_under m token)) k (turned k token ∙ ne))
+        ap (λ c. with_changes (with_changes m token (left (changes_under m token))) k (insert c path change))
+        (under_other m token (left (changes_under m token)) k (turned k token ∙ ne))
         ∙ with_other m token k (left (changes_under m token)) new ne
         ∙ ap (λ c. with_changes (with_changes m k new) token (left c)) (sym (under_other m k new token ne))
 
@@ -180,7 +185,8 @@ module _ (m : TokenMap) where
 
     -- under the same, where it leaves it
     stays : (k : ℕ) → drops_path what path ≡ false
-        → with_change (with_changes m k (left (changes_under m k))) k path change ≡ with_changes (with_change m k path change) k (left (changes_under (with_change m k path change) k))
+        → with_change (with_changes m k (left (changes_under m k))) k path change
+        ≡ with_changes (with_change m k path change) k (left (changes_under (with_change m k path change) k))
     unfolding with_change
     stays k d =
         let new = insert (changes_under m k) path change in
@@ -195,8 +201,10 @@ module _ (m : TokenMap) where
         → with_waiting (cond (b && d) None (Some (k, path, change))) (with_changes m token (left (changes_under m token)))
         ≡ with_changes (with_change m k path change) token (left (changes_under (with_change m k path change) token))
     unfolding with_waiting
-    under_one k token true true e g = subst (λ n. with_changes m n (left (changes_under m n)) ≡ with_changes (with_change m k path change) n (left (changes_under (with_change m k path change) n))) (sym (eqb-true token k e)) (dropped k g)
-    under_one k token true false e g = subst (λ n. with_change (with_changes m n (left (changes_under m n))) k path change ≡ with_changes (with_change m k path change) n (left (changes_under (with_change m k path change) n))) (sym (eqb-true token k e)) (stays k g)
+    under_one k token true true e g = subst (λ n. with_changes m n (left (changes_under m n))
+        ≡ with_changes (with_change m k path change) n (left (changes_under (with_change m k path change) n))) (sym (eqb-true token k e)) (dropped k g)
+    under_one k token true false e g = subst (λ n. with_change (with_changes m n (left (changes_under m n))) k path change
+        ≡ with_changes (with_change m k path change) n (left (changes_under (with_change m k path change) n))) (sym (eqb-true token k e)) (stays k g)
     under_one k token false d e g = elsewhere k token e
 
   -- a reset of the rows and of the change that waits is one of both together
@@ -306,7 +314,8 @@ reset_absent rows token what none =
     let left : changes_after_reset what empty ≡ empty = reset_nothing what empty (λ q d. get-empty byte_order q) in
     sym (with_same rows token) ∙ ap (with_changes (tokens_of rows) token) (bare ∙ sym left ∙ ap (changes_after_reset what) (sym bare))
 
-pub with_change_is : (m : TokenMap) (token : ℕ) (path : List ℕ) (change : Change) → with_change m token path change ≡ with_changes m token (insert (changes_under m token) path change)
+pub with_change_is : (m : TokenMap) (token : ℕ) (path : List ℕ) (change : Change)
+    → with_change m token path change ≡ with_changes m token (insert (changes_under m token) path change)
 unfolding with_change
 with_change_is m token path change = refl
 

@@ -1,11 +1,13 @@
 -- What stands under the tokens of a map, after changes of it.
-use Rattle.std.proofs.Common.{◌≡◌, ℕ, zero, suc, ◌<◌, Bool, true, false, cond, ◌||◌, List, [], ◌∷◌, ◌++◌, length, take, get_or, Some, None, Option, refl, sym, ap, subst, ◌∙◌, arith}
+use Rattle.std.proofs.Common.{◌≡◌, ℕ, zero, suc, ◌<◌, Bool, true, false, cond, ◌||◌, List, [], ◌∷◌, ◌++◌, length, take, get_or, Some, None, Option, refl, sym}
+use Rattle.std.proofs.Common.{ap, subst, ◌∙◌, arith}
 use Rattle.std.specs.Bool.{nat_eq, ◌==◌}
 use Rattle.std.specs.List.{AllByRecursion, IsDistinct}
 use Rattle.std.specs.Option.{unwrap_or, is_some}
 use Rattle.std.specs.BTreeSet.{BTreeSet, btree_set_len, IsFromIterResult}
 use Rattle.std.specs.Cmp.{nat_cmp_total, nat_eq_equiv, unsigned_tied, eq_by_cmp_equiv}
-use Rattle.std.specs.FinMap.{get, len, insert, remove, empty, contains_key, get-insert, get-remove, get-empty, empty_of_len, len-empty, same_map, nat_cmp-IsAntisymmetric}
+use Rattle.std.specs.FinMap.{get, len, insert, remove, empty, contains_key, get-insert, get-remove, get-empty, empty_of_len, len-empty, same_map}
+use Rattle.std.specs.FinMap.{nat_cmp-IsAntisymmetric}
 use Rattle.std.specs.Ordering.{nat_cmp}
 use Rattle.std.proofs.lemmas.Bool.{eqb-true, or_parts}
 use Rattle.std.proofs.lemmas.Map.Made.{IsDistinct-from_count, distinct_count-from_IsDistinct}
@@ -88,12 +90,14 @@ with_with m k a b = same_tokens _ _ (λ q.
     get_with (with_changes m k a) k b q ∙ ap (cond (nat_eq q k) (kept b)) (get_with m k a q)
     ∙ again (nat_eq q k) (kept a) (kept b) (get m q) ∙ sym (get_with m k b q))
 
-apart : (q k j : ℕ) → nat_eq k j ≡ false → (b : Bool) → nat_eq q k ≡ b → (x y z : Option ChangesValue) → cond (nat_eq q j) y (cond b x z) ≡ cond b x (cond (nat_eq q j) y z)
+apart : (q k j : ℕ) → nat_eq k j ≡ false → (b : Bool) → nat_eq q k ≡ b → (x y z : Option ChangesValue)
+    → cond (nat_eq q j) y (cond b x z) ≡ cond b x (cond (nat_eq q j) y z)
 apart q k j ne true e x y z = ap (λ t. cond t y x) (ap (λ n. nat_eq n j) (eqb-true q k e) ∙ ne)
 apart q k j ne false e x y z = refl
 
 -- changes under different tokens are put in either order
-pub with_other : (m : TokenMap) (k j : ℕ) (a b : ChangesValue) → nat_eq k j ≡ false → with_changes (with_changes m k a) j b ≡ with_changes (with_changes m j b) k a
+pub with_other : (m : TokenMap) (k j : ℕ) (a b : ChangesValue) → nat_eq k j ≡ false
+    → with_changes (with_changes m k a) j b ≡ with_changes (with_changes m j b) k a
 with_other m k j a b ne = same_tokens _ _ (λ q.
     get_with (with_changes m k a) j b q ∙ ap (cond (nat_eq q j) (kept b)) (get_with m k a q)
     ∙ apart q k j ne _ refl (kept a) (kept b) (get m q)
@@ -101,7 +105,8 @@ with_other m k j a b ne = same_tokens _ _ (λ q.
 
 -- ---- what f makes of the changes under each of some tokens
 module _ (f : ChangesValue → ChangesValue) (m : TokenMap) where
-  either_token : {X : Type 0} (g : ℕ → X) (k q : ℕ) (rest : Bool) (z : X) → (b : Bool) → nat_eq k q ≡ b → cond b (g k) (cond rest (g q) z) ≡ cond (b || rest) (g q) z
+  either_token : {X : Type 0} (g : ℕ → X) (k q : ℕ) (rest : Bool) (z : X) → (b : Bool) → nat_eq k q ≡ b
+      → cond b (g k) (cond rest (g q) z) ≡ cond (b || rest) (g q) z
   either_token g k q rest z true e = ap g (eqb-true k q e)
   either_token g k q rest z false e = refl
 
@@ -127,7 +132,8 @@ module _ (f : ChangesValue → ChangesValue) (m : TokenMap) where
   under_left these k out = under_changed these k ∙ ap (λ b. cond b (f (changes_under m k)) (changes_under m k)) out
 
   -- one token more, before the others
-  pub changed_first : (these : List ℕ) (k : ℕ) → is_among these k ≡ false → with_changes (with_each these f m) k (f (changes_under (with_each these f m) k)) ≡ with_each (k ∷ these) f m
+  pub changed_first : (these : List ℕ) (k : ℕ) → is_among these k ≡ false
+      → with_changes (with_each these f m) k (f (changes_under (with_each these f m) k)) ≡ with_each (k ∷ these) f m
   unfolding with_each
   changed_first these k out = ap (λ c. with_changes (with_each these f m) k (f c)) (under_left these k out)
 
@@ -141,7 +147,8 @@ module _ (f : ChangesValue → ChangesValue) (m : TokenMap) where
       swapped false false = refl
 
   -- one token more, after the others
-  pub changed_last : (these : List ℕ) (k : ℕ) → is_among these k ≡ false → with_changes (with_each these f m) k (f (changes_under (with_each these f m) k)) ≡ with_each (these ++ k ∷ []) f m
+  pub changed_last : (these : List ℕ) (k : ℕ) → is_among these k ≡ false
+      → with_changes (with_each these f m) k (f (changes_under (with_each these f m) k)) ≡ with_each (these ++ k ∷ []) f m
   changed_last these k out = same_tokens _ _ (λ q.
       ap (λ c. get (with_changes (with_each these f m) k (f c)) q) (under_left these k out)
       ∙ get_with (with_each these f m) k (f (changes_under m k)) q
@@ -152,7 +159,8 @@ module _ (f : ChangesValue → ChangesValue) (m : TokenMap) where
       ∙ sym (get_changed (these ++ k ∷ []) q))
 
 -- functions that make the same of all changes
-pub changed_alike : (these : List ℕ) (f g : ChangesValue → ChangesValue) (m : TokenMap) → ((c : ChangesValue) → f c ≡ g c) → with_each these f m ≡ with_each these g m
+pub changed_alike : (these : List ℕ) (f g : ChangesValue → ChangesValue) (m : TokenMap) → ((c : ChangesValue) → f c ≡ g c)
+    → with_each these f m ≡ with_each these g m
 unfolding with_each
 changed_alike [] f g m h = refl
 changed_alike (k ∷ these) f g m h = λ i. with_changes (changed_alike these f g m h i) k (h (changes_under m k) i)
@@ -180,7 +188,8 @@ pub place_apart : (these : List ℕ) (i : ℕ) → AreDistinct these → i < len
 unfolding IsDistinct
 place_apart [] i h lt = absurd (omega arith)
 place_apart (x ∷ these) zero h lt = refl
-place_apart (x ∷ these) (suc i) h lt = ap (λ b. b || is_among (take i these) (get_or these i 0)) (at_place x these i h.0 (omega arith)) ∙ place_apart these i h.1 (omega arith)
+place_apart (x ∷ these) (suc i) h lt =
+    ap (λ b. b || is_among (take i these) (get_or these i 0)) (at_place x these i h.0 (omega arith)) ∙ place_apart these i h.1 (omega arith)
 
 among_not : (k : ℕ) (these : List ℕ) → is_among these k ≡ false → AllByRecursion (λ y. nat_eq k y ≡ false) these
 among_not k [] h = tt
@@ -202,7 +211,8 @@ module _ {E F : ℕ → ℕ → Bool} (alike : (a b : ℕ) → E a b ≡ F a b) 
 module _ (these : List ℕ) (set : BTreeSet ℕ) (made : IsFromIterResult nat_cmp these set) where
   pub distinct_from_len : btree_set_len set ≡ length these → AreDistinct these
   distinct_from_len e =
-      distinct_alike unsigned_tied these (IsDistinct-from_count (eq_by_cmp_equiv nat_cmp_total) these (sym (btree_set_len-from_list nat_cmp_total these set made) ∙ e))
+      distinct_alike unsigned_tied these
+      (IsDistinct-from_count (eq_by_cmp_equiv nat_cmp_total) these (sym (btree_set_len-from_list nat_cmp_total these set made) ∙ e))
 
   pub len_from_distinct : AreDistinct these → btree_set_len set ≡ length these
   len_from_distinct h =

@@ -17,7 +17,8 @@ use lake_values::entry::Change;
 impl BranchRecord {
     /// Puts a change over the staged ones. Where the tokens have room for it, it takes no memory.
     pub fn stage(&self, tokens: &mut Tokens, path: Path, change: Change) -> Result<(), NoMemory>
-        ensures staged { OnOk result (tokens.new.changes ≡ with_change tokens.old.changes self.now.staging path change) }
+        ensures staged { OnOk result
+            (tokens.new.changes ≡ with_change tokens.old.changes self.now.staging path change) }
         ensures unchanged { OnErr result (tokens.new.changes ≡ tokens.old.changes) }
         ensures room { 1 ≤ tokens.old.spare → IsOk result }
     {
@@ -39,8 +40,10 @@ impl BranchRecord {
     pub fn seal(&mut self, tokens: &Tokens, fresh: u64) -> Result<(), NoMemory>
         requires unnamed { is_among (named_tokens self.old) fresh ≡ false }
         requires unused { map.contains_key tokens.now.changes fresh ≡ false }
-        ensures branch { OnOk result (self.new ≡ record (record_after_seal self.old tokens.now.changes fresh) { spare = self.new.spare }) }
-        ensures sealed { OnOk result (sealed_changes self.new tokens.now.changes ≡ over (staged_changes self.old tokens.now.changes) (sealed_changes self.old tokens.now.changes)) }
+        ensures branch { OnOk result
+            (self.new ≡ record (record_after_seal self.old tokens.now.changes fresh) { spare = self.new.spare }) }
+        ensures sealed { OnOk result (sealed_changes self.new tokens.now.changes
+            ≡ over (staged_changes self.old tokens.now.changes) (sealed_changes self.old tokens.now.changes)) }
         ensures staged { OnOk result (staged_changes self.new tokens.now.changes ≡ map.empty) }
         ensures unchanged { OnErr result (self.new ≡ record self.old { spare = self.new.spare }) }
         ensures version { self.new.version ≡ self.old.version }
@@ -64,7 +67,8 @@ impl BranchRecord {
 
     /// Drops the changes that the reset names, staged and sealed. It needs no memory, and can't be refused.
     pub fn reset(&self, tokens: &mut Tokens, what: &ResetWhat)
-        ensures { tokens.new.changes ≡ with_each (named_tokens self.now) (changes_after_reset what.now) tokens.old.changes }
+        ensures { tokens.new.changes
+            ≡ with_each (named_tokens self.now) (changes_after_reset what.now) tokens.old.changes }
     {
         reset_all(tokens, self.sealed(), what);
         tokens.reset(self.staging(), what);

@@ -6,10 +6,10 @@ ghost use Rattle.branch_record.specs.TokenRows.{put_row, row_above, rows_left, r
 
 use crate::ordered::OrderedChanges;
 use crate::placed::PlacedCursor;
+use crate::{ChangeCursor, ChangesLeft};
 use lake_base::names::Path;
 use lake_values::cursor::is_below;
 use lake_values::entry::Change;
-use crate::{ChangeCursor, ChangesLeft};
 use std::alloc::Global;
 use std::cmp::Ordering;
 use std::marker::Model;

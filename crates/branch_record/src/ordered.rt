@@ -103,15 +103,17 @@ impl OrderedChanges {
 
 // Drops the change of one path, by a search.
 fn drop_path(rows: &mut BTreeMap<Path, Change>, path: &Path)
-    ensures { map.from_entries rows.new.entries ≡ changes_after_reset (Object path.now) (map.from_entries rows.old.entries) }
+    ensures { map.from_entries rows.new.entries
+        ≡ changes_after_reset (Object path.now) (map.from_entries rows.old.entries) }
 {
     let _change = rows.remove(path);
 }
 
-// Drops the changes of the paths that begin with a prefix. Where that is no path, or no memory is left for a search, it goes
-// over all.
+// Drops the changes of the paths that begin with a prefix. Where that is no path, or no memory is left for a search, it
+// goes over all.
 fn drop_under(alloc: Global, rows: &mut BTreeMap<Path, Change>, prefix: &Text)
-    ensures { map.from_entries rows.new.entries ≡ changes_after_reset (Prefix prefix.now) (map.from_entries rows.old.entries) }
+    ensures { map.from_entries rows.new.entries
+        ≡ changes_after_reset (Prefix prefix.now) (map.from_entries rows.old.entries) }
 {
     if drop_each(alloc, rows, prefix).is_err() {
         rows.retain(|path, _| !path.as_slice().starts_with(prefix.as_slice()));
@@ -125,8 +127,10 @@ fn drop_each(
     rows: &mut BTreeMap<Path, Change>,
     prefix: &Text,
 ) -> Result<(), NameFault>
-    ensures all { OnOk result (map.from_entries rows.new.entries ≡ changes_after_reset (Prefix prefix.now) (map.from_entries rows.old.entries)) }
-    ensures those { changes_after_reset (Prefix prefix.now) (map.from_entries rows.new.entries) ≡ changes_after_reset (Prefix prefix.now) (map.from_entries rows.old.entries) }
+    ensures all { OnOk result (map.from_entries rows.new.entries
+        ≡ changes_after_reset (Prefix prefix.now) (map.from_entries rows.old.entries)) }
+    ensures those { changes_after_reset (Prefix prefix.now) (map.from_entries rows.new.entries)
+        ≡ changes_after_reset (Prefix prefix.now) (map.from_entries rows.old.entries) }
 {
     let first = Path::read(alloc, prefix.as_slice())?;
     while let Some(path) = next_under(alloc, rows, &first)? {
@@ -141,7 +145,8 @@ fn next_under(
     rows: &BTreeMap<Path, Change>,
     prefix: &Path,
 ) -> Result<Option<Path>, NoMemory>
-    ensures { IfOk result (λ next. MatchOption next (IsNoneUnder prefix.now rows.now.entries) (IsUnder prefix.now rows.now.entries)) }
+    ensures { IfOk result
+        (λ next. MatchOption next (IsNoneUnder prefix.now rows.now.entries) (IsUnder prefix.now rows.now.entries)) }
 {
     let from = (Bound::Included(prefix), Bound::Unbounded);
     match rows.range(from).next() {

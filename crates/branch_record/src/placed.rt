@@ -58,7 +58,8 @@ impl<'a> PlacedCursor<'a> {
 
     // The change that comes next, with its path. It stays.
     pub(crate) fn first(&self) -> Option<(&'a Path, &'a Change)>
-        ensures first { MatchOption result (self.now ≡ []) (λ row. self.now ≡ (row.0.now, row.1.now) ∷ drop 1 self.now) }
+        ensures first { MatchOption result (self.now ≡ [])
+            (λ row. self.now ≡ (row.0.now, row.1.now) ∷ drop 1 self.now) }
         ensures ascend { HasAscendingKeys self.now }
     {
         let _ = &self.rest;

@@ -32,7 +32,13 @@ impl Model for BranchRecord {
 
     ghost Value = { BranchRecordValue };
 
-    ghost view = { λ r. record { version = r.version; head = r.head; staging = r.staging; sealed = r.sealed.items; spare = vec_capacity r.sealed - vec_len r.sealed } };
+    ghost view = { λ r. record {
+      version = r.version;
+      head = r.head;
+      staging = r.staging;
+      sealed = r.sealed.items;
+      spare = vec_capacity r.sealed - vec_len r.sealed;
+    } };
 
     ghost invariant = { λ r. AreDistinct (r.staging ∷ r.sealed.items) };
 }
@@ -41,7 +47,13 @@ impl BranchRecord {
     /// The record of these, whose tokens differ: `are_distinct` tells. It takes no memory.
     pub fn new(version: u64, head: CommitId, staging: u64, sealed: Vec<u64>) -> BranchRecord
         requires { AreDistinct (staging ∷ sealed.items) }
-        ensures { result ≡ record { version = version; head = head; staging = staging; sealed = sealed.items; spare = result.spare } }
+        ensures { result ≡ record {
+          version = version;
+          head = head;
+          staging = staging;
+          sealed = sealed.items;
+          spare = result.spare;
+        } }
     {
         BranchRecord {
             version,
@@ -53,7 +65,8 @@ impl BranchRecord {
 
     /// The record of a branch with no changes. It takes no memory.
     pub fn fresh(alloc: Global, version: u64, head: CommitId, staging: u64) -> BranchRecord
-        ensures { result ≡ record { version = version; head = head; staging = staging; sealed = []; spare = result.spare } }
+        ensures { result
+            ≡ record { version = version; head = head; staging = staging; sealed = []; spare = result.spare } }
     {
         BranchRecord {
             version,
@@ -127,7 +140,11 @@ impl BranchRecord {
     // Puts a fresh token in the staging token's place, and that one first of the sealed ones.
     pub(crate) fn put_fresh(&mut self, fresh: u64) -> Result<(), NoMemory>
         requires { is_among (named_tokens self.old) fresh ≡ false }
-        ensures put { OnOk result (self.new ≡ record self.old { staging = fresh; sealed = self.old.staging ∷ self.old.sealed; spare = self.new.spare }) }
+        ensures put { OnOk result (self.new ≡ record self.old {
+          staging = fresh;
+          sealed = self.old.staging ∷ self.old.sealed;
+          spare = self.new.spare;
+        }) }
         ensures unchanged { OnErr result (self.new ≡ record self.old { spare = self.new.spare }) }
         ensures room { 1 ≤ self.old.spare → IsOk result }
     {

@@ -1,5 +1,6 @@
 //! The changes under each token.
-ghost use Rattle.std.specs.Prelude.{◌≡◌, ◌≤◌, ◌&&◌, Some, None, IsOk, OnOk, OnErr, IfErr, IsSome, option_copied, option_map};
+ghost use Rattle.std.specs.Prelude.{◌≡◌, ◌≤◌, ◌&&◌, Some, None, IsOk, OnOk, OnErr, IfErr, IsSome, option_copied};
+ghost use Rattle.std.specs.Prelude.{option_map};
 ghost use Rattle.std.specs.Ordering.{nat_cmp};
 ghost use Rattle.std.specs.BTreeMap.{get as tree_get};
 ghost use Rattle.std.specs.Map.Iter.{deref_pair};
@@ -37,7 +38,8 @@ impl Model for Tokens {
 
     ghost coded = { tokens_code };
 
-    ghost view = { λ t. record { changes = with_waiting t.waiting (tokens_of t.changes.entries); spare = room t.waiting } };
+    ghost view = { λ t.
+        record { changes = with_waiting t.waiting (tokens_of t.changes.entries); spare = room t.waiting } };
 }
 
 impl Tokens {
@@ -115,7 +117,8 @@ impl Tokens {
 
     // Drops the changes under a token that the reset names.
     pub(crate) fn reset(&mut self, token: u64, what: &ResetWhat)
-        ensures { self.new.changes ≡ with_changes self.old.changes token (changes_after_reset what.now (changes_under self.old.changes token)) }
+        ensures { self.new.changes ≡ with_changes self.old.changes token
+            (changes_after_reset what.now (changes_under self.old.changes token)) }
     {
         reset_waiting(&mut self.waiting, token, what);
         reset_in_place(self.alloc, &mut self.changes, token, what);
@@ -180,7 +183,8 @@ fn put_in_place(
     path: Path,
     change: Change,
 ) -> Result<(), (Path, Change)>
-    ensures put { OnOk result (tokens_of changes.new.entries ≡ with_change (tokens_of changes.old.entries) token path change) }
+    ensures put { OnOk result
+        (tokens_of changes.new.entries ≡ with_change (tokens_of changes.old.entries) token path change) }
     ensures unchanged { OnErr result (tokens_of changes.new.entries ≡ tokens_of changes.old.entries) }
     ensures back { IfErr result (λ row. row ≡ (path, change)) }
 {
@@ -216,7 +220,8 @@ fn reset_in_place(
     token: u64,
     what: &ResetWhat,
 )
-    ensures { tokens_of changes.new.entries ≡ with_changes (tokens_of changes.old.entries) token (changes_after_reset what.now (changes_under (tokens_of changes.old.entries) token)) }
+    ensures { tokens_of changes.new.entries ≡ with_changes (tokens_of changes.old.entries) token
+        (changes_after_reset what.now (changes_under (tokens_of changes.old.entries) token)) }
 {
     let Some(under) = changes.get_mut(&token) else {
         return;

@@ -5,7 +5,8 @@ use Rattle.std.specs.Str.{bytes_eq}
 use Rattle.std.specs.Cmp.{tied_itself}
 use Rattle.std.specs.Cmp.Lexicographic.{texts_ties, same_text}
 use Rattle.std.proofs.lemmas.Cmp.{nat_list_cmp_total}
-use Rattle.std.specs.FinMap.{get, contains_key, insert, remove, empty, same_map, slice_cmp-IsAntisymmetric, nat_cmp-IsAntisymmetric, get-empty, get-insert, get-remove}
+use Rattle.std.specs.FinMap.{get, contains_key, insert, remove, empty, same_map, slice_cmp-IsAntisymmetric, nat_cmp-IsAntisymmetric, get-empty, get-insert}
+use Rattle.std.specs.FinMap.{get-remove}
 use Rattle.lake_base.specs.Maps.{byte_order, ByteMap}
 
 same_bytes : (k : List ℕ) → bytes_eq k k ≡ true

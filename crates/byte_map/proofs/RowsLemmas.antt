@@ -11,7 +11,8 @@ use Rattle.std.specs.Cmp.Lexicographic.{texts_ties, same_text}
 use Rattle.std.specs.BTreeMap.{BTreeMap, is_at, UpdatesBy}
 use Rattle.std.specs.BTreeMap.Range.{entries_between}
 use Rattle.std.specs.declared.ops.Bound.TheVariants.{Excluded, Unbounded}
-use Rattle.std.specs.FinMap.{find, get, entries, from_entries, insert, remove, len, len-entries, get-from_entries, get-from_sorted, entries-from_sorted, from_sorted}
+use Rattle.std.specs.FinMap.{find, get, entries, from_entries, insert, remove, len, len-entries, get-from_entries, get-from_sorted, entries-from_sorted}
+use Rattle.std.specs.FinMap.{from_sorted}
 use Rattle.std.proofs.lemmas.Cmp.{nat_list_cmp_total}
 use Rattle.lake_base.specs.Maps.{byte_order, ByteMap}
 use Rattle.lake_base.proofs.MapsLemmas.{same_key, tied, ascend_from}
@@ -46,7 +47,8 @@ module _ {K X : Type 0} (cmp : K → K → Ordering) (bytes : K → List ℕ) (l
   ascend [] h = h
   ascend (row ∷ rows) h = (below rows h.0, ascend rows h.1)
     where
-      below : (others : List (K × X)) → AllByRecursion (λ y. cmp row.0 y ≡ Less) (keys_of others) → AllByRecursion (λ y. byte_order (bytes row.0) y ≡ Less) (keys_of (rows_by_bytes bytes others))
+      below : (others : List (K × X)) → AllByRecursion (λ y. cmp row.0 y ≡ Less) (keys_of others)
+          → AllByRecursion (λ y. byte_order (bytes row.0) y ≡ Less) (keys_of (rows_by_bytes bytes others))
       below [] h = h
       below (other ∷ others) h = (sym (law row.0 other.0) ∙ h.0, below others h.1)
 
@@ -54,7 +56,8 @@ module _ {K X : Type 0} (cmp : K → K → Ordering) (bytes : K → List ℕ) (l
   entries_seen rows h =
       let all = rows_by_bytes bytes rows in
       let sorted = ascend_from all (ascend rows h) in
-      ap entries (same_maps (from_entries all) (from_sorted all) (λ q. get-from_entries nat_list_cmp_total all q ∙ sym (get-from_sorted byte_order all q sorted)))
+      ap entries
+      (same_maps (from_entries all) (from_sorted all) (λ q. get-from_entries nat_list_cmp_total all q ∙ sym (get-from_sorted byte_order all q sorted)))
       ∙ entries-from_sorted byte_order all sorted
 
   -- rows in order are the map's entries
@@ -90,18 +93,21 @@ module _ {K X : Type 0} (cmp : K → K → Ordering) (bytes : K → List ℕ) (l
   pub seen_remove : (m n : BTreeMap K X) (k : K) → UpdatesBy cmp (cmp k) m n None → seen n.entries ≡ remove (seen m.entries) (bytes k)
   seen_remove m n k updates = same_maps _ _ (λ q. updated_at m n k None updates q _ refl ∙ sym (get_remove (seen m.entries) (bytes k) q))
 
-  one_above : (row : K × X) (rows : List (K × X)) (b : Bool) → rows_by_bytes bytes (cond (b && true) (row ∷ rows) rows) ≡ cond b ((bytes row.0, row.1) ∷ rows_by_bytes bytes rows) (rows_by_bytes bytes rows)
+  one_above : (row : K × X) (rows : List (K × X)) (b : Bool)
+      → rows_by_bytes bytes (cond (b && true) (row ∷ rows) rows) ≡ cond b ((bytes row.0, row.1) ∷ rows_by_bytes bytes rows) (rows_by_bytes bytes rows)
   one_above row rows true = refl
   one_above row rows false = refl
 
-  rows_above : (rows : List (K × X)) (k : K) → rows_by_bytes bytes (entries_between cmp (Excluded k) Unbounded rows) ≡ filter (λ row. is_lt (byte_order (bytes k) row.0)) (rows_by_bytes bytes rows)
+  rows_above : (rows : List (K × X)) (k : K)
+      → rows_by_bytes bytes (entries_between cmp (Excluded k) Unbounded rows) ≡ filter (λ row. is_lt (byte_order (bytes k) row.0)) (rows_by_bytes bytes rows)
   rows_above [] k = refl
   rows_above (row ∷ rows) k =
       one_above row (entries_between cmp (Excluded k) Unbounded rows) (is_lt (cmp k row.0))
       ∙ (λ i. cond (is_lt (law k row.0 i)) ((bytes row.0, row.1) ∷ rows_above rows k i) (rows_above rows k i))
 
   -- the rows above a key are the map's entries above its bytes
-  pub above_seen : (rows given : List (K × X)) (k : K) → IsStrictlySortedBy cmp (keys_of rows) → given ≡ entries_between cmp (Excluded k) Unbounded rows → rows_by_bytes bytes given ≡ entries_above (bytes k) (seen rows)
+  pub above_seen : (rows given : List (K × X)) (k : K) → IsStrictlySortedBy cmp (keys_of rows) → given ≡ entries_between cmp (Excluded k) Unbounded rows
+      → rows_by_bytes bytes given ≡ entries_above (bytes k) (seen rows)
   above_seen rows given k h e =
       ap (rows_by_bytes bytes) e ∙ rows_above rows k ∙ ap (filter (λ row. is_lt (byte_order (bytes k) row.0))) (sym (entries_seen rows h))
 

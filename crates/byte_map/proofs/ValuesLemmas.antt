@@ -5,7 +5,8 @@ use Rattle.std.specs.Option.{option_map, option_and_then}
 use Rattle.std.specs.List.{cons_option}
 use Rattle.std.specs.Ordering.{eq_by_cmp, is_lt}
 use Rattle.std.specs.Str.{bytes_eq}
-use Rattle.std.specs.FinMap.{find, get, len, entries, entries_sorted, contains_key, insert, remove, empty, from_sorted, get-entries, len-entries, entries-from_sorted}
+use Rattle.std.specs.FinMap.{find, get, len, entries, entries_sorted, contains_key, insert, remove, empty, from_sorted, get-entries, len-entries}
+use Rattle.std.specs.FinMap.{entries-from_sorted}
 use Rattle.std.specs.FinMap.Entries.{below_all}
 use Rattle.lake_base.specs.Maps.{byte_order, ByteMap, HasAscendingKeys}
 use Rattle.lake_base.proofs.MapsLemmas.{first, second, both, head_below, tail_ascends, same_key, tied, find_none}
@@ -32,7 +33,8 @@ module _ {X Y : Type 0} (f : X → Option Y) where
   ascend_some [] h = h
   ascend_some (row ∷ rows) h = ascend_one row.0 (f row.1) rows (below_some row.0 rows (head_below row rows h)) (ascend_some rows (tail_ascends row rows h))
 
-  found_one : (q : List ℕ) (row : List ℕ × X) (rows : List (List ℕ × X)) → HasAscendingKeys (row ∷ rows) → find byte_order q (some_rows f rows) ≡ option_and_then f (find byte_order q rows)
+  found_one : (q : List ℕ) (row : List ℕ × X) (rows : List (List ℕ × X)) → HasAscendingKeys (row ∷ rows)
+      → find byte_order q (some_rows f rows) ≡ option_and_then f (find byte_order q rows)
       → (o : Option Y) → f row.1 ≡ o → (b : Bool) → eq_by_cmp byte_order q row.0 ≡ b
       → find byte_order q (cons_option (option_map (λ y. (row.0, y)) o) (some_rows f rows)) ≡ option_and_then f (cond b (Some row.1) (find byte_order q rows))
   found_one q row rows h rest None e true t =
@@ -42,7 +44,8 @@ module _ {X Y : Type 0} (f : X → Option Y) where
   found_one q row rows h rest (Some y) e true t = ap (λ b. cond b (Some y) (find byte_order q (some_rows f rows))) t ∙ sym e
   found_one q row rows h rest (Some y) e false t = ap (λ b. cond b (Some y) (find byte_order q (some_rows f rows))) t ∙ rest
 
-  find_some : (q : List ℕ) (rows : List (List ℕ × X)) → HasAscendingKeys rows → find byte_order q (some_rows f rows) ≡ option_and_then f (find byte_order q rows)
+  find_some : (q : List ℕ) (rows : List (List ℕ × X)) → HasAscendingKeys rows
+      → find byte_order q (some_rows f rows) ≡ option_and_then f (find byte_order q rows)
   find_some q [] h = refl
   find_some q (row ∷ rows) h = found_one q row rows h (find_some q rows (tail_ascends row rows h)) (f row.1) refl (eq_by_cmp byte_order q row.0) refl
 

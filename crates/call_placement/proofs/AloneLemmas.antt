@@ -6,7 +6,8 @@ use Rattle.std.proofs.lemmas.List.{append-nil, append_cancel_left}
 use Rattle.std.proofs.lemmas.List.Elements.{All-nil, All-cons, All-head, All-tail}
 use Rattle.call_placement.specs.Rules.{Caller, Rules}
 use Rattle.call_placement.specs.Points.{replay, is_own, AreOfOtherCalls, Came, made, entries_of, HavePassed}
-use Rattle.call_placement.specs.Served.{ByState, ByCause, ByLateCause, ByMemory, IsOfFault, GivesUp, OwesNothing, GivenUp, Shut, Keeps, Ends, Done, Stopped, Faulted, Broken, IsServed}
+use Rattle.call_placement.specs.Served.{ByState, ByCause, ByLateCause, ByMemory, IsOfFault, GivesUp, OwesNothing, GivenUp, Shut, Keeps, Ends, Done, Stopped}
+use Rattle.call_placement.specs.Served.{Faulted, Broken, IsServed}
 use Rattle.call_placement.specs.Placed.{Lawful}
 use Rattle.call_placement.specs.Alone.{Pass, given_up, EndsAlone, DoneAlone, RefusedAlone, GoesAlone, IsPlain, AreOwn}
 use Rattle.call_placement.proofs.WalkLemmas.{further, others_apart, passed_added}

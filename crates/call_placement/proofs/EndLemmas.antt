@@ -4,8 +4,10 @@ use Rattle.std.proofs.lemmas.List.{append-nil}
 use Rattle.std.proofs.lemmas.List.Elements.{All-nil}
 use Rattle.call_placement.specs.Rules.{Caller}
 use Rattle.call_placement.specs.Points.{replay, HavePassed}
-use Rattle.call_placement.specs.Served.{IsOfFault, ByState, ByCause, ByMemory, OwesNothing, GivenUp, Shut, Keeps, Ends, Stopped as IsStopped, Faulted, Broken, IsServed}
-use Rattle.call_placement.specs.Examples.{TakesNumber, PutsBody, GivesBack, ToyEntry, ToyState, Upload, ToyPoint, Takes, Looks, Puts, ToyReply, TooManyTries, Stopped, NoMemory, upload_course, toy_replay, toy_rules, TookNumber, Tried, PutBody, GaveBack, FoundStopped, Failed}
+use Rattle.call_placement.specs.Served.{IsOfFault, ByState, ByCause, ByMemory, OwesNothing, GivenUp, Shut, Keeps, Ends, Stopped as IsStopped, Faulted, Broken}
+use Rattle.call_placement.specs.Served.{IsServed}
+use Rattle.call_placement.specs.Examples.{TakesNumber, PutsBody, GivesBack, ToyEntry, ToyState, Upload, ToyPoint, Takes, Looks, Puts, ToyReply, TooManyTries}
+use Rattle.call_placement.specs.Examples.{Stopped, NoMemory, upload_course, toy_replay, toy_rules, TookNumber, Tried, PutBody, GaveBack, FoundStopped, Failed}
 use Rattle.call_placement.proofs.WalkLemmas.{nothing_came, one_point_more}
 use Rattle.call_placement.proofs.ExampleLemmas.{same_replay, tried_came, looked, too_many, taken_passed}
 

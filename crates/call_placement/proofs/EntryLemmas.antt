@@ -7,7 +7,8 @@ use Rattle.std.proofs.lemmas.List.Elements.{All-nil, All-cons, All-append}
 use Rattle.call_placement.specs.Rules.{Caller, Rules}
 use Rattle.call_placement.specs.Points.{made, entries_of}
 use Rattle.call_placement.specs.Sessions.{Item}
-use Rattle.call_placement.specs.Placed.{own_entries, StandAt, IsSettled, IsDecided, ByCourse, ByRefusal, ByException, ByLateException, ByMemory, ByFault, IsPlaced, IsOneMore, LacksLast, TellsDone, TellsFault}
+use Rattle.call_placement.specs.Placed.{own_entries, StandAt, IsSettled, IsDecided, ByCourse, ByRefusal, ByException, ByLateException, ByMemory, ByFault}
+use Rattle.call_placement.specs.Placed.{IsPlaced, IsOneMore, LacksLast, TellsDone, TellsFault}
 use Rattle.call_placement.proofs.WalkLemmas.{entries_append}
 
 clash : (b : Bool) → b ≡ true → b ≡ false → ⊥

@@ -1,5 +1,6 @@
 -- The toy's uploads and its session.
-use Rattle.std.proofs.Common.{◌≡◌, ℕ, zero, suc, ◌+◌, ◌≤◌, List, [], ◌∷◌, ◌++◌, length, take, drop, take-take, take-append-drop, Bool, true, false, refl, ap, sym, ◌∙◌, arith, subst}
+use Rattle.std.proofs.Common.{◌≡◌, ℕ, zero, suc, ◌+◌, ◌≤◌, List, [], ◌∷◌, ◌++◌, length, take, drop, take-take, take-append-drop, Bool, true, false, refl, ap}
+use Rattle.std.proofs.Common.{sym, ◌∙◌, arith, subst}
 use Rattle.std.specs.Prelude.{max}
 use mathlib.Core.Logic.{inl}
 use Rattle.std.proofs.lemmas.List.{append-nil}
@@ -9,7 +10,9 @@ use Rattle.call_placement.specs.Points.{AreOfOtherSeats, replay, Came, HavePasse
 use Rattle.call_placement.specs.Served.{ByCause, GivenUp, Done, Stopped as IsStopped, IsServed}
 use Rattle.call_placement.specs.Sessions.{caller, AddsOnly, AreServed}
 use Rattle.call_placement.specs.Placed.{ArePlaced, Lawful}
-use Rattle.call_placement.specs.Examples.{toy_excepts, ToyOperation, TakesNumber, PutsBody, GivesBack, Seals, ToyEntry, ToyState, toy_change, toy_after, Upload, Takes, Looks, Puts, Stored, TooManyTries, toy_replay, version_of, toy_rules, TookNumber, Tried, PutBody, GaveBack, upload_item, unreadable_item, toy_opened, own_call, other_call, toy_entry, shared_history}
+use Rattle.call_placement.specs.Examples.{toy_excepts, ToyOperation, TakesNumber, PutsBody, GivesBack, Seals, ToyEntry, ToyState, toy_change, toy_after, Upload}
+use Rattle.call_placement.specs.Examples.{Takes, Looks, Puts, Stored, TooManyTries, toy_replay, version_of, toy_rules, TookNumber, Tried, PutBody, GaveBack}
+use Rattle.call_placement.specs.Examples.{upload_item, unreadable_item, toy_opened, own_call, other_call, toy_entry, shared_history}
 use Rattle.call_placement.proofs.ServedLemmas.{one_more}
 use Rattle.call_placement.proofs.WalkLemmas.{nothing_came, came_on, further, take_front}
 use Rattle.call_placement.proofs.PlacedLemmas.{max_is, served_within}

@@ -8,10 +8,14 @@ use Rattle.std.proofs.Math.Seq.{take-append-add}
 use Rattle.std.proofs.Math.Nat.{max-le, le-max_right}
 use Rattle.call_placement.specs.Rules.{Caller, Rules}
 use Rattle.call_placement.specs.Points.{is_own, AreOfOtherCalls, Came, made, entries_of}
-use Rattle.call_placement.specs.Served.{Hinders, ByState, ByCause, ByLateCause, ByMemory, IsOfFault, GivesUp, OwesNothing, GivenUp, Shut, Keeps, Ends, Done, Stopped, Faulted, Broken, IsServed}
+use Rattle.call_placement.specs.Served.{Hinders, ByState, ByCause, ByLateCause, ByMemory, IsOfFault, GivesUp, OwesNothing, GivenUp, Shut, Keeps, Ends, Done}
+use Rattle.call_placement.specs.Served.{Stopped, Faulted, Broken, IsServed}
 use Rattle.call_placement.specs.Sessions.{Item}
-use Rattle.call_placement.specs.Placed.{state_at, own_entries, StandAt, StandInOrder, IsSettled, IsTried, IsDecided, ByCourse, ByRefusal, ByException, ByLateException, ByFault, ByMemory as ByWant, IsPlaced, Lawful}
-use Rattle.call_placement.proofs.WalkLemmas.{came_on, length_of, length_front, further, take_front, drop_front, filter_none, shut_on, state_front, stand_front, none_of_others, accepted_own, faulted_own, one_own, made_own, entries_append, Added, added_both, came_made, came_added, passed_added, passed_order, order_from, order_more}
+use Rattle.call_placement.specs.Placed.{state_at, own_entries, StandAt, StandInOrder, IsSettled, IsTried, IsDecided, ByCourse, ByRefusal, ByException}
+use Rattle.call_placement.specs.Placed.{ByLateException, ByFault, ByMemory as ByWant, IsPlaced, Lawful}
+use Rattle.call_placement.proofs.WalkLemmas.{came_on, length_of, length_front, further, take_front, drop_front, filter_none, shut_on, state_front, stand_front}
+use Rattle.call_placement.proofs.WalkLemmas.{none_of_others, accepted_own, faulted_own, one_own, made_own, entries_append, Added, added_both, came_made}
+use Rattle.call_placement.proofs.WalkLemmas.{came_added, passed_added, passed_order, order_from, order_more}
 
 pub max_is : (a b : ℕ) → a ≤ b → max a b ≡ b
 max_is a b le = let up : max a b ≤ b = max-le le (omega arith) in omega (arith, up, le-max_right a b)

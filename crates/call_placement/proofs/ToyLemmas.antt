@@ -4,7 +4,8 @@ use Rattle.std.specs.Prelude.{◌⊎◌, None}
 use mathlib.Core.Logic.{inl, inr}
 use Rattle.call_placement.specs.Alone.{IsDetermined}
 use Rattle.call_placement.specs.Placed.{TellsDone, TellsFault}
-use Rattle.call_placement.specs.Examples.{ToyState, ToyRequest, ToyPoint, Takes, Looks, Puts, ToyReply, Stopped, upload_course, toy_makes, toy_passes, toy_refuses, toy_done, toy_rules}
+use Rattle.call_placement.specs.Examples.{ToyState, ToyRequest, ToyPoint, Takes, Looks, Puts, ToyReply, Stopped, upload_course, toy_makes, toy_passes}
+use Rattle.call_placement.specs.Examples.{toy_refuses, toy_done, toy_rules}
 
 -- where a point stands in the course of a number
 abbrev At : ℕ → List ToyPoint → ToyPoint → Type 0

@@ -9,7 +9,8 @@ use Rattle.call_placement.specs.Points.{entries_of}
 use Rattle.call_placement.specs.Served.{IsServed}
 use Rattle.call_placement.specs.Sessions.{Item}
 use Rattle.call_placement.specs.Placed.{own_entries, IsPlaced, IsOneMore, LacksLast}
-use Rattle.call_placement.specs.Examples.{ToyOperation, TakesNumber, PutsBody, GivesBack, ToyEntry, ToyState, ToyRequest, Upload, ToyPoint, Takes, Looks, ToyReply, TooManyTries, NoMemory, upload_course, toy_rules, upload_item, toy_entry}
+use Rattle.call_placement.specs.Examples.{ToyOperation, TakesNumber, PutsBody, GivesBack, ToyEntry, ToyState, ToyRequest, Upload, ToyPoint, Takes, Looks}
+use Rattle.call_placement.specs.Examples.{ToyReply, TooManyTries, NoMemory, upload_course, toy_rules, upload_item, toy_entry}
 use Rattle.call_placement.proofs.PlacedLemmas.{placed}
 use Rattle.call_placement.proofs.EntryLemmas.{one_more, refused_lacks}
 use Rattle.call_placement.proofs.ToyLemmas.{tells_done}

@@ -50,7 +50,8 @@ pub fn law_of_one_more<P: Placing>()
 
 /// Calls that were served one after the other are placed in the whole of what their seat has seen: by positions in it,
 /// and by each call's entries, sought behind what the seat had seen before the first. Their seat made no entries but of
-/// these calls, and the last edge isn't past the end. A session's calls are numbered from 1, a flow's one call as it is.
+/// these calls, and the last edge isn't past the end. A session's calls are numbered from 1, a flow's one call as it
+/// is.
 pub fn law_of_placement<P: Placing>()
     ensures placed { Lawful P.rules → (opened : P.State) (seat number last : ℕ) (start after : List P.Entry)
         (items : List (Item P.Request P.Met P.Reply))

@@ -1,5 +1,5 @@
-//! The toy as an instance of `Placing`, by which a law of all rules is had of the toy's. No value of these types is made:
-//! each stands for the values that clauses see.
+//! The toy as an instance of `Placing`, by which a law of all rules is had of the toy's. No value of these types is
+//! made: each stands for the values that clauses see.
 ghost use Rattle.std.specs.Prelude.{ℕ, List, length};
 ghost use Rattle.call_placement.specs.Sessions.{Item, AreServed};
 ghost use Rattle.call_placement.specs.Placed.{ArePlaced};

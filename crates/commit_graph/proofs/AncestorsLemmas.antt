@@ -14,10 +14,12 @@ use Rattle.std.specs.Prelude.{◌==◌}
 use Rattle.std.specs.declared.cmp.Ordering.{Ordering}
 use Rattle.std.specs.declared.cmp.Ordering.TheVariants.{Less, Equal, Greater}
 use Rattle.lake_base.specs.declared.digest.Digest.{Digest}
-use Rattle.lake_values.specs.Ancestry.{Graph, IsGraph, IsAncestor, Reaches, commit_of, id_order, parents, generation, is_ancestor, log, log_order, comes_first, ancestors_in_order}
+use Rattle.lake_values.specs.Ancestry.{Graph, IsGraph, IsAncestor, Reaches, commit_of, id_order, parents, generation, is_ancestor, log, log_order, comes_first}
+use Rattle.lake_values.specs.Ancestry.{ancestors_in_order}
 use Rattle.lake_values.proofs.AncestryLemmas.{reached_lesser, parent_lesser, ancestor_from, ancestor_to}
 use Rattle.lake_values.proofs.AncestryOrderLemmas.{log_total, log_same, log_to, log_ascends, not_before_itself}
-use Rattle.lake_values.proofs.OrderLemmas.{Contains-first, Contains-later, Contains-nothing, first_or_later, Contains-filter, Contains-from_filter, any_from, any_to, not_before_first, same_place, same_ascending}
+use Rattle.lake_values.proofs.OrderLemmas.{Contains-first, Contains-later, Contains-nothing, first_or_later, Contains-filter, Contains-from_filter, any_from}
+use Rattle.lake_values.proofs.OrderLemmas.{any_to, not_before_first, same_place, same_ascending}
 use Rattle.commit_graph.specs.Fronts.{Place, place_of, is_left, ancestors_left, IsPlace, IsFront, PutsIn}
 
 -- places in the order of the log
@@ -45,7 +47,8 @@ pub each_of : {X : Type 0} (P : X → Type 0) (xs : List X) → ((x : X) → Con
 each_of P [] h = tt
 each_of P (x ∷ xs) h = (h x (Contains-first x xs), each_of P xs (λ y within. h y (Contains-later x y xs within)))
 
-ascends_more : {K : Type 0} (R : K → K → Ordering) (x : K) (xs : List K) → ((y : K) → Contains xs y → R x y ≡ Less) → IsStrictlySortedBy R xs → IsStrictlySortedBy R (x ∷ xs)
+ascends_more : {K : Type 0} (R : K → K → Ordering) (x : K) (xs : List K) → ((y : K) → Contains xs y → R x y ≡ Less) → IsStrictlySortedBy R xs
+    → IsStrictlySortedBy R (x ∷ xs)
 unfolding IsStrictlySortedBy
 ascends_more R x xs below ascend = (each_of (λ y. R x y ≡ Less) xs below, ascend)
 
@@ -93,17 +96,20 @@ module _ (g : Graph) (graph : IsGraph g) where
 
 -- ---- what is left
 
-left_from : (g : Graph) → IsGraph g → (front : List Place) (z : Digest) → Contains (ancestors_left g front) z → (place : Place) × Contains front place × IsAncestor g z place.1
+left_from : (g : Graph) → IsGraph g → (front : List Place) (z : Digest) → Contains (ancestors_left g front) z
+    → (place : Place) × Contains front place × IsAncestor g z place.1
 unfolding ancestors_left
 left_from g graph front z within =
     let passes = (Contains-from_filter (is_left g front) (log g) z within).1 in
     let some = any_from (λ (place : Place). is_ancestor g z place.1) front passes in
     (some.0, some.1, ancestor_from g graph z some.0.1 some.2)
 
-left_to : (g : Graph) → IsGraph g → (front : List Place) (place : Place) (z : Digest) → Contains front place → IsAncestor g z place.1 → Contains (ancestors_left g front) z
+left_to : (g : Graph) → IsGraph g → (front : List Place) (place : Place) (z : Digest) → Contains front place → IsAncestor g z place.1
+    → Contains (ancestors_left g front) z
 unfolding ancestors_left
 left_to g graph front place z within a =
-    Contains-filter (is_left g front) (log g) z (log_to g z a.0) (any_to (λ (place : Place). is_ancestor g z place.1) front place within (ancestor_to g graph z place.1 a))
+    Contains-filter (is_left g front) (log g) z (log_to g z a.0)
+    (any_to (λ (place : Place). is_ancestor g z place.1) front place within (ancestor_to g graph z place.1 a))
 
 left_ascends : (g : Graph) (front : List Place) → IsStrictlySortedBy (log_order g) (ancestors_left g front)
 unfolding ancestors_left
@@ -133,7 +139,8 @@ first_left g front place h within least =
     head_is (log_total g) (log_same g) (ancestors_left g front) place.1 (left_ascends g front)
     (left_to g h.due front place place.1 within (itself g place.1 (h.places place within).there)) after
   where
-    by : (other : Digest) (z : Digest) → IsAncestor g z other → (o : Ordering) → log_order g place.1 other ≡ o → is_gt o ≡ false → comes_first g z place.1 ≡ false
+    by : (other : Digest) (z : Digest) → IsAncestor g z other → (o : Ordering) → log_order g place.1 other ≡ o → is_gt o ≡ false
+        → comes_first g z place.1 ≡ false
     by other z a Less e low = not_before g place.1 z (before_ancestors g h.due place.1 other z e a)
     by other z a Equal e low = none_before g h.due place.1 z (subst (IsAncestor g z) (sym (log_same g place.1 other e)) a)
     by other z a Greater e low = absurd cc
@@ -164,7 +171,8 @@ passed g place rest new h above puts =
         let some = left_from g h.due new z has in
         elim (puts.only some.0 some.1) [
           | inl old ↦ before_ancestors g h.due place.1 some.0.1 z (before some.0 old) some.2
-          | inr put ↦ before_ancestors g h.due place.1 some.0.1 z (lesser_after g place.1 some.0.1 (subst (λ (p : Place). generation g p.1 < generation g place.1) (sym put.2) (parent_lesser g h.due place.1 put.0 put.1))) some.2
+          | inr put ↦ before_ancestors g h.due place.1 some.0.1 z (lesser_after g place.1 some.0.1
+              (subst (λ (p : Place). generation g p.1 < generation g place.1) (sym put.2) (parent_lesser g h.due place.1 put.0 put.1))) some.2
         ]
 
     of_parent : (z : Digest) → (parent : Digest) × Contains (parents g place.1) parent × IsAncestor g z parent → Contains (ancestors_left g new) z
@@ -190,6 +198,7 @@ passed g place rest new h above puts =
           let some = left_from g h.due new z later in
           elim (puts.only some.0 some.1) [
             | inl old ↦ left_to g h.due (place ∷ rest) some.0 z (Contains-later place some.0 rest old) some.2
-            | inr put ↦ left_to g h.due (place ∷ rest) place z here (through_parent g z place.1 put.0 put.1 (subst (λ (p : Place). IsAncestor g z p.1) put.2 some.2))
+            | inr put ↦
+                left_to g h.due (place ∷ rest) place z here (through_parent g z place.1 put.0 put.1 (subst (λ (p : Place). IsAncestor g z p.1) put.2 some.2))
           ]
     ]

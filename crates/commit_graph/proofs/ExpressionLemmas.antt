@@ -1,5 +1,6 @@
 -- Numbers and moves of expressions: what is scanned is the longest, and nothing else could be meant.
-use Rattle.std.proofs.Common.{◌≡◌, get_or, take, drop, drop-cons, add-one, ℕ, zero, suc, ◌-◌, ◌+◌, ◌*◌, ◌^◌, ◌<◌, ◌≤◌, Bool, true, false, cond, eqb, ltb, ◌&&◌, List, [], ◌∷◌, ◌++◌, length, Option, Some, None, refl, sym, ap, subst, ◌∙◌, append_assoc, inl, inr, arith}
+use Rattle.std.proofs.Common.{◌≡◌, get_or, take, drop, drop-cons, add-one, ℕ, zero, suc, ◌-◌, ◌+◌, ◌*◌, ◌^◌, ◌<◌, ◌≤◌, Bool, true, false, cond, eqb, ltb, ◌&&◌}
+use Rattle.std.proofs.Common.{List, [], ◌∷◌, ◌++◌, length, Option, Some, None, refl, sym, ap, subst, ◌∙◌, append_assoc, inl, inr, arith}
 use Rattle.std.proofs.lemmas.Bool.{cases_Bool, eqb-true, ltb-true, lt-ltb}
 use Rattle.std.proofs.lemmas.Bool.Decides.{nat_tests}
 use Rattle.std.proofs.lemmas.List.{append-nil, length-append, length-drop, drop_all, take_all}
@@ -35,7 +36,15 @@ pair n rest = (n, rest)
 number_taken : (more before : ℕ) (bytes : List ℕ) → IsTaken more before bytes (number_from more before bytes).0 (number_from more before bytes).1
 unfolding number_from
 number_taken zero before bytes = record { digits = []; parts = refl; each = tt; few = omega arith; value = refl; wide = λ h. h; local = λ y like. refl }
-number_taken (suc more) before [] = record { digits = []; parts = refl; each = tt; few = omega arith; value = refl; wide = λ h. h; local = λ y like. ap (number_from (suc more) before) like ∙ ap (pair before) (sym like) }
+number_taken (suc more) before [] = record {
+  digits = [];
+  parts = refl;
+  each = tt;
+  few = omega arith;
+  value = refl;
+  wide = λ h. h;
+  local = λ y like. ap (number_from (suc more) before) like ∙ ap (pair before) (sym like);
+}
 number_taken (suc more) before (byte ∷ bytes) =
     elim (cases_Bool (takes_digit before byte)) [
       | inl so ↦
@@ -43,7 +52,8 @@ number_taken (suc more) before (byte ∷ bytes) =
           let t = number_taken more next bytes in
           let digit = both_true (is_digit byte) (ltb next 4294967296) so in
           let small : next < 2 ^ 32 = ltb-true _ _ digit.1 in
-          subst (λ (x : ℕ × List ℕ). IsTaken (suc more) before (byte ∷ bytes) x.0 x.1) (sym (ap (λ b. cond b (number_from more next bytes) (before, byte ∷ bytes)) so)) (record {
+          subst (λ (x : ℕ × List ℕ). IsTaken (suc more) before (byte ∷ bytes) x.0 x.1)
+          (sym (ap (λ b. cond b (number_from more next bytes) (before, byte ∷ bytes)) so)) (record {
             digits = byte ∷ t.digits;
             parts = ap (λ l. byte ∷ l) t.parts;
             each = (digit.0, t.each);
@@ -54,14 +64,16 @@ number_taken (suc more) before (byte ∷ bytes) =
           })
       | inr nay ↦
           let next = before * 10 + (byte - 48) in
-          subst (λ (x : ℕ × List ℕ). IsTaken (suc more) before (byte ∷ bytes) x.0 x.1) (sym (ap (λ b. cond b (number_from more next bytes) (before, byte ∷ bytes)) nay)) (record {
+          subst (λ (x : ℕ × List ℕ). IsTaken (suc more) before (byte ∷ bytes) x.0 x.1)
+          (sym (ap (λ b. cond b (number_from more next bytes) (before, byte ∷ bytes)) nay)) (record {
             digits = [];
             parts = refl;
             each = tt;
             few = omega arith;
             value = refl;
             wide = λ h. h;
-            local = λ y like. ap (number_from (suc more) before) like.1 ∙ ap (λ b. cond b (number_from more next like.0) (before, byte ∷ like.0)) nay ∙ ap (pair before) (sym like.1);
+            local = λ y like. ap (number_from (suc more) before) like.1 ∙ ap (λ b. cond b (number_from more next like.0) (before, byte ∷ like.0)) nay
+                ∙ ap (pair before) (sym like.1);
           })
     ]
 
@@ -77,7 +89,8 @@ number_stops (suc more) before [] nay = refl
 number_stops (suc more) before (byte ∷ bytes) nay =
     ap (λ b. cond (b && ltb (before * 10 + (byte - 48)) 4294967296) (number_from more (before * 10 + (byte - 48)) bytes) (before, byte ∷ bytes)) nay
 
-number_whole : (more before : ℕ) (digits y : List ℕ) → AllByRecursion (λ digit. is_digit digit ≡ true) digits → length digits ≤ more → decimal before digits < 2 ^ 32 → NoDigit y
+number_whole : (more before : ℕ) (digits y : List ℕ) → AllByRecursion (λ digit. is_digit digit ≡ true) digits → length digits ≤ more
+    → decimal before digits < 2 ^ 32 → NoDigit y
     → number_from more before (digits ++ y) ≡ (decimal before digits, y)
 unfolding number_from
 number_whole more before [] y each few wide nay = number_stops more before y nay
@@ -105,7 +118,8 @@ unfolding number_from
 first_digit byte bytes so =
     let next = 0 * 10 + (byte - 48) in
     let small : ltb next 4294967296 ≡ true = lt-ltb _ _ (omega (arith, digit_small byte so)) in
-    ap (λ b. cond (b && ltb next 4294967296) (number_from 9 next bytes) (0, byte ∷ bytes)) so ∙ ap (λ b. cond b (number_from 9 next bytes) (0, byte ∷ bytes)) small
+    ap (λ b. cond (b && ltb next 4294967296) (number_from 9 next bytes) (0, byte ∷ bytes)) so
+    ∙ ap (λ b. cond b (number_from 9 next bytes) (0, byte ∷ bytes)) small
 
 pub number_read : (bytes : List ℕ) → NumberRead bytes (read_number bytes).0 (read_number bytes).1
 unfolding read_number
@@ -115,19 +129,23 @@ number_read (byte ∷ bytes) =
       | inl so ↦
           let next = 0 * 10 + (byte - 48) in
           let t = number_taken 9 next bytes in
-          let here : read_number (byte ∷ bytes) ≡ number_from 9 next bytes = ap (λ b. cond b (number_from 10 0 (byte ∷ bytes)) (1, byte ∷ bytes)) so ∙ first_digit byte bytes so in
+          let here : read_number (byte ∷ bytes) ≡ number_from 9 next bytes =
+          ap (λ b. cond b (number_from 10 0 (byte ∷ bytes)) (1, byte ∷ bytes)) so ∙ first_digit byte bytes so in
           subst (λ (x : ℕ × List ℕ). NumberRead (byte ∷ bytes) x.0 x.1) (sym here) (record {
             digits = byte ∷ t.digits;
             parts = ap (λ l. byte ∷ l) t.parts;
             spelled = record { each = (so, t.each); few = omega (arith, t.few); value = t.value; wide = t.wide (omega (arith, digit_small byte so)) };
-            local = λ y like. ap (λ b. cond b (number_from 10 0 (byte ∷ (t.digits ++ y))) (1, byte ∷ (t.digits ++ y))) so ∙ first_digit byte (t.digits ++ y) so ∙ t.local y like;
+            local = λ y like. ap (λ b. cond b (number_from 10 0 (byte ∷ (t.digits ++ y))) (1, byte ∷ (t.digits ++ y))) so ∙ first_digit byte (t.digits ++ y) so
+                ∙ t.local y like;
           })
-      | inr nay ↦ subst (λ (x : ℕ × List ℕ). NumberRead (byte ∷ bytes) x.0 x.1) (sym (ap (λ b. cond b (number_from 10 0 (byte ∷ bytes)) (1, byte ∷ bytes)) nay)) (record {
-        digits = [];
-        parts = refl;
-        spelled = refl;
-        local = λ y like. ap read_number like.1 ∙ ap (λ b. cond b (number_from 10 0 (byte ∷ like.0)) (1, byte ∷ like.0)) nay ∙ ap (pair 1) (sym like.1);
-      })
+      | inr nay ↦
+          subst (λ (x : ℕ × List ℕ). NumberRead (byte ∷ bytes) x.0 x.1)
+          (sym (ap (λ b. cond b (number_from 10 0 (byte ∷ bytes)) (1, byte ∷ bytes)) nay)) (record {
+            digits = [];
+            parts = refl;
+            spelled = refl;
+            local = λ y like. ap read_number like.1 ∙ ap (λ b. cond b (number_from 10 0 (byte ∷ like.0)) (1, byte ∷ like.0)) nay ∙ ap (pair 1) (sym like.1);
+          })
     ]
 
 -- a number that was written is the one that is read
@@ -173,7 +191,8 @@ pub heads : (a b : ℕ) (x y : List ℕ) → a ∷ x ≡ b ∷ y → (a ≡ b) �
 heads a b x y e = (cc, cc)
 
 -- one move more
-pub scanned_more : (bytes : List ℕ) (moves : List Move) (rest after : List ℕ) (one : Move) → IsScanned bytes moves rest → MoveRead rest one after → IsScanned bytes (moves ++ one ∷ []) after
+pub scanned_more : (bytes : List ℕ) (moves : List Move) (rest after : List ℕ) (one : Move) → IsScanned bytes moves rest → MoveRead rest one after
+    → IsScanned bytes (moves ++ one ∷ []) after
 scanned_more bytes moves rest after one s r =
     let d = r.number.digits in
     let here : rest ≡ (sign one ∷ d) ++ after = r.starts ∙ ap (λ l. sign one ∷ l) r.number.parts in
@@ -192,11 +211,24 @@ scanned_more bytes moves rest after one s r =
     like_rest z = subst (λ (r : List ℕ). BeginsLike r (sign one ∷ z)) (sym r.starts) (z, refl)
 
     moves_end : (moves : List Move) (front : List ℕ) → AreMoves moves front → AreMoves (moves ++ one ∷ []) (front ++ (sign one ∷ r.number.digits))
-    moves_end [] front is = (r.number.digits, [], ap (λ l. l ++ (sign one ∷ r.number.digits)) is ∙ ap (λ l. sign one ∷ l) (sym (append-nil r.number.digits)), r.number.spelled, refl)
-    moves_end (m ∷ moves) front is =
-        (is.0, is.1 ++ (sign one ∷ r.number.digits), ap (λ l. l ++ (sign one ∷ r.number.digits)) is.2 ∙ ap (λ l. sign m ∷ l) (append_assoc is.0 is.1 (sign one ∷ r.number.digits)), is.3, moves_end moves is.1 is.4)
+    moves_end [] front is = (
+      r.number.digits,
+      [],
+      ap (λ l. l ++ (sign one ∷ r.number.digits)) is ∙ ap (λ l. sign one ∷ l) (sym (append-nil r.number.digits)),
+      r.number.spelled,
+      refl,
+    )
+    moves_end (m ∷ moves) front is = (
+      is.0,
+      is.1 ++ (sign one ∷ r.number.digits),
+      ap (λ l. l ++ (sign one ∷ r.number.digits)) is.2
+          ∙ ap (λ l. sign m ∷ l) (append_assoc is.0 is.1 (sign one ∷ r.number.digits)),
+      is.3,
+      moves_end moves is.1 is.4,
+    )
 
-    next : (later : List Move) (y : List ℕ) → BeginsLike after y → AreMoves later (sign one ∷ (r.number.digits ++ y)) → (more : List Move) × (later ≡ one ∷ more) × AreMoves more y
+    next : (later : List Move) (y : List ℕ) → BeginsLike after y → AreMoves later (sign one ∷ (r.number.digits ++ y))
+        → (more : List Move) × (later ≡ one ∷ more) × AreMoves more y
     next [] y like is = absurd cc
     next (m ∷ later) y like is =
         let h = heads (sign one) (sign m) (r.number.digits ++ y) (is.0 ++ is.1) is.2 in
@@ -241,13 +273,15 @@ module _ (bytes : List ℕ) (i : ℕ) where
       let none : drop i bytes ≡ [] = drop_all i bytes past in
       sym (number_stops (10 - i) before [] tt) ∙ sym (ap (number_from (10 - i) before) none) ∙ so_far
 
-  pub tail_step : (all : ℕ) → i < length bytes → i < 254 → continues_ref (get_or bytes i 0) ≡ true → i + tail_len (254 - i) (drop i bytes) ≡ all → (i + 1) + tail_len (254 - (i + 1)) (drop (i + 1) bytes) ≡ all
+  pub tail_step : (all : ℕ) → i < length bytes → i < 254 → continues_ref (get_or bytes i 0) ≡ true → i + tail_len (254 - i) (drop i bytes) ≡ all
+      → (i + 1) + tail_len (254 - (i + 1)) (drop (i + 1) bytes) ≡ all
   unfolding tail_len
   tail_step all lt few so so_far =
       let k : 254 - i ≡ suc (254 - (i + 1)) = omega arith in
       let byte = get_or bytes i 0 in
       let here : tail_len (254 - i) (drop i bytes) ≡ suc (tail_len (254 - (i + 1)) (drop (i + 1) bytes)) =
-      ap (tail_len (254 - i)) (front_is lt) ∙ ap (λ m. tail_len m (byte ∷ drop (i + 1) bytes)) k ∙ ap (λ b. cond b (suc (tail_len (254 - (i + 1)) (drop (i + 1) bytes))) 0) so in
+      ap (tail_len (254 - i)) (front_is lt) ∙ ap (λ m. tail_len m (byte ∷ drop (i + 1) bytes)) k
+      ∙ ap (λ b. cond b (suc (tail_len (254 - (i + 1)) (drop (i + 1) bytes))) 0) so in
       omega (arith, here, so_far)
 
   pub tail_ends : (all : ℕ) → i < length bytes → i < 254 → continues_ref (get_or bytes i 0) ≡ false → i + tail_len (254 - i) (drop i bytes) ≡ all → i ≡ all
@@ -256,7 +290,8 @@ module _ (bytes : List ℕ) (i : ℕ) where
       let k : 254 - i ≡ suc (254 - (i + 1)) = omega arith in
       let byte = get_or bytes i 0 in
       let here : tail_len (254 - i) (drop i bytes) ≡ 0 =
-      ap (tail_len (254 - i)) (front_is lt) ∙ ap (λ m. tail_len m (byte ∷ drop (i + 1) bytes)) k ∙ ap (λ b. cond b (suc (tail_len (254 - (i + 1)) (drop (i + 1) bytes))) 0) nay in
+      ap (tail_len (254 - i)) (front_is lt) ∙ ap (λ m. tail_len m (byte ∷ drop (i + 1) bytes)) k
+      ∙ ap (λ b. cond b (suc (tail_len (254 - (i + 1)) (drop (i + 1) bytes))) 0) nay in
       omega (arith, here, so_far)
 
   pub tail_full : (all : ℕ) → 254 ≤ i → i + tail_len (254 - i) (drop i bytes) ≡ all → i ≡ all
@@ -286,7 +321,8 @@ some_is : (x y : Move × List ℕ) → Some x ≡ Some y → x ≡ y
 some_is x y e = cc
 
 of_sign : (byte : ℕ) (bytes : List ℕ) (one : Move) → byte ≡ sign one → number_of one ≡ (read_number bytes).0 → MoveRead (byte ∷ bytes) one (read_number bytes).1
-of_sign byte bytes one is same = record { after = bytes; starts = ap (λ b. b ∷ bytes) is; number = subst (λ n. NumberRead bytes n (read_number bytes).1) (sym same) (number_read bytes) }
+of_sign byte bytes one is same =
+    record { after = bytes; starts = ap (λ b. b ∷ bytes) is; number = subst (λ n. NumberRead bytes n (read_number bytes).1) (sym same) (number_read bytes) }
 
 pub move_read : (bytes : List ℕ) (one : Move) (after : List ℕ) → read_move bytes ≡ Some (one, after) → MoveRead bytes one after
 unfolding read_move
@@ -295,14 +331,17 @@ move_read (byte ∷ bytes) one after e =
     let n = read_number bytes in
     elim (cases_Bool (eqb byte 126)) [
       | inl tilde ↦
-          let here = some_is (Back n.0, n.1) (one, after) (sym (ap (λ b. cond b (Some (Back n.0, n.1)) (cond (eqb byte 94) (Some (Parent n.0, n.1)) None)) tilde) ∙ e) in
-          subst (λ (x : Move × List ℕ). MoveRead (byte ∷ bytes) x.0 x.1) {x = (Back n.0, n.1)} here (of_sign byte bytes (Back n.0) (eqb-true byte 126 tilde) refl)
+          let here = some_is (Back n.0, n.1) (one, after)
+          (sym (ap (λ b. cond b (Some (Back n.0, n.1)) (cond (eqb byte 94) (Some (Parent n.0, n.1)) None)) tilde) ∙ e) in
+          subst (λ (x : Move × List ℕ). MoveRead (byte ∷ bytes) x.0 x.1)
+          {x = (Back n.0, n.1)} here (of_sign byte bytes (Back n.0) (eqb-true byte 126 tilde) refl)
       | inr other ↦
           let left = sym (ap (λ b. cond b (Some (Back n.0, n.1)) (cond (eqb byte 94) (Some (Parent n.0, n.1)) None)) other) ∙ e in
           elim (cases_Bool (eqb byte 94)) [
             | inl caret ↦
                 let here = some_is (Parent n.0, n.1) (one, after) (sym (ap (λ b. cond b (Some (Parent n.0, n.1)) None) caret) ∙ left) in
-                subst (λ (x : Move × List ℕ). MoveRead (byte ∷ bytes) x.0 x.1) {x = (Parent n.0, n.1)} here (of_sign byte bytes (Parent n.0) (eqb-true byte 94 caret) refl)
+                subst (λ (x : Move × List ℕ). MoveRead (byte ∷ bytes) x.0 x.1)
+                {x = (Parent n.0, n.1)} here (of_sign byte bytes (Parent n.0) (eqb-true byte 94 caret) refl)
             | inr neither ↦ absurd (none_is (sym (ap (λ b. cond b (Some (Parent n.0, n.1)) None) neither) ∙ left))
           ]
     ]

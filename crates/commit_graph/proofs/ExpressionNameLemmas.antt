@@ -1,5 +1,6 @@
 -- The name at the front of an expression, and what the whole text then is.
-use Rattle.std.proofs.Common.{◌≡◌, ℕ, zero, suc, ◌-◌, ◌+◌, ◌≤◌, Bool, true, false, not, cond, eqb, ltb, List, [], ◌∷◌, ◌++◌, length, take, drop, position, Option, Some, None, option_map, Result, Err, refl, sym, ap, subst, ◌∙◌, append_assoc, inl, inr, arith}
+use Rattle.std.proofs.Common.{◌≡◌, ℕ, zero, suc, ◌-◌, ◌+◌, ◌≤◌, Bool, true, false, not, cond, eqb, ltb, List, [], ◌∷◌, ◌++◌, length, take, drop, position}
+use Rattle.std.proofs.Common.{Option, Some, None, option_map, Result, Err, refl, sym, ap, subst, ◌∙◌, append_assoc, inl, inr, arith}
 use Rattle.std.proofs.lemmas.Bool.{cases_Bool, ne_eqb, ltb-false, le-ltb}
 use Rattle.std.proofs.lemmas.List.{append-nil, length-append, take_at, drop_at}
 use Rattle.std.specs.List.{AllByRecursion, position_or_len}
@@ -42,13 +43,15 @@ nothing_left : (other z y : List ℕ) → y ≡ [] → other ++ z ≡ y → (oth
 nothing_left [] z y none e = (refl, e)
 nothing_left (c ∷ other) z y none e = absurd (cc (e ∙ none))
 
-stops_here : (byte : ℕ) (other z y : List ℕ) → continues_ref byte ≡ false → AllGoOn other → (more : List ℕ) → y ≡ byte ∷ more → other ++ z ≡ y → (other ≡ []) × (z ≡ y)
+stops_here : (byte : ℕ) (other z y : List ℕ) → continues_ref byte ≡ false → AllGoOn other → (more : List ℕ) → y ≡ byte ∷ more → other ++ z ≡ y
+    → (other ≡ []) × (z ≡ y)
 stops_here byte [] z y nay each more is e = (refl, e)
 stops_here byte (c ∷ other) z y nay each more is e =
     let same = (heads c byte (other ++ z) more (e ∙ is)).0 in
     absurd (cc (sym each.0 ∙ ap continues_ref same ∙ nay))
 
-goes_on : (byte : ℕ) (front : List ℕ) (left : ℕ) (other z y : List ℕ) → continues_ref byte ≡ true → AllGoOn other → length other ≤ suc left → IsMarked z → other ++ z ≡ byte ∷ (front ++ y)
+goes_on : (byte : ℕ) (front : List ℕ) (left : ℕ) (other z y : List ℕ) → continues_ref byte ≡ true → AllGoOn other → length other ≤ suc left → IsMarked z
+    → other ++ z ≡ byte ∷ (front ++ y)
     → ((other : List ℕ) → AllGoOn other → length other ≤ left → other ++ z ≡ front ++ y → (other ≡ front) × (z ≡ y)) → (other ≡ byte ∷ front) × (z ≡ y)
 goes_on byte front left [] z y so each few marked e rest = absurd (cc (sym (subst IsMarked e marked) ∙ so))
 goes_on byte front left (c ∷ other) z y so each few marked e rest =
@@ -58,8 +61,24 @@ goes_on byte front left (c ∷ other) z y so each few marked e rest =
 
 tail_taken : (more : ℕ) (bytes : List ℕ) → TailTaken more bytes (tail_len more bytes)
 unfolding tail_len
-tail_taken zero bytes = record { front = []; rest = bytes; parts = refl; len = refl; few = omega arith; each = tt; forced = λ other z y each few marked like e. no_more other z y few e }
-tail_taken (suc more) [] = record { front = []; rest = []; parts = refl; len = refl; few = omega arith; each = tt; forced = λ other z y each few marked like e. nothing_left other z y like e }
+tail_taken zero bytes = record {
+  front = [];
+  rest = bytes;
+  parts = refl;
+  len = refl;
+  few = omega arith;
+  each = tt;
+  forced = λ other z y each few marked like e. no_more other z y few e;
+}
+tail_taken (suc more) [] = record {
+  front = [];
+  rest = [];
+  parts = refl;
+  len = refl;
+  few = omega arith;
+  each = tt;
+  forced = λ other z y each few marked like e. nothing_left other z y like e;
+}
 tail_taken (suc more) (byte ∷ bytes) =
     elim (cases_Bool (continues_ref byte)) [
       | inl so ↦
@@ -71,7 +90,8 @@ tail_taken (suc more) (byte ∷ bytes) =
             len = ap suc t.len;
             few = omega (arith, t.few);
             each = (so, t.each);
-            forced = λ other z y each few marked like e. goes_on byte t.front more other z y so each few marked e (λ o each few e. t.forced o z y each few marked like e);
+            forced = λ other z y each few marked like e.
+                goes_on byte t.front more other z y so each few marked e (λ o each few e. t.forced o z y each few marked like e);
           })
       | inr nay ↦ subst (TailTaken (suc more) (byte ∷ bytes)) (sym (ap (λ b. cond b (suc (tail_len more bytes)) 0) nay)) (record {
         front = [];
@@ -125,7 +145,8 @@ pub name_from : (byte : ℕ) (bytes : List ℕ) → begins_ref byte ≡ true →
 name_from byte bytes first each few =
     let some : eqb (length (byte ∷ bytes)) 0 ≡ false = ne_eqb (length (byte ∷ bytes)) 0 (λ none. omega arith) in
     let short : ltb 255 (length (byte ∷ bytes)) ≡ false = le-ltb _ _ (omega arith) in
-    let stray : option_map (λ at. BadByte (at + 1)) (position (λ byte. not (continues_ref byte)) bytes) ≡ None = ap (option_map (λ at. BadByte (at + 1))) (none_stray bytes each) in
+    let stray : option_map (λ at. BadByte (at + 1)) (position (λ byte. not (continues_ref byte)) bytes) ≡ None =
+    ap (option_map (λ at. BadByte (at + 1))) (none_stray bytes each) in
     ap (λ b. cond b (Some Empty) (cond (ltb 255 (length (byte ∷ bytes))) (Some TooLong) (bad_byte begins_ref continues_ref (byte ∷ bytes)))) some
     ∙ ap (λ b. cond b (Some TooLong) (bad_byte begins_ref continues_ref (byte ∷ bytes))) short
     ∙ ap (λ b. cond b (option_map (λ at. BadByte (at + 1)) (position (λ byte. not (continues_ref byte)) bytes)) (Some (BadByte 0))) first
@@ -151,7 +172,8 @@ name_taken byte bytes first =
       forced = λ other z y named marked like e. by other z y (name_to other named) marked like e;
     }
   where
-    by : (other z y : List ℕ) → IsName other → IsMarked z → BeginsLike (tail_taken 254 bytes).rest y → other ++ z ≡ byte ∷ ((tail_taken 254 bytes).front ++ y) → (other ≡ byte ∷ (tail_taken 254 bytes).front) × (z ≡ y)
+    by : (other z y : List ℕ) → IsName other → IsMarked z → BeginsLike (tail_taken 254 bytes).rest y → other ++ z ≡ byte ∷ ((tail_taken 254 bytes).front ++ y)
+        → (other ≡ byte ∷ (tail_taken 254 bytes).front) × (z ≡ y)
     by [] z y is marked like e = absurd is
     by (c ∷ other) z y is marked like e =
         let t = tail_taken 254 bytes in
@@ -195,14 +217,17 @@ like_front (f ∷ front) byte r more = (front ++ byte ∷ more, refl)
 pub record IsHeaded (text name : List ℕ) (at : Bool) (rest : List ℕ) : Type 0 where
   pub parts : text ≡ name ++ (at_sign at ++ rest)
   pub named : ref_fault name ≡ None
-  pub forced : (e : RefExprValue) (y : List ℕ) → BeginsLike rest y → IsExpression e (name ++ (at_sign at ++ y)) → (e.name ≡ name) × (e.at ≡ at) × AreMoves e.moves y
+  pub forced : (e : RefExprValue) (y : List ℕ) → BeginsLike rest y → IsExpression e (name ++ (at_sign at ++ y))
+      → (e.name ≡ name) × (e.at ≡ at) × AreMoves e.moves y
 
-pub headed : (text : List ℕ) (n : ℕ) (t : NameTaken text n) (at : Bool) (rest : List ℕ) → t.rest ≡ at_sign at ++ rest → (at ≡ false → NoAt rest) → IsHeaded text t.name at rest
+pub headed : (text : List ℕ) (n : ℕ) (t : NameTaken text n) (at : Bool) (rest : List ℕ) → t.rest ≡ at_sign at ++ rest → (at ≡ false → NoAt rest)
+    → IsHeaded text t.name at rest
 headed text n t at rest is plain = record {
   parts = t.parts ∙ ap (λ l. t.name ++ l) is;
   named = t.named;
   forced = λ e y like x.
-      let f = t.forced e.name (at_sign e.at ++ x.tail) (at_sign at ++ y) x.named (marked_tail e.at e.moves x.tail x.moves) (subst (λ l. BeginsLike l (at_sign at ++ y)) (sym is) (like_at at rest y like)) (sym x.parts) in
+      let f = t.forced e.name (at_sign e.at ++ x.tail) (at_sign at ++ y) x.named (marked_tail e.at e.moves x.tail x.moves)
+      (subst (λ l. BeginsLike l (at_sign at ++ y)) (sym is) (like_at at rest y like)) (sym x.parts) in
       let g = same_at e.at at x.tail y e.moves x.moves (λ nay. plain_y at rest y like (plain nay)) f.1 in
       (f.0, g.0, subst (AreMoves e.moves) g.1 x.moves);
 }
@@ -217,7 +242,8 @@ headed text n t at rest is plain = record {
         let h = heads byte 64 like.0 more (sym like.1 ∙ e) in
         plain rest (ap (λ k. k ∷ rest) h.0)
 
-    same_at : (a b : Bool) (tail y : List ℕ) (moves : List Move) → AreMoves moves tail → (b ≡ false → NoAt y) → at_sign a ++ tail ≡ at_sign b ++ y → (a ≡ b) × (tail ≡ y)
+    same_at : (a b : Bool) (tail y : List ℕ) (moves : List Move) → AreMoves moves tail → (b ≡ false → NoAt y) → at_sign a ++ tail ≡ at_sign b ++ y
+        → (a ≡ b) × (tail ≡ y)
     same_at true true tail y moves are plain e = (refl, (heads 64 64 tail y e).1)
     same_at false false tail y moves are plain e = (refl, e)
     same_at true false tail y moves are plain e = absurd (plain refl tail (sym e))
@@ -248,18 +274,21 @@ module _ (text name : List ℕ) (at : Bool) (rest : List ℕ) (h : IsHeaded text
   no_moves (Back n ∷ later) byte r more none are = let s = (heads byte 126 more (are.0 ++ are.1) are.2).0 in cc (sym (ap (λ b. read_move (b ∷ r)) s) ∙ none)
   no_moves (Parent n ∷ later) byte r more none are = let s = (heads byte 94 more (are.0 ++ are.1) are.2).0 in cc (sym (ap (λ b. read_move (b ∷ r)) s) ∙ none)
 
-  none_goes_on : (moves : List Move) (byte : ℕ) (r : List ℕ) → (s : IsScanned rest moves (byte ∷ r)) → read_move (byte ∷ r) ≡ None → (e : RefExprValue) (more : List ℕ) → IsExpression e (name ++ (at_sign at ++ (s.front ++ byte ∷ more))) → ⊥
+  none_goes_on : (moves : List Move) (byte : ℕ) (r : List ℕ) → (s : IsScanned rest moves (byte ∷ r)) → read_move (byte ∷ r) ≡ None
+      → (e : RefExprValue) (more : List ℕ) → IsExpression e (name ++ (at_sign at ++ (s.front ++ byte ∷ more))) → ⊥
   none_goes_on moves byte r s none e more x =
       let like = subst (λ l. BeginsLike l (s.front ++ byte ∷ more)) (sym s.parts) (like_front s.front byte r more) in
       let f = h.forced e (s.front ++ byte ∷ more) like x in
       let g = s.forced e.moves (byte ∷ more) (more, refl) f.2 in
       no_moves g.0 byte r more none g.2
 
-  stopped : (n place : ℕ) (moves : List Move) (left : List ℕ) → IsScanned rest moves left → read_move left ≡ None → 1 ≤ length left → place ≡ n - length left → n ≡ length text → IsStray text place
+  stopped : (n place : ℕ) (moves : List Move) (left : List ℕ) → IsScanned rest moves left → read_move left ≡ None → 1 ≤ length left → place ≡ n - length left
+      → n ≡ length text → IsStray text place
   stopped n place moves [] s none some at_is n_is = absurd (omega arith)
   stopped n place moves (byte ∷ r) s none some at_is n_is =
       let pre = name ++ (at_sign at ++ s.front) in
-      let regroup : (z : List ℕ) → name ++ (at_sign at ++ (s.front ++ z)) ≡ pre ++ z = λ z. ap (λ l. name ++ l) (sym (append_assoc (at_sign at) s.front z)) ∙ sym (append_assoc name (at_sign at ++ s.front) z) in
+      let regroup : (z : List ℕ) → name ++ (at_sign at ++ (s.front ++ z)) ≡ pre ++ z =
+      λ z. ap (λ l. name ++ l) (sym (append_assoc (at_sign at) s.front z)) ∙ sym (append_assoc name (at_sign at ++ s.front) z) in
       let split : text ≡ pre ++ (byte ∷ r) = h.parts ∙ ap (λ l. name ++ (at_sign at ++ l)) s.parts ∙ regroup (byte ∷ r) in
       let len : length pre ≡ place = omega (arith, ap length split, length-append pre (byte ∷ r)) in
       let upto : take place text ≡ pre = ap (take place) split ∙ take_at pre (byte ∷ r) place len in
@@ -269,7 +298,8 @@ module _ (text name : List ℕ) (at : Bool) (rest : List ℕ) (h : IsHeaded text
       record {
         within = omega (arith, at_is, n_is);
         before = (whole moves, ([], record { tail = s.front; parts = ap (λ l. l ++ []) upto ∙ append-nil pre; named = h.named; moves = s.spelled }));
-        stops = λ b. absurd (none_goes_on moves byte r s none b.0 b.1.0 (subst (IsExpression b.0) (ap (λ l. l ++ b.1.0) past ∙ append_assoc pre (byte ∷ []) b.1.0 ∙ sym (regroup (byte ∷ b.1.0))) b.1.1));
+        stops = λ b. absurd (none_goes_on moves byte r s none b.0 b.1.0
+            (subst (IsExpression b.0) (ap (λ l. l ++ b.1.0) past ∙ append_assoc pre (byte ∷ []) b.1.0 ∙ sym (regroup (byte ∷ b.1.0))) b.1.1));
         none = λ e x. none_goes_on moves byte r s none e r (subst (IsExpression e) (split ∙ sym (regroup (byte ∷ r))) x);
       }
 
@@ -312,7 +342,8 @@ no_name text none = record {
 -- ---- what a reader has found
 
 -- the front as long as the longest name, and what follows it
-pub head_of : (text : List ℕ) (n : ℕ) (name after : List ℕ) (at : Bool) (rest : List ℕ) → n ≡ name_len text → (n ≡ 0 → ⊥) → name ≡ take n text → after ≡ drop n text → after ≡ at_sign at ++ rest → (at ≡ false → NoAt rest) → IsHeaded text name at rest
+pub head_of : (text : List ℕ) (n : ℕ) (name after : List ℕ) (at : Bool) (rest : List ℕ) → n ≡ name_len text → (n ≡ 0 → ⊥) → name ≡ take n text
+    → after ≡ drop n text → after ≡ at_sign at ++ rest → (at ≡ false → NoAt rest) → IsHeaded text name at rest
 head_of text n name after at rest long some front back parts plain =
     let t = name_read text (omega (arith, long, some_of n some)) in
     let len : length t.name ≡ n = t.len ∙ sym long in
@@ -345,5 +376,6 @@ module _ (text name : List ℕ) (at : Bool) (rest : List ℕ) (h : IsHeaded text
   err_bad fault stops place is = stray text name at rest h place (subst (StopsMoves (length text) rest) is stops)
 
   -- the expression that was read is the one that was meant
-  pub only_as : (front : List ℕ) (moves items : List Move) → front ≡ name → items ≡ moves → IsScanned rest moves [] → (e : RefExprValue) → IsExpression e text → ◌≡◌ {A = RefExprValue} (record { name = front; at = at; moves = items }) e
+  pub only_as : (front : List ℕ) (moves items : List Move) → front ≡ name → items ≡ moves → IsScanned rest moves [] → (e : RefExprValue) → IsExpression e text
+      → ◌≡◌ {A = RefExprValue} (record { name = front; at = at; moves = items }) e
   only_as front moves items is same s e x = (λ i. record { name = is i; at = at; moves = same i }) ∙ only text name at rest h moves s e x

@@ -24,7 +24,8 @@ put_one (other ∷ places) place = by (by_place place other) refl (put_one place
     by : (o : Ordering) → by_place place other ≡ o → (at : Place) × Contains (insert_key by_place places place) at × (at.1 ≡ place.1)
         → (at : Place) × Contains (match_ordering o (place ∷ other ∷ places) (other ∷ places) (other ∷ insert_key by_place places place)) at × (at.1 ≡ place.1)
     by Less e rest = (place, Contains-first place (other ∷ places), refl)
-    by Equal e rest = (other, Contains-first other places, sym (ids_same place.1 other.1 (then_equal (nat_cmp other.0.0 place.0.0) (id_order place.1 other.1) e)))
+    by Equal e rest =
+        (other, Contains-first other places, sym (ids_same place.1 other.1 (then_equal (nat_cmp other.0.0 place.0.0) (id_order place.1 other.1) e)))
     by Greater e rest = (rest.0, Contains-later other rest.0 (insert_key by_place places place) rest.1, rest.2)
 
 kept_one : (places : List Place) (place old : Place) → Contains places old → Contains (insert_key by_place places place) old
@@ -63,7 +64,8 @@ puts_none g ids old = record {
 }
 
 module _ (g : Graph) (ids : List Digest) (old mid : List Place) (i : ℕ) (so_far : PutsIn g (take i ids) old mid) where
-  pub puts_more : (d : Digest) (new : List Place) → i < length ids → new ≡ insert_key by_place mid (place_of g (get_or ids i d)) → PutsIn g (take (i + 1) ids) old new
+  pub puts_more : (d : Digest) (new : List Place) → i < length ids → new ≡ insert_key by_place mid (place_of g (get_or ids i d))
+      → PutsIn g (take (i + 1) ids) old new
   puts_more d new lt put =
       let id : Digest = get_or ids i d in
       let front : take (i + 1) ids ≡ take i ids ++ id ∷ [] = take_more ids i d lt in
@@ -86,7 +88,8 @@ module _ (g : Graph) (ids : List Digest) (old mid : List Place) (i : ℕ) (so_fa
       }))
 
 -- a front stays one where places of commits that are there are put in
-pub front_stays : (g : Graph) (ids : List Digest) (old new : List Place) → All (λ id. IsSome (commit_of g id)) ids → PutsIn g ids old new → IsFront g old → IsFront g new
+pub front_stays : (g : Graph) (ids : List Digest) (old new : List Place) → All (λ id. IsSome (commit_of g id)) ids → PutsIn g ids old new → IsFront g old
+    → IsFront g new
 front_stays g ids old new there puts front = record {
   due = front.due;
   places = λ place within. elim (puts.only place within) [
@@ -113,4 +116,5 @@ front_rest g place rest front = record { due = front.due; places = λ other with
 pub parents_there : (g : Graph) (place : Place) (rest : List Place) → IsFront g (place ∷ rest) → All (λ id. IsSome (commit_of g id)) (parents g place.1)
 parents_there g place rest front =
     let due = front.due place.1 (front.places place (Contains-first place rest)).there in
-    All-from_recursion (λ id. IsSome (commit_of g id)) (parents g place.1) (each_of (λ id. IsSome (commit_of g id)) (parents g place.1) (λ parent has. due.whole parent has))
+    All-from_recursion (λ id. IsSome (commit_of g id)) (parents g place.1)
+    (each_of (λ id. IsSome (commit_of g id)) (parents g place.1) (λ parent has. due.whole parent has))

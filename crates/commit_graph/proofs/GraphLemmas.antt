@@ -1,5 +1,6 @@
 -- The commits of a graph: their look-ups in the tree that keeps them, and a graph with one commit more.
-use Rattle.std.proofs.Common.{◌≡◌, ℕ, suc, ◌+◌, Bool, true, false, cond, List, [], ◌∷◌, ◌++◌, length, Option, Some, None, refl, sym, ap, subst, ◌∙◌, map as list_map, arith, Bor, inl, inr, ◌⊎◌, ◌<◌, get_or, drop, add-one, drop-cons, eqb, rules, not, append_assoc}
+use Rattle.std.proofs.Common.{◌≡◌, ℕ, suc, ◌+◌, Bool, true, false, cond, List, [], ◌∷◌, ◌++◌, length, Option, Some, None, refl, sym, ap, subst, ◌∙◌}
+use Rattle.std.proofs.Common.{map as list_map, arith, Bor, inl, inr, ◌⊎◌, ◌<◌, get_or, drop, add-one, drop-cons, eqb, rules, not, append_assoc}
 use Rattle.std.proofs.lemmas.Bool.{cases_Bool, eqb-true}
 use Rattle.std.proofs.lemmas.List.{nil_from_length}
 use Rattle.std.proofs.lemmas.List.Elements.{All-contains, All-from_recursion}
@@ -76,10 +77,12 @@ remove_from es fs id h =
     ∙ ap (cond (eq_by_cmp byte_order q id.0) None) (sym (commit_from es (id_of q)))
     ∙ sym (tree.get-remove nat_list_cmp_total (graph_of es) id.0 q))
 
-put_below : (e : Digest × CommitRecordValue) (es : Commits) → IsStrictlySortedBy by_id (list_map (λ e. e.0) (e ∷ es)) → tree.put byte_order e.0.0 e.1 (keyed es) ≡ keyed (e ∷ es)
+put_below : (e : Digest × CommitRecordValue) (es : Commits) → IsStrictlySortedBy by_id (list_map (λ e. e.0) (e ∷ es))
+    → tree.put byte_order e.0.0 e.1 (keyed es) ≡ keyed (e ∷ es)
 put_below e [] h = refl
 put_below e (f ∷ fs) h =
-    ap (λ r. by_order r (keyed (e ∷ f ∷ fs)) ((f.0.0, e.1) ∷ keyed fs) ((f.0.0, f.1) ∷ tree.put byte_order e.0.0 e.1 (keyed fs))) (sorted_head by_id e.0 (list_map (λ e. e.0) (f ∷ fs)) h).0
+    ap (λ r. by_order r (keyed (e ∷ f ∷ fs)) ((f.0.0, e.1) ∷ keyed fs) ((f.0.0, f.1) ∷ tree.put byte_order e.0.0 e.1 (keyed fs)))
+    (sorted_head by_id e.0 (list_map (λ e. e.0) (f ∷ fs)) h).0
 
 -- the tree's entries are the graph's
 pub entries_from : (es : Commits) → IsStrictlySortedBy by_id (list_map (λ e. e.0) es) → tree.entries (graph_of es) ≡ keyed es
@@ -98,7 +101,8 @@ len_from es h = tree.len-entries (graph_of es) ∙ ap length (entries_from es h)
 
 -- no commits are a graph
 pub sound_empty : (es : Commits) → es ≡ [] → IsSound (graph_of es)
-sound_empty es none = subst (λ es. IsSound (graph_of es)) (sym none) (record { due = λ id some. absurd (nothing id some); names = λ id c e. absurd (not_found id c e) })
+sound_empty es none =
+    subst (λ es. IsSound (graph_of es)) (sym none) (record { due = λ id some. absurd (nothing id some); names = λ id c e. absurd (not_found id c e) })
   where
     no_commit : (id : Digest) → commit_of (graph_of []) id ≡ None
     no_commit id = commit_from [] id
@@ -110,7 +114,8 @@ sound_empty es none = subst (λ es. IsSound (graph_of es)) (sym none) (record { 
     nothing id some = cc (ap is_some (no_commit id))
 
 -- the entry at a place
-pub at_from : (es : Commits) (place : ℕ) (r : Option (Bor Digest × Bor CommitRecordValue)) → IsStrictlySortedBy by_id (list_map (λ e. e.0) es) → option_map deref_pair r ≡ slice_get es place
+pub at_from : (es : Commits) (place : ℕ) (r : Option (Bor Digest × Bor CommitRecordValue)) → IsStrictlySortedBy by_id (list_map (λ e. e.0) es)
+    → option_map deref_pair r ≡ slice_get es place
     → option_map {U = List ℕ × CommitRecordValue} (λ x. (x.0.now.0, x.1.now)) r ≡ slice_get (tree.entries (graph_of es)) place
 at_from es place r sorted is =
     shown r ∙ ap (option_map key) is ∙ sym (slice_get-map key es place) ∙ ap (λ l. slice_get l place) (sym (entries_from es sorted))
@@ -118,7 +123,8 @@ at_from es place r sorted is =
     key : Digest × CommitRecordValue → List ℕ × CommitRecordValue
     key e = (e.0.0, e.1)
 
-    shown : (r : Option (Bor Digest × Bor CommitRecordValue)) → option_map {U = List ℕ × CommitRecordValue} (λ x. (x.0.now.0, x.1.now)) r ≡ option_map {U = List ℕ × CommitRecordValue} (λ e. (e.0.0, e.1)) (option_map deref_pair r)
+    shown : (r : Option (Bor Digest × Bor CommitRecordValue)) → option_map {U = List ℕ × CommitRecordValue} (λ x. (x.0.now.0, x.1.now)) r
+        ≡ option_map {U = List ℕ × CommitRecordValue} (λ e. (e.0.0, e.1)) (option_map deref_pair r)
     shown None = refl
     shown (Some x) = refl
 
@@ -172,19 +178,23 @@ module _ (graph : Graph) (id : Digest) (c : CommitRecordValue) where
   unfolding generation
   due_stays absent [] there = refl
   due_stays absent (q ∷ ids) there =
-      let same : generation with q ≡ generation graph q = ap (λ o. unwrap_or (option_map (λ (x : CommitRecordValue). x.generation) o) 0) (stays absent q there.0) in
+      let same : generation with q ≡ generation graph q =
+      ap (λ o. unwrap_or (option_map (λ (x : CommitRecordValue). x.generation) o) 0) (stays absent q there.0) in
       omega (arith, same, due_stays absent ids there.1)
 
   -- a commit whose parents were there, and whose generation was due, is so still
-  due_of : commit_of graph id ≡ None → (q : Digest) (d : CommitRecordValue) → commit_of with q ≡ Some d → AreThere graph d.parents → d.generation ≡ due_generation graph d.parents → IsDue with q
+  due_of : commit_of graph id ≡ None → (q : Digest) (d : CommitRecordValue) → commit_of with q ≡ Some d → AreThere graph d.parents
+      → d.generation ≡ due_generation graph d.parents → IsDue with q
   due_of absent q d is there due =
       let kids : d.parents ≡ parents with q = parents_some with q d (sym is) in
       record {
-        whole = λ parent in_it. still_there absent parent (All-contains (λ p. IsSome (commit_of graph p)) d.parents parent (All-from_recursion (λ p. IsSome (commit_of graph p)) d.parents there) (subst (λ l. Contains l parent) (sym kids) in_it));
+        whole = λ parent in_it. still_there absent parent (All-contains (λ p. IsSome (commit_of graph p)) d.parents parent
+            (All-from_recursion (λ p. IsSome (commit_of graph p)) d.parents there) (subst (λ l. Contains l parent) (sym kids) in_it));
         counted = sym (generation_some with q d (sym is)) ∙ due ∙ sym (due_stays absent d.parents there) ∙ ap (due_generation with) kids;
       }
 
-  pub sound_more : IsSound graph → commit_of graph id ≡ None → IsNamed id c → missing_parent graph c.parents ≡ None → c.generation ≡ due_generation graph c.parents → IsSound with
+  pub sound_more : IsSound graph → commit_of graph id ≡ None → IsNamed id c → missing_parent graph c.parents ≡ None
+      → c.generation ≡ due_generation graph c.parents → IsSound with
   sound_more sound absent named whole due = record {
     due = λ q some. elim (here q) [
       | inl old ↦ old_due q (commit_of graph q) refl old (ap is_some (sym old) ∙ some)
@@ -206,7 +216,8 @@ module _ (graph : Graph) (id : Digest) (c : CommitRecordValue) where
       there_by [] h = tt
       there_by (p ∷ ids) h = (h p (0, omega arith, refl), there_by ids (λ q w. h q (suc w.0, omega (arith, w.1), w.2)))
 
-      old_due : (q : Digest) (o : Option CommitRecordValue) → commit_of graph q ≡ o → commit_of with q ≡ commit_of graph q → IsSome (commit_of graph q) → IsDue with q
+      old_due : (q : Digest) (o : Option CommitRecordValue) → commit_of graph q ≡ o → commit_of with q ≡ commit_of graph q → IsSome (commit_of graph q)
+          → IsDue with q
       old_due q None was old some = absurd (cc (ap is_some was))
       old_due q (Some d) was old some =
           let h = sound.due q some in
@@ -226,13 +237,15 @@ module _ (graph : Graph) (id : Digest) (c : CommitRecordValue) where
 -- ---- parents that are looked for
 
 -- what a look-up that lends tells
-pub none_found : (found : Option (Bor CommitRecordValue)) (o : Option CommitRecordValue) (b : Bool) → option_copied found ≡ o → is_some found ≡ not b → b ≡ is_none o
+pub none_found : (found : Option (Bor CommitRecordValue)) (o : Option CommitRecordValue) (b : Bool) → option_copied found ≡ o → is_some found ≡ not b
+    → b ≡ is_none o
 none_found None o true is test = ap is_none is
 none_found (Some c) o false is test = ap is_none is
 none_found None o false is test = absurd cc
 none_found (Some c) o true is test = absurd cc
 
-pub find_next : {X : Type 0} (test : X → Bool) (xs : List X) (i : ℕ) (d : X) → i < length xs → find test (drop i xs) ≡ cond (test (get_or xs i d)) (Some (get_or xs i d)) (find test (drop (i + 1) xs))
+pub find_next : {X : Type 0} (test : X → Bool) (xs : List X) (i : ℕ) (d : X) → i < length xs
+    → find test (drop i xs) ≡ cond (test (get_or xs i d)) (Some (get_or xs i d)) (find test (drop (i + 1) xs))
 find_next test xs i d lt =
     let front : drop i xs ≡ get_or xs i d ∷ drop (i + 1) xs = rw (add-one, drop-cons xs i d) refl in
     ap (find test) front
@@ -244,7 +257,8 @@ all_at P [] ys e all = all.0
 all_at P (x ∷ xs) ys e all = all_at P xs ys e all.1
 
 -- a commit of the greatest id goes to the end
-push_last : (xs ys : Commits) (e : Digest × CommitRecordValue) → IsStrictlySortedBy by_id (list_map (λ e. e.0) (xs ++ e ∷ ys)) → insert_entry by_id xs e.0 e.1 ≡ xs ++ e ∷ []
+push_last : (xs ys : Commits) (e : Digest × CommitRecordValue) → IsStrictlySortedBy by_id (list_map (λ e. e.0) (xs ++ e ∷ ys))
+    → insert_entry by_id xs e.0 e.1 ≡ xs ++ e ∷ []
 push_last [] ys e h = refl
 push_last (x ∷ xs) ys e h =
     let ids = list_map (λ (e : Digest × CommitRecordValue). e.0) (xs ++ e ∷ ys) in
@@ -253,10 +267,12 @@ push_last (x ∷ xs) ys e h =
     ap (λ r. match_ordering r ((e.0, e.1) ∷ x ∷ xs) ((x.0, e.1) ∷ xs) (x ∷ insert_entry by_id xs e.0 e.1)) above
     ∙ ap (λ l. x ∷ l) (push_last xs ys e (sorted_tail by_id x.0 ids h))
 
-pub copied_more : (all xs ys zs new : Commits) (e : Digest × CommitRecordValue) (c : CommitRecordValue) → IsStrictlySortedBy by_id (list_map (λ e. e.0) all) → xs ++ ys ≡ all → ys ≡ e ∷ zs → new ≡ insert_entry by_id xs e.0 c → c ≡ e.1 → new ++ zs ≡ all
+pub copied_more : (all xs ys zs new : Commits) (e : Digest × CommitRecordValue) (c : CommitRecordValue) → IsStrictlySortedBy by_id (list_map (λ e. e.0) all)
+    → xs ++ ys ≡ all → ys ≡ e ∷ zs → new ≡ insert_entry by_id xs e.0 c → c ≡ e.1 → new ++ zs ≡ all
 copied_more all xs ys zs new e c sorted so_far first put same =
     let whole : xs ++ e ∷ zs ≡ all = ap (λ l. xs ++ l) (sym first) ∙ so_far in
-    let pushed : new ≡ xs ++ e ∷ [] = put ∙ ap (insert_entry by_id xs e.0) same ∙ push_last xs zs e (subst (λ l. IsStrictlySortedBy by_id (list_map (λ e. e.0) l)) (sym whole) sorted) in
+    let pushed : new ≡ xs ++ e ∷ [] =
+    put ∙ ap (insert_entry by_id xs e.0) same ∙ push_last xs zs e (subst (λ l. IsStrictlySortedBy by_id (list_map (λ e. e.0) l)) (sym whole) sorted) in
     ap (λ l. l ++ zs) pushed ∙ append_assoc xs (e ∷ []) zs ∙ whole
 
 -- ---- what a test that went well tells
@@ -269,13 +285,15 @@ pub timely : (graph : Graph) (c : CommitRecordValue) → untimely graph c ≡ No
 timely graph c e = by (eqb c.generation (due_generation graph c.parents)) refl e
   where
     by : (b : Bool) → eqb c.generation (due_generation graph c.parents) ≡ b
-        → cond b None (Some (Generation c.generation (min (due_generation graph c.parents) 18446744073709551615))) ≡ None → c.generation ≡ due_generation graph c.parents
+        → cond b None (Some (Generation c.generation (min (due_generation graph c.parents) 18446744073709551615))) ≡ None
+        → c.generation ≡ due_generation graph c.parents
     by true is e = eqb-true _ _ is
     by false is e = absurd cc
 
 pub clash_none : (name : Digest) (new : List ℕ) (kept : CommitRecordValue) → clash name new kept ≡ None → commit_spelling kept ≡ new
 clash_none name new kept e = by (bytes_eq (commit_spelling kept) new) refl e
   where
-    by : (b : Bool) → bytes_eq (commit_spelling kept) new ≡ b → cond b None (Some (NameClash name (commit_spelling kept) new)) ≡ None → commit_spelling kept ≡ new
+    by : (b : Bool) → bytes_eq (commit_spelling kept) new ≡ b → cond b None (Some (NameClash name (commit_spelling kept) new)) ≡ None
+        → commit_spelling kept ≡ new
     by true is e = search (rules, bytes_eq-Decides)
     by false is e = absurd cc

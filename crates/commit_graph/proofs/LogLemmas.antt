@@ -1,5 +1,6 @@
 -- Two walks that look for the first commit of both, and the page of a log.
-use Rattle.std.proofs.Common.{◌≡◌, ℕ, ◌<◌, ◌≤◌, Bool, true, false, List, [], ◌∷◌, ◌++◌, length, take, drop, Some, None, Option, inl, inr, refl, sym, ap, subst, ◌∙◌, append-nil, length-append, arith}
+use Rattle.std.proofs.Common.{◌≡◌, ℕ, ◌<◌, ◌≤◌, Bool, true, false, List, [], ◌∷◌, ◌++◌, length, take, drop, Some, None, Option, inl, inr, refl, sym, ap, subst}
+use Rattle.std.proofs.Common.{◌∙◌, append-nil, length-append, arith}
 use Rattle.std.proofs.Math.Seq.{take-append_seam}
 use Rattle.std.proofs.lemmas.Bool.{lt-ltb, le-ltb}
 use Rattle.std.proofs.lemmas.List.{take_all, length-drop}
@@ -26,7 +27,8 @@ pub record AreBoth (g : Graph) (a b : Digest) (left right : List Digest) : Type 
   pub in_left : (id : Digest) → IsCommon g a b id → Contains left id
   pub in_right : (id : Digest) → IsCommon g a b id → Contains right id
 
-pub both_start : (g : Graph) → IsGraph g → (a b : Digest) (left right : List Digest) → left ≡ ancestors_in_order g a → right ≡ ancestors_in_order g b → AreBoth g a b left right
+pub both_start : (g : Graph) → IsGraph g → (a b : Digest) (left right : List Digest) → left ≡ ancestors_in_order g a → right ≡ ancestors_in_order g b
+    → AreBoth g a b left right
 both_start g graph a b left right p q = subst (λ l. AreBoth g a b l right) (sym p) (subst (AreBoth g a b (ancestors_in_order g a)) (sym q) (record {
   left_ascends = ancestors_ascend g a;
   right_ascends = ancestors_ascend g b;
@@ -52,7 +54,8 @@ the_same : (x y : Digest) → Some x ≡ Some y → x ≡ y
 the_same x y e = cc
 
 module _ (g : Graph) (a b : Digest) where
-  pub left_passed : (left right : List Digest) (x y : Digest) (new : List Digest) → AreBoth g a b left right → Some x ≡ slice_get left 0 → Some y ≡ slice_get right 0
+  pub left_passed : (left right : List Digest) (x y : Digest) (new : List Digest) → AreBoth g a b left right → Some x ≡ slice_get left 0
+      → Some y ≡ slice_get right 0
       → log_order g x y ≡ Less → new ≡ drop 1 left → AreBoth g a b new right
   left_passed [] right x y new h p q less e = absurd cc
   left_passed (v ∷ left) [] x y new h p q less e = absurd cc
@@ -69,12 +72,14 @@ module _ (g : Graph) (a b : Digest) where
         in_right = h.in_right;
       })
 
-  pub right_passed : (left right : List Digest) (x y : Digest) (new : List Digest) → AreBoth g a b left right → Some x ≡ slice_get left 0 → Some y ≡ slice_get right 0
+  pub right_passed : (left right : List Digest) (x y : Digest) (new : List Digest) → AreBoth g a b left right → Some x ≡ slice_get left 0
+      → Some y ≡ slice_get right 0
       → log_order g x y ≡ Greater → new ≡ drop 1 right → AreBoth g a b left new
   right_passed [] right x y new h p q greater e = absurd cc
   right_passed (v ∷ left) [] x y new h p q greater e = absurd cc
   right_passed (v ∷ left) (w ∷ right) x y new h p q greater e =
-      let first : log_order g w v ≡ Less = (log_total g).antisymm w v ∙ ap ordering_reverse (ap (λ d. log_order g d w) (sym (the_same x v p)) ∙ ap (log_order g x) (sym (the_same y w q)) ∙ greater) in
+      let first : log_order g w v ≡ Less = (log_total g).antisymm w v
+      ∙ ap ordering_reverse (ap (λ d. log_order g d w) (sym (the_same x v p)) ∙ ap (log_order g x) (sym (the_same y w q)) ∙ greater) in
       subst (AreBoth g a b (v ∷ left)) (sym e) (record {
         left_ascends = h.left_ascends;
         right_ascends = sorted_tail (log_order g) w right h.right_ascends;
@@ -127,7 +132,8 @@ module _ (ids left all : List Digest) (amount : ℕ) (whole : ids ++ left ≡ al
       )
 
 -- at the start all is still to come
-pub log_starts : (g : Graph) (from : Digest) (after : Option Digest) (since : Option ℕ) (left : List Digest) → left ≡ ancestors_in_order g from → filter (is_in_log g after since) left ≡ log_after g from after since
+pub log_starts : (g : Graph) (from : Digest) (after : Option Digest) (since : Option ℕ) (left : List Digest) → left ≡ ancestors_in_order g from
+    → filter (is_in_log g after since) left ≡ log_after g from after since
 unfolding log_after
 log_starts g from after since left is = ap (filter (is_in_log g after since)) is
 

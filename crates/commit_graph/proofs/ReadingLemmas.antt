@@ -1,5 +1,6 @@
 -- A commit that is read is the commit that was written, and what was written is read again.
-use Rattle.std.proofs.Common.{◌≡◌, ℕ, zero, suc, ◌-◌, ◌+◌, ◌^◌, ◌<◌, ◌≤◌, Bool, true, false, cond, eqb, ltb, List, [], ◌∷◌, ◌++◌, length, Result, Ok, Err, refl, sym, ap, subst, ◌∙◌, append_assoc, arith}
+use Rattle.std.proofs.Common.{◌≡◌, ℕ, zero, suc, ◌-◌, ◌+◌, ◌^◌, ◌<◌, ◌≤◌, Bool, true, false, cond, eqb, ltb, List, [], ◌∷◌, ◌++◌, length, Result, Ok, Err, refl}
+use Rattle.std.proofs.Common.{sym, ap, subst, ◌∙◌, append_assoc, arith}
 use Rattle.std.proofs.lemmas.Bool.{eqb-true, eqb-false, ne_eqb, ltb-false, le-ltb}
 use Rattle.std.proofs.lemmas.List.{append-nil, length-append, nil_from_length}
 use Rattle.std.proofs.lemmas.List.Concat.{flat_map-cons, flat_map-append}
@@ -11,7 +12,8 @@ use Rattle.lake_format.specs.Reading.{◌>>=◌, Fails, read_number, read_bytes,
 use Rattle.lake_format.specs.Spelling.{short_text, long_text, pairs_spelling, commit_spelling, AreBytes, IsDigest, IsSpelledCommit}
 use Rattle.lake_format.specs.declared.fields.FieldFault.{FieldFault}
 use Rattle.lake_format.specs.declared.fields.FieldFault.TheVariants.{Short, Bad, NoMemory}
-use Rattle.lake_format.proofs.FieldsLemmas.{bind_ok, guard_ok, ok_is, Takes, takes_then, wide16, wide64, number_takes, number_again, bytes_take, bytes_takes, bytes_again, text_limits, text_takes, text_again, long_text_limits, long_text_takes, long_text_again}
+use Rattle.lake_format.proofs.FieldsLemmas.{bind_ok, guard_ok, ok_is, Takes, takes_then, wide16, wide64, number_takes, number_again, bytes_take, bytes_takes}
+use Rattle.lake_format.proofs.FieldsLemmas.{bytes_again, text_limits, text_takes, text_again, long_text_limits, long_text_takes, long_text_again}
 use Rattle.lake_format.proofs.EncodingLemmas.{metadata_takes, metadata_again}
 use Rattle.commit_graph.specs.CommitReading.{read_generation, read_ids, read_parents, read_commit, whole, commit_from}
 use Rattle.commit_graph.specs.declared.fault.CommitFault.{CommitFault}
@@ -25,26 +27,31 @@ ids_spelling ids = flat_map (λ id. id.0) ids
 
 -- ---- a loop that reads ids
 
-pub goes_on : (count i : ℕ) (before : List Digest) (bytes : List ℕ) (id after : List ℕ) (all : Result (List Digest × List ℕ) FieldFault) → i < count → read_bytes 32 bytes ≡ Ok (id, after)
+pub goes_on : (count i : ℕ) (before : List Digest) (bytes : List ℕ) (id after : List ℕ) (all : Result (List Digest × List ℕ) FieldFault) → i < count
+    → read_bytes 32 bytes ≡ Ok (id, after)
     → read_ids (count - i) before bytes ≡ all → read_ids (count - (i + 1)) (before ++ id_of id ∷ []) after ≡ all
 unfolding read_ids
 goes_on count i before bytes id after all lt here so_far =
     let k : count - i ≡ suc (count - (i + 1)) = omega arith in
-    sym (ap (λ (r : Result (List ℕ × List ℕ) FieldFault). r >>= λ id. read_ids (count - (i + 1)) (before ++ id_of id.0 ∷ []) id.1) here) ∙ ap (λ m. read_ids m before bytes) (sym k) ∙ so_far
+    sym (ap (λ (r : Result (List ℕ × List ℕ) FieldFault). r >>= λ id. read_ids (count - (i + 1)) (before ++ id_of id.0 ∷ []) id.1) here)
+    ∙ ap (λ m. read_ids m before bytes) (sym k) ∙ so_far
 
 failed : {A B : Type 0} (e : FieldFault) (r : Result A FieldFault) (f : A → Result B FieldFault) → Fails e r → Fails e (r >>= f)
 failed NoMemory r f h = tt
 failed (Short left) r f h = ap (λ x. x >>= f) h
 failed (Bad left) r f h = ap (λ x. x >>= f) h
 
-pub ends : (e : FieldFault) (count i : ℕ) (before : List Digest) (bytes : List ℕ) (all : Result (List Digest × List ℕ) FieldFault) → i < count → Fails e (read_bytes 32 bytes)
+pub ends : (e : FieldFault) (count i : ℕ) (before : List Digest) (bytes : List ℕ) (all : Result (List Digest × List ℕ) FieldFault) → i < count
+    → Fails e (read_bytes 32 bytes)
     → read_ids (count - i) before bytes ≡ all → Fails e all
 unfolding read_ids
 ends e count i before bytes all lt fails so_far =
     let k : count - i ≡ suc (count - (i + 1)) = omega arith in
-    subst (Fails e) (ap (λ m. read_ids m before bytes) (sym k) ∙ so_far) (failed e (read_bytes 32 bytes) (λ id. read_ids (count - (i + 1)) (before ++ id_of id.0 ∷ []) id.1) fails)
+    subst (Fails e) (ap (λ m. read_ids m before bytes) (sym k) ∙ so_far)
+    (failed e (read_bytes 32 bytes) (λ id. read_ids (count - (i + 1)) (before ++ id_of id.0 ∷ []) id.1) fails)
 
-pub is_done : (count i : ℕ) (before : List Digest) (bytes : List ℕ) (all : Result (List Digest × List ℕ) FieldFault) → count ≤ i → read_ids (count - i) before bytes ≡ all → all ≡ Ok (before, bytes)
+pub is_done : (count i : ℕ) (before : List Digest) (bytes : List ℕ) (all : Result (List Digest × List ℕ) FieldFault) → count ≤ i
+    → read_ids (count - i) before bytes ≡ all → all ≡ Ok (before, bytes)
 unfolding read_ids
 is_done count i before bytes all le so_far =
     let k : count - i ≡ 0 = omega arith in
@@ -65,10 +72,12 @@ all_end : (before : List Digest) (id : Digest) → AreDigests before → IsDiges
 all_end [] id each is = (is, tt)
 all_end (d ∷ before) id each is = (each.0, all_end before id each.1 is)
 
-ids_read : (count : ℕ) (before : List Digest) (bytes : List ℕ) (x : List Digest × List ℕ) → AreBytes bytes → read_ids count before bytes ≡ Ok x → IdsRead count before bytes x.0 x.1
+ids_read : (count : ℕ) (before : List Digest) (bytes : List ℕ) (x : List Digest × List ℕ) → AreBytes bytes → read_ids count before bytes ≡ Ok x
+    → IdsRead count before bytes x.0 x.1
 unfolding read_ids
 ids_read zero before bytes x fits h =
-    subst (λ (y : List Digest × List ℕ). IdsRead 0 before bytes y.0 y.1) (ok_is (before, bytes) x h) (record { spelled = refl; rest_fits = fits; count = omega arith; each = λ a. a })
+    subst (λ (y : List Digest × List ℕ). IdsRead 0 before bytes y.0 y.1) (ok_is (before, bytes) x h)
+    (record { spelled = refl; rest_fits = fits; count = omega arith; each = λ a. a })
 ids_read (suc count) before bytes x fits h =
     let a = bind_ok (read_bytes 32 bytes) (λ id. read_ids count (before ++ id_of id.0 ∷ []) id.1) x h in
     let id = id_of a.0.0 in
@@ -78,14 +87,16 @@ ids_read (suc count) before bytes x fits h =
     let here : ids_spelling (before ++ id ∷ []) ≡ ids_spelling before ++ a.0.0 =
     flat_map-append (λ (d : Digest). d.0) before (id ∷ []) ∙ ap (λ l. ids_spelling before ++ l) (append-nil a.0.0) in
     record {
-      spelled = ap (λ l. ids_spelling before ++ l) one.0.parts ∙ sym (append_assoc (ids_spelling before) a.0.0 a.0.1) ∙ ap (λ l. l ++ a.0.1) (sym here) ∙ more.spelled;
+      spelled = ap (λ l. ids_spelling before ++ l) one.0.parts ∙ sym (append_assoc (ids_spelling before) a.0.0 a.0.1) ∙ ap (λ l. l ++ a.0.1) (sym here)
+          ∙ more.spelled;
       rest_fits = more.rest_fits;
       count = omega (arith, more.count, length-append before (id ∷ []));
       each = λ h. more.each (all_end before id h (record { long = len; bytes = one.1 }));
     }
 
 -- there are as many as their count says
-ids_count : (count : ℕ) (before : List Digest) (bytes : List ℕ) (x : List Digest × List ℕ) → read_ids count before bytes ≡ Ok x → length x.0 ≡ length before + count
+ids_count : (count : ℕ) (before : List Digest) (bytes : List ℕ) (x : List Digest × List ℕ) → read_ids count before bytes ≡ Ok x
+    → length x.0 ≡ length before + count
 unfolding read_ids
 ids_count zero before bytes x h = omega (arith, ap (λ (y : List Digest × List ℕ). length y.0) (ok_is (before, bytes) x h))
 ids_count (suc count) before bytes x h =
@@ -148,10 +159,22 @@ Made = Result (CommitRecordValue × List ℕ) FieldFault
 
 abbrev from_metadata : Digest → ℕ → ℕ → List Digest → List ℕ → List ℕ → List ℕ → Made
 from_metadata root generation date parents committer message bytes =
-    read_metadata bytes >>= λ metadata. Ok (record { meta_range = root; generation = generation; date = date; parents = parents; committer = committer; message = message; metadata = metadata.0 }, metadata.1)
+    read_metadata bytes >>= λ metadata. Ok (
+      record {
+        meta_range = root;
+        generation = generation;
+        date = date;
+        parents = parents;
+        committer = committer;
+        message = message;
+        metadata = metadata.0;
+      },
+      metadata.1,
+    )
 
 abbrev from_message : Digest → ℕ → ℕ → List Digest → List ℕ → List ℕ → Made
-from_message root generation date parents committer bytes = read_long_text 65536 bytes >>= λ message. from_metadata root generation date parents committer message.0 message.1
+from_message root generation date parents committer bytes =
+    read_long_text 65536 bytes >>= λ message. from_metadata root generation date parents committer message.0 message.1
 
 abbrev from_committer : Digest → ℕ → ℕ → List Digest → List ℕ → Made
 from_committer root generation date parents bytes = read_text 1 128 bytes >>= λ committer. from_message root generation date parents committer.0 committer.1
@@ -175,7 +198,8 @@ commit_parts bytes c rest h =
     let x4 = bind_ok (read_parents x3.0.1) (λ parents. from_committer root x2.0.0 x3.0.0 parents.0 parents.1) (c, rest) x3.2 in
     let x5 = bind_ok (read_text 1 128 x4.0.1) (λ committer. from_message root x2.0.0 x3.0.0 x4.0.0 committer.0 committer.1) (c, rest) x4.2 in
     let x6 = bind_ok (read_long_text 65536 x5.0.1) (λ message. from_metadata root x2.0.0 x3.0.0 x4.0.0 x5.0.0 message.0 message.1) (c, rest) x5.2 in
-    let made : List (List ℕ × List ℕ) → CommitRecordValue = λ metadata. record { meta_range = root; generation = x2.0.0; date = x3.0.0; parents = x4.0.0; committer = x5.0.0; message = x6.0.0; metadata = metadata } in
+    let made : List (List ℕ × List ℕ) → CommitRecordValue =
+    λ metadata. record { meta_range = root; generation = x2.0.0; date = x3.0.0; parents = x4.0.0; committer = x5.0.0; message = x6.0.0; metadata = metadata } in
     let x7 = bind_ok (read_metadata x6.0.1) (λ metadata. Ok (made metadata.0, metadata.1)) (c, rest) x6.2 in
     let parts : CommitParts bytes (made x7.0.0) x7.0.1 = record {
       after_root = x1.0.1;
@@ -201,7 +225,8 @@ fields_spelling c =
     ++ (to_be_bytes w16 (length c.parents) ++ (ids_spelling c.parents
     ++ (short_text c.committer ++ (long_text c.message ++ pairs_spelling c.metadata))))))
 
-commit_takes : (bytes : List ℕ) (c : CommitRecordValue) (rest : List ℕ) → AreBytes bytes → read_commit bytes ≡ Ok (c, rest) → Takes bytes (fields_spelling c) rest × IsSpelledCommit c
+commit_takes : (bytes : List ℕ) (c : CommitRecordValue) (rest : List ℕ) → AreBytes bytes → read_commit bytes ≡ Ok (c, rest)
+    → Takes bytes (fields_spelling c) rest × IsSpelledCommit c
 commit_takes bytes c rest fits h =
     let p = commit_parts bytes c rest h in
     let t1 = bytes_takes 32 bytes c.meta_range.0 p.after_root fits p.root_read in
@@ -219,13 +244,18 @@ commit_takes bytes c rest fits h =
     let b5 = takes_then p.after_parents (short_text c.committer) p.after_committer _ rest t5 b6 in
     let count = to_be_bytes w16 (length c.parents) in
     let tail = short_text c.committer ++ (long_text c.message ++ pairs_spelling c.metadata) in
-    let b4 = subst (λ l. Takes p.after_date l rest) (append_assoc count (ids_spelling c.parents) tail) (takes_then p.after_date (count ++ ids_spelling c.parents) p.after_parents tail rest t4.takes b5) in
+    let b4 = subst (λ l. Takes p.after_date l rest) (append_assoc count (ids_spelling c.parents) tail)
+    (takes_then p.after_date (count ++ ids_spelling c.parents) p.after_parents tail rest t4.takes b5) in
     let b3 = takes_then p.after_generation (to_be_bytes w64 c.date) p.after_date _ rest t3.0 b4 in
     let b2 = takes_then p.after_root (to_be_bytes w64 c.generation) p.after_generation _ rest t2.0 b3 in
     let b1 = takes_then bytes c.meta_range.0 p.after_root _ rest t1.0 b2 in (
       b1,
       record {
-        commit = record { remark = record { some = committer.long; short = committer.short; short_message = message.short }; counted = g.1; few = parents_few p.after_date c.parents p.after_parents p.parents_read };
+        commit = record {
+          remark = record { some = committer.long; short = committer.short; short_message = message.short };
+          counted = g.1;
+          few = parents_few p.after_date c.parents p.after_parents p.parents_read;
+        };
         meta_range = record { long = len; bytes = t1.1 };
         parents = t4.each;
         generation = t2.1;
@@ -262,7 +292,8 @@ found (version ∷ fields) c fits h =
     let t = commit_takes fields c [] (λ i. fits (suc i)) (whole_ok (length (version ∷ fields)) (read_commit fields) c v.1) in
     (t.1, ap (λ n. n ∷ fields) (eqb-true version 1 v.0) ∙ ap (λ l. 1 ∷ l) (t.0.parts ∙ append-nil (fields_spelling c)))
   where
-    version_ok : (b : Bool) → cond b (whole (length (version ∷ fields)) (read_commit fields)) (Err (Version version)) ≡ Ok c → (b ≡ true) × (whole (length (version ∷ fields)) (read_commit fields) ≡ Ok c)
+    version_ok : (b : Bool) → cond b (whole (length (version ∷ fields)) (read_commit fields)) (Err (Version version)) ≡ Ok c
+        → (b ≡ true) × (whole (length (version ∷ fields)) (read_commit fields) ≡ Ok c)
     version_ok true e = (refl, e)
     version_ok false e = absurd cc
 
@@ -273,13 +304,15 @@ unfolding read_ids
 ids_again before [] rest each = ap (λ (l : List Digest). Ok (l, rest)) (sym (append-nil before))
 ids_again before (id ∷ ids) rest each =
     let tail = ids_spelling ids ++ rest in
-    let regrouped : ids_spelling (id ∷ ids) ++ rest ≡ id.0 ++ tail = ap (λ l. l ++ rest) (flat_map-cons (λ (d : Digest). d.0) id ids) ∙ append_assoc id.0 (ids_spelling ids) rest in
+    let regrouped : ids_spelling (id ∷ ids) ++ rest ≡ id.0 ++ tail =
+    ap (λ l. l ++ rest) (flat_map-cons (λ (d : Digest). d.0) id ids) ∙ append_assoc id.0 (ids_spelling ids) rest in
     ap (read_ids (suc (length ids)) before) regrouped
     ∙ ap (λ (r : Result (List ℕ × List ℕ) FieldFault). r >>= λ d. read_ids (length ids) (before ++ id_of d.0 ∷ []) d.1) (bytes_again 32 id.0 tail each.0.long)
     ∙ ids_again (before ++ id ∷ []) ids rest each.1
     ∙ ap (λ (l : List Digest). Ok (l, rest)) (append_assoc before (id ∷ []) ids)
 
-parents_again : (ids : List Digest) (rest : List ℕ) → length ids ≤ 2 → AreDigests ids → read_parents (to_be_bytes w16 (length ids) ++ (ids_spelling ids ++ rest)) ≡ Ok (ids, rest)
+parents_again : (ids : List Digest) (rest : List ℕ) → length ids ≤ 2 → AreDigests ids
+    → read_parents (to_be_bytes w16 (length ids) ++ (ids_spelling ids ++ rest)) ≡ Ok (ids, rest)
 unfolding read_parents
 parents_again ids rest le each =
     let few : ltb 2 (length ids) ≡ false = le-ltb _ _ le in

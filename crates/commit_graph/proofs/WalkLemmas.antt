@@ -1,5 +1,6 @@
 -- The walk of first parents, and where moves lead.
-use Rattle.std.proofs.Common.{◌≡◌, ℕ, zero, suc, ◌+◌, ◌<◌, ◌≤◌, List, [], ◌∷◌, ◌++◌, length, get_or, drop, Option, Some, None, Ok, Err, refl, sym, ap, subst, ◌∙◌, inl, inr, add-one, drop-cons, arith}
+use Rattle.std.proofs.Common.{◌≡◌, ℕ, zero, suc, ◌+◌, ◌<◌, ◌≤◌, List, [], ◌∷◌, ◌++◌, length, get_or, drop, Option, Some, None, Ok, Err, refl, sym, ap, subst}
+use Rattle.std.proofs.Common.{◌∙◌, inl, inr, add-one, drop-cons, arith}
 use Rattle.std.proofs.lemmas.Bool.{cases_lt}
 use Rattle.std.proofs.lemmas.List.{append-nil, nil_from_length, length-drop}
 use Rattle.std.specs.List.{Contains, slice_get}
@@ -23,19 +24,23 @@ starts_counted g id some = by (commit_of g id) refl some
 
 -- ---- the walk as a list
 
-pub walk_more : (g : Graph) (n : ℕ) (head at : Digest) (ids : List Digest) → ids ≡ walk_within n g head → back g n head ≡ Some at → ids ++ at ∷ [] ≡ walk_within (n + 1) g head
-walk_more g n head at ids so_far stands = ap (λ l. l ++ at ∷ []) so_far ∙ sym (ap (λ o. walk_within n g head ++ option_to_list o) stands) ∙ ap (λ k. walk_within k g head) (sym (add-one n))
+pub walk_more : (g : Graph) (n : ℕ) (head at : Digest) (ids : List Digest) → ids ≡ walk_within n g head → back g n head ≡ Some at
+    → ids ++ at ∷ [] ≡ walk_within (n + 1) g head
+walk_more g n head at ids so_far stands =
+    ap (λ l. l ++ at ∷ []) so_far ∙ sym (ap (λ o. walk_within n g head ++ option_to_list o) stands) ∙ ap (λ k. walk_within k g head) (sym (add-one n))
 
 ended : (g : Graph) (a n : ℕ) (head : Digest) → back g a head ≡ None → a ≤ n → walk_within a g head ≡ walk_within n g head
 ended g a zero head none le = let same : a ≡ 0 = omega arith in ap (λ k. walk_within k g head) same
 ended g a (suc n) head none le =
     elim (cases_lt n a) [
       | inl more ↦ let same : a ≡ suc n = omega arith in ap (λ k. walk_within k g head) same
-      | inr less ↦ ended g a n head none less ∙ sym (append-nil (walk_within n g head)) ∙ sym (ap (λ o. walk_within n g head ++ option_to_list o) (back_past g a n head none less))
+      | inr less ↦ ended g a n head none less ∙ sym (append-nil (walk_within n g head))
+          ∙ sym (ap (λ o. walk_within n g head ++ option_to_list o) (back_past g a n head none less))
     ]
 
 -- it ends where there is no first parent
-pub walk_ends : (g : Graph) (n : ℕ) (head at : Digest) (ids : List Digest) → ids ≡ walk_within n g head → back g n head ≡ Some at → None ≡ first_parent g at → n < generation g head → ids ++ at ∷ [] ≡ walk g head
+pub walk_ends : (g : Graph) (n : ℕ) (head at : Digest) (ids : List Digest) → ids ≡ walk_within n g head → back g n head ≡ Some at → None ≡ first_parent g at
+    → n < generation g head → ids ++ at ∷ [] ≡ walk g head
 unfolding walk
 walk_ends g n head at ids so_far stands none lt =
     walk_more g n head at ids so_far stands ∙ ended g (n + 1) (generation g head) head (back_ends g n head at stands none (n + 1) (omega arith)) (omega arith)
@@ -75,12 +80,14 @@ module _ (g : Graph) where
   moved_there graph (Parent zero) id to there is = let same : id ≡ to = cc in subst (λ (x : Digest). IsSome (commit_of g x)) same there
   moved_there graph (Parent (suc n)) id to there is = parent_there graph id n to is
 
-  pub resolved_there : IsGraph g → (moves : List Move) (i : ℕ) (id to : Digest) → IsSome (commit_of g id) → moves_target g i id moves ≡ Ok to → IsSome (commit_of g to)
+  pub resolved_there : IsGraph g → (moves : List Move) (i : ℕ) (id to : Digest) → IsSome (commit_of g id) → moves_target g i id moves ≡ Ok to
+      → IsSome (commit_of g to)
   resolved_there graph [] i id to there is = let same : id ≡ to = cc in subst (λ (x : Digest). IsSome (commit_of g x)) same there
   resolved_there graph (one ∷ moves) i id to there is = by (λ next. resolved_there graph moves (i + 1) next to) (move_target g one id) refl is
     where
       by : ((next : Digest) → IsSome (commit_of g next) → moves_target g (i + 1) next moves ≡ Ok to → IsSome (commit_of g to))
-          → (o : Option Digest) → move_target g one id ≡ o → option_map_or (λ next. moves_target g (i + 1) next moves) o (Err i) ≡ Ok to → IsSome (commit_of g to)
+          → (o : Option Digest) → move_target g one id ≡ o → option_map_or (λ next. moves_target g (i + 1) next moves) o (Err i) ≡ Ok to
+          → IsSome (commit_of g to)
       by more None was e = absurd cc
       by more (Some next) was e = more next (moved_there graph one id next there was) e
 

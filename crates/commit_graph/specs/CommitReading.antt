@@ -48,7 +48,18 @@ read_commit bytes = do
   committer ← read_text 1 128 parents.1
   message ← read_long_text 65536 committer.1
   metadata ← read_metadata message.1
-  Ok (record { meta_range = record { 0 = meta_range.0 }; generation = generation.0; date = date.0; parents = parents.0; committer = committer.0; message = message.0; metadata = metadata.0 }, metadata.1)
+  Ok (
+    record {
+      meta_range = record { 0 = meta_range.0 };
+      generation = generation.0;
+      date = date.0;
+      parents = parents.0;
+      committer = committer.0;
+      message = message.0;
+      metadata = metadata.0;
+    },
+    metadata.1,
+  )
 
 -- what a field's fault is to an input of n bytes: its place is counted from the front
 abbrev pub fault_of : ℕ → FieldFault → CommitFault

@@ -42,7 +42,8 @@ pub record IsScanned (bytes : List ℕ) (moves : List Move) (rest : List ℕ) : 
   pub front : List ℕ
   pub parts : bytes ≡ front ++ rest
   pub spelled : AreMoves moves front
-  pub forced : (others : List Move) (y : List ℕ) → BeginsLike rest y → AreMoves others (front ++ y) → (later : List Move) × (others ≡ moves ++ later) × AreMoves later y
+  pub forced : (others : List Move) (y : List ℕ) → BeginsLike rest y → AreMoves others (front ++ y)
+      → (later : List Move) × (others ≡ moves ++ later) × AreMoves later y
 
 -- Moves can't go on in an input of n bytes, at this place: so far they are scanned, and no move stands before the rest.
 pub record IsStopped (n : ℕ) (bytes : List ℕ) (place : ℕ) : Type 0 where

@@ -3,7 +3,8 @@ ghost use Rattle.std.specs.Prelude.{◌≡◌, List, [], ◌≤◌, length, Ok, 
 ghost use Rattle.lake_values.specs.Commit.{CommitRecordValue};
 ghost use Rattle.lake_format.specs.Spelling.{commit_spelling, IsSpelledCommit};
 ghost use Rattle.lake_format.specs.Reading.{ReadsAs};
-ghost use Rattle.commit_graph.specs.CommitReading.{Answers, read_generation, read_ids, read_parents, read_commit, commit_from};
+ghost use Rattle.commit_graph.specs.CommitReading.{Answers, read_generation, read_ids, read_parents, read_commit};
+ghost use Rattle.commit_graph.specs.CommitReading.{commit_from};
 
 use crate::fault::{CommitFault, fault_of};
 use lake_base::digest::Digest;

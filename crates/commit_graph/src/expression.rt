@@ -1,8 +1,10 @@
 //! Expressions of commits: a name, at most one `@`, and moves back, as `main~2^`.
-ghost use Rattle.std.specs.Prelude.{◌≡◌, ◌≤◌, ◌+◌, ◌-◌, ◌*◌, ◌++◌, ℕ, true, false, [], length, None, IfOk, MatchResult, MatchOption, option_map};
+ghost use Rattle.std.specs.Prelude.{◌≡◌, ◌≤◌, ◌+◌, ◌-◌, ◌*◌, ◌++◌, ℕ, true, false, [], length, None, IfOk, MatchResult};
+ghost use Rattle.std.specs.Prelude.{MatchOption, option_map};
 ghost use Rattle.lake_base.specs.Names.{ref_fault, begins_ref, continues_ref};
 ghost use Rattle.commit_graph.specs.Expressions.{RefExprValue, IsExpression, IsStray, at_sign, NoAt};
-ghost use Rattle.commit_graph.specs.Scanning.{takes_digit, number_from, read_number, read_move, IsScanned, StopsMoves, tail_len, name_len};
+ghost use Rattle.commit_graph.specs.Scanning.{takes_digit, number_from, read_number, read_move, IsScanned, StopsMoves};
+ghost use Rattle.commit_graph.specs.Scanning.{tail_len, name_len};
 ghost use Rattle.commit_graph.specs.declared.expression.ExprFault.TheVariants.{NoMemory as expr_no_memory};
 
 use lake_base::names::{NameFault, RefName};

@@ -2,12 +2,14 @@
 //!
 //! As an example, a first commit R; X and Y with the parent R; and M with the parents X and Y. Their generations
 //! are 1, 2, 2 and 3. From M, `~` and `^` lead to X, `^2` to Y, and `~2` and `^2~` to R; `~3` leads nowhere.
-ghost use Rattle.std.specs.Prelude.{◌≡◌, ◌≤◌, ◌<◌, ◌^◌, is_none, is_some, length, find, slice_get, IfOk, OnErr, IsSome, Some, MatchOption, option_copied, option_map};
+ghost use Rattle.std.specs.Prelude.{◌≡◌, ◌≤◌, ◌<◌, ◌^◌, is_none, is_some, length, find, slice_get, IfOk, OnErr, IsSome};
+ghost use Rattle.std.specs.Prelude.{Some, MatchOption, option_copied, option_map};
 ghost use Rattle.std.specs.FinMap.{len, empty, entries, insert, remove};
 ghost use Rattle.std.specs.Option.{option_and_then};
 ghost use Rattle.lake_base.specs.Digest.{sha256};
 ghost use Rattle.lake_format.specs.Spelling.{commit_spelling, commit_id};
-ghost use Rattle.lake_values.specs.Ancestry.{graph_of, commit_of, parents, generation, due_generation, first_parent, back, walk};
+ghost use Rattle.lake_values.specs.Ancestry.{graph_of, commit_of, parents, generation, due_generation, first_parent};
+ghost use Rattle.lake_values.specs.Ancestry.{back, walk};
 ghost use Rattle.commit_graph.specs.Graphs.{IsSound};
 ghost use Rattle.commit_graph.specs.Moves.{move_target, moves_target};
 ghost use Rattle.commit_graph.specs.Adding.{Refuses, missing_parent, untimely, clash, refusal};
@@ -137,8 +139,8 @@ impl Graph {
         let _commit = self.commits.remove(id);
     }
 
-    /// The generation due after these parents: one more than the greatest of theirs, and 1 after none. None exactly where
-    /// 64 bits don't hold it. It takes no memory.
+    /// The generation due after these parents: one more than the greatest of theirs, and 1 after none. None exactly
+    /// where 64 bits don't hold it. It takes no memory.
     pub fn due_after(&self, parents: &[CommitId]) -> Option<u64>
         ensures { MatchOption result (2 ^ 64 ≤ due_generation self.now parents.now)
             (λ due. due ≡ due_generation self.now parents.now) }

@@ -3,11 +3,13 @@
 //! Both are walks through ancestors in the order of the log: greatest generation first, and of one generation the
 //! least id. The base of two commits is the first that both walks come to. In the example of `graph`, X and Y have
 //! the base R, and the log of M, where X has the lesser id, is M, X, Y and R.
-ghost use Rattle.std.specs.Prelude.{◌≡◌, ◌≢◌, ◌↔◌, ◌<◌, ◌≤◌, true, ℕ, [], ◌∷◌, length, Option, IfOk, IfSome, IsSome, MatchOption, option_copied};
+ghost use Rattle.std.specs.Prelude.{◌≡◌, ◌≢◌, ◌↔◌, ◌<◌, ◌≤◌, true, ℕ, [], ◌∷◌, length, Option, IfOk, IfSome, IsSome};
+ghost use Rattle.std.specs.Prelude.{MatchOption, option_copied};
 ghost use Rattle.std.specs.List.{Contains, filter};
 ghost use Rattle.std.specs.List.Sorted.{IsStrictlySortedBy};
 ghost use Rattle.lake_base.specs.declared.digest.Digest.{Digest as Id};
-ghost use Rattle.lake_values.specs.Ancestry.{Graph as GraphValue, IsGraph, IsCommon, IsBase, commit_of, date, log_order, base};
+ghost use Rattle.lake_values.specs.Ancestry.{Graph as GraphValue, IsGraph, IsCommon, IsBase, commit_of, date};
+ghost use Rattle.lake_values.specs.Ancestry.{log_order, base};
 ghost use Rattle.lake_values.specs.Log.{IsInLog, is_after, is_since, is_in_log, log_after, log_page, log_pages};
 
 use crate::ancestors::Ancestors;
@@ -172,7 +174,8 @@ pub fn laws_of_logs()
         → Contains (log_after graph from after since) id ↔ IsInLog graph from after since id }
     ensures order { (graph : GraphValue) (from : Id) (after : Option Id) (since : Option ℕ)
         → IsStrictlySortedBy (log_order graph) (log_after graph from after since) }
-    ensures pages { (n : ℕ) (graph : GraphValue) (from : Id) (after : Option Id) (since : Option ℕ) (amount : ℕ) → 0 < amount
+    ensures pages { (n : ℕ) (graph : GraphValue) (from : Id) (after : Option Id) (since : Option ℕ) (amount : ℕ)
+        → 0 < amount
         → length (log_after graph from after since) ≤ n
         → log_pages n graph from after since amount ≡ log_after graph from after since }
     ensures more { (graph : GraphValue) (from : Id) (after : Option Id) (since : Option ℕ) (amount : ℕ) → 0 < amount

@@ -106,7 +106,8 @@ module _ (l : LakeStateValue) (sound : IsSound (state_of l)) (index : HasIndex l
   pub none_other : (name : Digest) (new kept : List ℕ) → other_content l name new ≡ None → IsKeptAs l name kept → new ≡ kept
   none_other name new kept none k =
       let both = or_none (other_than new (indexed_content l name)) (other_than new (get l.names.files name.0)) none in
-      elim (found_at name kept k.named k.are (get l.repositories k.are.repo) refl (sym (get_map_values repository_of l.repositories k.are.repo) ∙ k.are.in_lake)) [
+      elim (found_at name kept k.named k.are (get l.repositories k.are.repo) refl
+      (sym (get_map_values repository_of l.repositories k.are.repo) ∙ k.are.in_lake)) [
         | inl commit ↦ other_none new (indexed_content l name) kept both.0 commit
         | inr file ↦ other_none new (get l.names.files name.0) kept both.1 file
       ]
@@ -193,7 +194,8 @@ module _ (l : LakeStateValue) (sound : IsSound (state_of l)) (index : HasIndex l
       let own : tree ≡ files l.cut draft.objects = cc in
       record {
         clash = new_clash;
-        there = any_answer l sound index r draft (content ∷ tree) are (first_twins [] tree) (subst (λ all. AreTwinsOrNone all (first_twins [] tree)) own (twins_answer tree));
+        there = any_answer l sound index r draft (content ∷ tree) are (first_twins [] tree)
+            (subst (λ all. AreTwinsOrNone all (first_twins [] tree)) own (twins_answer tree));
         tells = tells;
       }
 

@@ -77,7 +77,8 @@ module _ (l : LakeStateValue) (repo : List ℕ) where
         (ap (λ o. cause_if (not (is_some o)) NoRef) (branch_found branch None is.1)))
 
     -- ---- the version of a branch that is there
-    module _ (given : VersionsGiven) (counts : HasVersions given l) (branch : List ℕ) (b : BranchStateValue) (has : get r.branches branch ≡ Some b) (version : ℕ) where
+    module _ (given : VersionsGiven) (counts : HasVersions given l) (branch : List ℕ) (b : BranchStateValue) (has : get r.branches branch ≡ Some b)
+        (version : ℕ) where
       version_is : (t : Bool) → (version == b.version) ≡ t
           → cause_if (not (version == branch_version given repo branch)) (Changed (branch_version given repo branch) (settings_version given repo))
           ≡ cause_if (not t) (Changed b.version r.settings)

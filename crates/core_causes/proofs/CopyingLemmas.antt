@@ -24,7 +24,8 @@ use Rattle.core_causes.specs.Finding.{FindsCopy, source_of}
 use Rattle.core_causes.specs.declared.copying.Copied.{Copied}
 use Rattle.core_causes.proofs.CommonLemmas.{asked, branch_found, branch_passes, protection_is, repository_passes, version_changed, version_passes}
 use Rattle.core_causes.proofs.ExpressionLemmas.{expression_refuses, name_passes, parent_passes}
-use Rattle.core_causes.proofs.FirstCauseLemmas.{change_passes, expired_refuses, nothing_refuses, path_refuses, protected_refuses, reference_refuses, version_refuses}
+use Rattle.core_causes.proofs.FirstCauseLemmas.{change_passes, expired_refuses, nothing_refuses, path_refuses, protected_refuses, reference_refuses}
+use Rattle.core_causes.proofs.FirstCauseLemmas.{version_refuses}
 
 module _ (l : LakeStateValue) (given : VersionsGiven) (counts : HasVersions given l) (repo branch : List ℕ) (version : ℕ) (e : RefExprValue) (from : List ℕ)
     (r : RepositoryStateValue) (at : get l.repositories repo ≡ Some r) (change : first_cause (causes_of_change (state_of l)) ≡ None) where

@@ -83,5 +83,8 @@ module _ (l : LakeStateValue) (repo : List ℕ) (r : RepositoryStateValue) (at :
           let name = name_passes l repo r at e id leads in
           let parent = parent_passes l repo r at e id leads in
           asks_for causes (in_it (state_of l) repo (λ x. target_in x e)) answer (MatchResult-weaker answer test
-          (λ x live. (nothing_refuses causes passes repository name parent refl free refl refl refl refl (expired_is ∙ live.1) refl, target_is l repo r at e id leads ∙ ap Some (sym live.0)))
+          (λ x live. (
+            nothing_refuses causes passes repository name parent refl free refl refl refl refl (expired_is ∙ live.1) refl,
+            target_is l repo r at e id leads ∙ ap Some (sym live.0),
+          ))
           (λ fault expired. expired_refuses causes passes repository name parent refl free refl refl refl refl fault (expired_is ∙ expired)))

@@ -21,7 +21,8 @@ use Rattle.core_state.specs.RepositoryStates.{RepositoryStateValue, repository_o
 use Rattle.core_state.specs.LakeStates.{LakeStateValue, state_of}
 use Rattle.core_causes.specs.Asking.{Asks}
 use Rattle.core_causes.proofs.CommonLemmas.{asked, branch_passes, protection_is, repository_passes, tested}
-use Rattle.core_causes.proofs.FirstCauseLemmas.{change_passes, default_branch_refuses, note_refuses, nothing_refuses, protected_refuses, reference_refuses, version_refuses}
+use Rattle.core_causes.proofs.FirstCauseLemmas.{change_passes, default_branch_refuses, note_refuses, nothing_refuses, protected_refuses, reference_refuses}
+use Rattle.core_causes.proofs.FirstCauseLemmas.{version_refuses}
 
 module _ (l : LakeStateValue) (repo : List ℕ) (r : RepositoryStateValue) (at : get l.repositories repo ≡ Some r)
     (change : first_cause (causes_of_change (state_of l)) ≡ None) where
@@ -103,4 +104,5 @@ module _ (l : LakeStateValue) (repo : List ℕ) (r : RepositoryStateValue) (at :
         let repository = repository_passes l repo r at in
         MatchResult-weaker answer test
         (λ x same. nothing_refuses causes passes repository refl refl (note_is false has) refl refl refl (version_is true same) refl refl refl)
-        (λ fault changed. version_refuses causes passes repository refl refl (note_is false has) refl refl refl fault (version_is false changed.1 ∙ ap Some (sym changed.0)))
+        (λ fault changed.
+        version_refuses causes passes repository refl refl (note_is false has) refl refl refl fault (version_is false changed.1 ∙ ap Some (sym changed.0)))

@@ -62,7 +62,8 @@ module _ (earlier : List (List ℕ)) (new : List ℕ) (none : twin_clash earlier
   kept_same (Some first) is same kept within name =
       let there = found_some (λ file. same_id (file_name file) (file_name new)) earlier first is in
       let first_is : new ≡ first =
-      other_none new (first_named file_name (file_name new) earlier) first (mapped_none _ (other_than new (first_named file_name (file_name new) earlier)) none) is in
+      other_none new (first_named file_name (file_name new) earlier) first
+      (mapped_none _ (other_than new (first_named file_name (file_name new) earlier)) none) is in
       same kept first within there.0 (name ∙ sym (same_name (file_name first) (file_name new) there.1)) ∙ sym first_is
 
   same_more : AreSame earlier → AreSame (earlier ++ new ∷ [])

@@ -12,16 +12,16 @@ ghost use Rattle.lake_model.specs.State.{Repository};
 ghost use Rattle.core_state.specs.Index.{HasIndex};
 ghost use Rattle.core_state.specs.LakeStates.{lake_value, state_of};
 ghost use Rattle.meta_range.specs.Provenance.{IsMadeFrom};
-ghost use Rattle.core_causes.specs.Clashing.{AreFound, AsksForBytes, TellsOrFails, clash_with, first_clash, first_twins, indexed_clash, indexed_content, other_content, other_than};
+ghost use Rattle.core_causes.specs.Clashing.{AreFound, AsksForBytes, TellsOrFails, clash_with, first_clash};
+ghost use Rattle.core_causes.specs.Clashing.{first_twins, indexed_clash, indexed_content, other_content, other_than};
 
 use commit_graph::commit_bytes;
+use core_state::LakeState;
 use lake_base::{Digest, NoMemory, Sequence};
 use lake_model::StepFault;
-use core_state::LakeState;
-use meta_range::{File, Tree};
+use meta_range::{File, Provenance, Tree};
 use std::alloc::Global;
 use std::collections::BTreeMap;
-use meta_range::Provenance;
 
 /// What the bytes of a new commit ask, given under its id, with its tree: neither they nor a file of the tree share a
 /// name with other bytes that are kept, and no two files of the tree share a name and differ. NameClash, NoMemory.
@@ -86,8 +86,8 @@ fn test_file(
 }
 
 // Whether nothing is found under the name of the file of a tree at a place, or a file that is the same. A range that is
-// known to be one of the trees' that the map was made from is kept; another is compared with a range by its rows, and isn't
-// written.
+// known to be one of the trees' that the map was made from is kept; another is compared with a range by its rows, and
+// isn't written.
 fn is_free(
     alloc: Global,
     lake: &LakeState,

@@ -10,11 +10,11 @@ ghost use Rattle.core_state.specs.RepositoryStates.{repository_of, repository_va
 ghost use Rattle.lake_model.specs.declared.fault.StepFault.TheVariants.{Changed, NoRef, NoRepo, Protected};
 ghost use Rattle.core_causes.specs.Asking.{Asks};
 
+use core_state::{BranchState, LakeState, RepositoryState};
 use hook_rules::protects;
 use lake_base::{RefName, RepoName};
 use lake_model::StepFault;
 use lake_model::history::HISTORY_LIMIT;
-use core_state::{BranchState, LakeState, RepositoryState};
 use lake_values::CommitId;
 
 /// What every change asks: the lake isn't stopped, and its history has room. Stopped, HistoryFull.

@@ -14,10 +14,10 @@ use crate::common::{
     branch_at, repository_at, test_change, test_live, test_protection, test_version,
 };
 use commit_graph::RefExpr;
-use lake_base::{Path, RefName, RepoName};
-use lake_model::StepFault;
 use core_readings::{entry_at, is_plain_branch, target};
 use core_state::{LakeState, RepositoryState};
+use lake_base::{Path, RefName, RepoName};
+use lake_model::StepFault;
 use lake_values::{CommitId, Entry};
 
 /// What a copy finds: the entry, and the commit where it isn't what a branch shows now.

@@ -1,5 +1,6 @@
 //! What a new head of a branch asks: by what it is guarded, and that it isn't expired.
-ghost use Rattle.std.specs.Prelude.{◌≡◌, ◌==◌, ◌&&◌, true, false, Some, None, MatchResult, option_and_then, option_map, if◌then◌else◌};
+ghost use Rattle.std.specs.Prelude.{◌≡◌, ◌==◌, ◌&&◌, true, false, Some, None, MatchResult, option_and_then, option_map};
+ghost use Rattle.std.specs.Prelude.{if◌then◌else◌};
 ghost use Rattle.std.specs.FinMap.{get};
 ghost use Rattle.std.specs.Option.{option_or};
 ghost use Rattle.lake_model.specs.declared.fault.StepFault.TheVariants.{Changed, Protected};
@@ -14,9 +15,9 @@ ghost use Rattle.core_state.specs.RepositoryStates.{repository_of, repository_va
 ghost use Rattle.core_causes.specs.Guarding.{guard_causes};
 
 use crate::common::{branch_at, repository_at, test_change, test_live, test_protection};
+use core_state::{BranchState, LakeState, RepositoryState};
 use lake_base::{RefName, RepoName};
 use lake_model::StepFault;
-use core_state::{BranchState, LakeState, RepositoryState};
 use lake_values::CommitId;
 
 /// The repository and the branch of a new head, which is guarded by versions: both are there, the branch is unprotected

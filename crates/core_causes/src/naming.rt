@@ -4,7 +4,8 @@ ghost use Rattle.std.specs.Option.{option_map_or};
 ghost use Rattle.lake_model.specs.declared.fault.StepFault.TheVariants.{Changed, NoNote};
 ghost use Rattle.lake_model.specs.NoteChanges.{note_at};
 ghost use Rattle.lake_model.specs.Soundness.{IsSound};
-ghost use Rattle.lake_model.specs.Steps.{create_branch_causes, create_tag_causes, delete_branch_causes, delete_tag_causes, in_it, set_note_causes, target_in};
+ghost use Rattle.lake_model.specs.Steps.{create_branch_causes, create_tag_causes, delete_branch_causes};
+ghost use Rattle.lake_model.specs.Steps.{delete_tag_causes, in_it, set_note_causes, target_in};
 ghost use Rattle.lake_model.specs.Versions.{VersionsGiven};
 ghost use Rattle.core_state.specs.Counts.{HasVersions};
 ghost use Rattle.core_state.specs.LakeStates.{lake_value, state_of};
@@ -13,10 +14,10 @@ ghost use Rattle.core_causes.specs.Asking.{Asks, AsksFor};
 
 use crate::common::{branch_at, repository_at, test_change, test_live, test_protection};
 use commit_graph::RefExpr;
-use lake_base::{RefName, RepoName};
-use lake_model::StepFault;
 use core_readings::target;
 use core_state::{LakeState, RepositoryState};
+use lake_base::{RefName, RepoName};
+use lake_model::StepFault;
 use lake_values::{CommitId, Note, NoteName};
 
 /// What a new branch asks, and the commit that it starts from: the expression leads to a commit that isn't expired, and

@@ -10,9 +10,9 @@ ghost use Rattle.core_causes.specs.Clashing.{AsksToCreate};
 
 use crate::clashes::test_clash;
 use crate::common::test_change;
+use core_state::LakeState;
 use lake_base::RepoName;
 use lake_model::StepFault;
-use core_state::LakeState;
 use meta_range::File;
 use std::alloc::Global;
 

@@ -8,9 +8,9 @@ ghost use Rattle.core_state.specs.LakeStates.{lake_value, state_of};
 ghost use Rattle.core_causes.specs.Asking.{Asks};
 
 use crate::common::{branch_at, repository_at, test_change, test_protection, test_version};
+use core_state::LakeState;
 use lake_base::{RefName, RepoName};
 use lake_model::{SealFor, StepFault};
-use core_state::LakeState;
 
 /// What a ticket and a reset ask: the branch is there and unprotected. Stopped, HistoryFull, NoRepo, NoRef, Protected.
 pub fn test_write(lake: &LakeState, repo: &RepoName, branch: &RefName) -> Result<(), StepFault>

@@ -87,7 +87,8 @@ pub record AreVersionsOf (of_branch : List ℕ → List ℕ → ℕ) (of_setting
   pub unset : (repo : List ℕ) → get repositories repo ≡ None → of_settings repo ≡ 0
 
 -- those of a lake
-pub versions_of : (given : VersionsGiven) (l : LakeStateValue) → HasVersions given l → AreVersionsOf (branch_version given) (settings_version given) l.repositories
+pub versions_of : (given : VersionsGiven) (l : LakeStateValue) → HasVersions given l
+    → AreVersionsOf (branch_version given) (settings_version given) l.repositories
 versions_of given l has = record {
   each = λ repo r is. record { branches = λ name b there. has.branches repo r name b is there; settings = has.settings repo r is };
   unset = has.unset;
@@ -107,7 +108,8 @@ lake_versions given l next references are = record {
 module _ (given : VersionsGiven) (repositories : ByteMap RepositoryStateValue) (repo : List ℕ) (change : RepositoryStateValue → RepositoryStateValue)
     (are : AreVersionsOf (branch_version given) (settings_version given) repositories) where
   -- a repository is changed, and its versions stay
-  pub versions_stay : ((of_branch : List ℕ → ℕ) (of_settings : ℕ) (r : RepositoryStateValue) → HasVersionsIn of_branch of_settings r → HasVersionsIn of_branch of_settings (change r))
+  pub versions_stay : ((of_branch : List ℕ → ℕ) (of_settings : ℕ) (r : RepositoryStateValue) → HasVersionsIn of_branch of_settings r
+      → HasVersionsIn of_branch of_settings (change r))
       → AreVersionsOf (branch_version given) (settings_version given) (changed_at repo change repositories)
   versions_stay keeps = record {
     each = all_changed (λ q r. HasVersionsIn (branch_version given q) (settings_version given q) r) repositories repo change
@@ -192,15 +194,18 @@ module _ (given : VersionsGiven) (repo name q : List ℕ) (of_settings : ℕ) (r
 -- ---- what operations do to a lake
 
 -- branches of a repository are changed, and their versions stay
-lake_stays : (given : VersionsGiven) (l : LakeStateValue) (repo name : List ℕ) (change : BranchStateValue → BranchStateValue) → ((b : BranchStateValue) → b.version ≡ (change b).version)
+lake_stays : (given : VersionsGiven) (l : LakeStateValue) (repo name : List ℕ) (change : BranchStateValue → BranchStateValue)
+    → ((b : BranchStateValue) → b.version ≡ (change b).version)
     → HasVersions given l → AreVersionsOf (branch_version given) (settings_version given) (in_branch repo name change l).repositories
 lake_stays given l repo name change same has =
     versions_stay given l.repositories repo (λ r. record r { branches = changed_at name change r.branches }) (versions_of given l has)
     (λ of_branch of_settings r is. branch_stays of_branch of_settings r is name change same)
 
 -- a branch is given the next version
-pub lake_rises : (given : VersionsGiven) (l : LakeStateValue) (repo name : List ℕ) (change : BranchStateValue → BranchStateValue) → ((b : BranchStateValue) → l.next_version ≡ (change b).version)
-    → HasVersions given l → AreVersionsOf (branch_version (with_branch_version repo name given)) (settings_version given) (in_branch repo name change l).repositories
+pub lake_rises : (given : VersionsGiven) (l : LakeStateValue) (repo name : List ℕ) (change : BranchStateValue → BranchStateValue)
+    → ((b : BranchStateValue) → l.next_version ≡ (change b).version)
+    → HasVersions given l
+    → AreVersionsOf (branch_version (with_branch_version repo name given)) (settings_version given) (in_branch repo name change l).repositories
 lake_rises given l repo name change next has =
     versions_rise given l.repositories repo (λ r. record r { branches = changed_at name change r.branches }) (versions_of given l has) name
     (λ q r tie is. branch_rises given repo name q (settings_version given q) r tie is change (λ b. has.next ∙ next b))

@@ -116,7 +116,8 @@ module _ (l : LakeStateValue) (repo branch : List ℕ) (date : ℕ) where
   pub created_rises : (given : VersionsGiven) → get l.repositories repo ≡ None → HasVersions given l
       → AreVersionsOf (branch_version (with_branch_version repo branch given)) (settings_version given) (insert l.repositories repo founded)
   created_rises given none has = record {
-    each = λ q r is. all_inserted (λ q r. HasVersionsIn (branch_version (with_branch_version repo branch given) q) (settings_version given q) r) l.repositories repo founded
+    each = λ q r is.
+        all_inserted (λ q r. HasVersionsIn (branch_version (with_branch_version repo branch given) q) (settings_version given q) r) l.repositories repo founded
         (λ q tie. branch_begins given repo branch q (settings_version given q) (record founded { branches = empty }) tie (record {
           branches = λ name b there. absurd (let nothing = get_empty {X = BranchStateValue} name in cc);
           settings = ap (settings_version given) (same_text q repo (sym tie)) ∙ has.unset repo none;
@@ -133,7 +134,8 @@ module _ (l : LakeStateValue) (repo branch : List ℕ) (date : ℕ) where
   created_below below = λ q r name b is there.
       all_inserted (λ q r. (name : List ℕ) (b : BranchStateValue) → get r.branches name ≡ Some b → HasTokensBelow (l.next_token + 1) b)
       l.repositories repo founded
-      (λ q tie name b there. subst (HasTokensBelow (l.next_token + 1)) (only branch (new_branch l.next_version (first_id l.cut date) l.next_token) name b there).value
+      (λ q tie name b there.
+      subst (HasTokensBelow (l.next_token + 1)) (only branch (new_branch l.next_version (first_id l.cut date) l.next_token) name b there).value
       (new_below l.next_version (first_id l.cut date) l.next_token))
       (λ q r apart is name b there. below_later l.next_token b (below q r name b is there))
       q r is name b there

@@ -165,7 +165,8 @@ module _ (l m : LakeStateValue) (same : map_values held m.repositories ≡ map_v
   }
 
 -- a repository of it is changed
-pub index_changed : (l m : LakeStateValue) (repo : List ℕ) (change : RepositoryStateValue → RepositoryStateValue) → ((r : RepositoryStateValue) → held (change r) ≡ held r)
+pub index_changed : (l m : LakeStateValue) (repo : List ℕ) (change : RepositoryStateValue → RepositoryStateValue)
+    → ((r : RepositoryStateValue) → held (change r) ≡ held r)
     → HasIndex l → HasIndex (record m { cut = l.cut; names = l.names; repositories = changed_at repo change l.repositories })
 index_changed l m repo change same =
     index_stays l (record m { repositories = changed_at repo change l.repositories }) (held_stays l.repositories repo change same)
@@ -176,4 +177,5 @@ pub index_ticketed : (l : LakeStateValue) (repo name path : List ℕ) (change : 
 index_ticketed l repo name path change None has =
     index_changed l (with_entry l) repo (λ r. record r { branches = changed_at name (branch_after (Stage path change)) r.branches }) (λ r. refl) has
 index_ticketed l repo name path change (Some number) has =
-    index_changed l (with_entry (without_ticket number l)) repo (λ r. record r { branches = changed_at name (branch_after (Stage path change)) r.branches }) (λ r. refl) has
+    index_changed l (with_entry (without_ticket number l)) repo (λ r. record r { branches = changed_at name (branch_after (Stage path change)) r.branches })
+    (λ r. refl) has

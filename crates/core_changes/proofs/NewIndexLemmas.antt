@@ -94,7 +94,8 @@ module _ (l : LakeStateValue) (repo branch : List ℕ) (date : ℕ) (ready : Awa
   homes_by : (i : Digest) (test : Bool) → bytes_eq i.0 id.0 ≡ test → (spelling : List ℕ)
       → (test ≡ true → commit_spelling (first_record l.cut date) ≡ spelling)
       → (test ≡ false → option_map commit_spelling (indexed_commit l i) ≡ Some spelling)
-      → option_map commit_spelling (option_and_then (λ home. commit_in i (get now.repositories home)) (cond test (Some repo) (get l.names.homes i.0))) ≡ Some spelling
+      → option_map commit_spelling (option_and_then (λ home. commit_in i (get now.repositories home)) (cond test (Some repo) (get l.names.homes i.0)))
+      ≡ Some spelling
   homes_by i true tie spelling first other =
       ap (option_map commit_spelling) (first_found i (same_text i.0 id.0 (sym tie))) ∙ ap Some (first refl)
   homes_by i false apart spelling first other = still_found i (get l.names.homes i.0) spelling (other refl)

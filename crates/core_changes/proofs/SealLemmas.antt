@@ -21,8 +21,15 @@ pub sealed_branch : (b : BranchState) (fresh version spare : ℕ)
 unfolding record_after_seal
 sealed_branch b fresh version spare =
     elim (contains_key b.tokens.changes b.record.staging) as (λ there.
-    branch_value (record { «record» = record (cond there (record b.record { staging = fresh; sealed = b.record.staging ∷ b.record.sealed }) b.record) { version = version; spare = spare }; tokens = b.tokens })
-    ≡ record (cond there (record (branch_value b) { staging = fresh; sealed = b.record.staging ∷ b.record.sealed }) (branch_value b)) { version = version }) [ true ↦ refl | false ↦ refl ]
+    branch_value (record {
+      «record» = record (cond there (record b.record { staging = fresh; sealed = b.record.staging ∷ b.record.sealed }) b.record) {
+        version = version;
+        spare = spare;
+      };
+      tokens = b.tokens;
+    })
+    ≡ record (cond there (record (branch_value b) { staging = fresh; sealed = b.record.staging ∷ b.record.sealed }) (branch_value b)) { version = version })
+    [ true ↦ refl | false ↦ refl ]
 
 -- the next token is unused, where every token of the branch is below it
 pub next_unused : (next : ℕ) (b : BranchStateValue) → HasTokensBelow next b → IsUnused b next

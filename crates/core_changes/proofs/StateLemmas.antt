@@ -54,7 +54,8 @@ repository_seen l repo change other alike =
 
 -- a branch is changed
 branch_seen : (l : LakeStateValue) (repo name : List ℕ) (change : BranchStateValue → BranchStateValue) (other : Branch → Branch)
-    → ((r : RepositoryStateValue) (b : BranchStateValue) → get l.repositories repo ≡ Some r → get r.branches name ≡ Some b → branch_of (change b) ≡ other (branch_of b))
+    → ((r : RepositoryStateValue) (b : BranchStateValue) → get l.repositories repo ≡ Some r → get r.branches name ≡ Some b
+    → branch_of (change b) ≡ other (branch_of b))
     → state_of (in_branch repo name change l) ≡ state.in_branch repo name other (state_of l)
 branch_seen l repo name change other alike =
     repository_seen l repo (λ r. record r { branches = changed_at name change r.branches }) (λ r. record r { branches = changed_at name other r.branches })
@@ -119,7 +120,8 @@ pub made_seen : (l : LakeStateValue) (repo name : List ℕ) (version : ℕ) (com
     ≡ state.in_branches repo (λ branches. insert branches name (clean_branch commit)) (state_of l)
 made_seen l repo name version commit token =
     repository_seen l repo _ _ (λ r is. ap (λ branches. record (repository_of r) { branches = branches })
-    (map_values_insert branch_of r.branches name (new_branch version commit token) ∙ ap (insert (map_values branch_of r.branches) name) (new_seen version commit token)))
+    (map_values_insert branch_of r.branches name (new_branch version commit token)
+    ∙ ap (insert (map_values branch_of r.branches) name) (new_seen version commit token)))
 
 -- a branch goes
 pub gone_seen : (l : LakeStateValue) (repo name : List ℕ)

@@ -59,7 +59,8 @@ turned : (a b : ℕ) → eq_by_cmp nat_cmp a b ≡ eq_by_cmp nat_cmp b a
 turned a b = unsigned_tied a b ∙ nat_eq_equiv.symm a b ∙ sym (unsigned_tied b a)
 
 -- ---- rows in order, and others that differ from them at one number
-module _ (rows others : TicketRows) (number : ℕ) (ascend : IsStrictlySortedBy nat_cmp (keys_of rows)) (ascended : IsStrictlySortedBy nat_cmp (keys_of others)) where
+module _ (rows others : TicketRows) (number : ℕ) (ascend : IsStrictlySortedBy nat_cmp (keys_of rows))
+    (ascended : IsStrictlySortedBy nat_cmp (keys_of others)) where
   found : (w : Option (Option ℕ)) → ((q : ℕ) → row_of others q ≡ cond (eq_by_cmp nat_cmp number q) w (row_of rows q))
       → (q : ℕ) → get (tickets_of others) q ≡ cond (eq_by_cmp nat_cmp q number) (seat_of w) (get (tickets_of rows) q)
   found w h q =
@@ -91,5 +92,6 @@ module _ (rows others : TicketRows) (number : ℕ) (ascend : IsStrictlySortedBy 
 
       by : (q : ℕ) (b : Bool) → eq_by_cmp nat_cmp q number ≡ b → cond b None (get (tickets_of rows) q) ≡ get (tickets_of rows) q
       by q true e =
-          sym (get_tickets rows ascend q ∙ ap (λ n. seat_of (row_of rows n)) (eqb-true q number (sym (unsigned_tied q number) ∙ e)) ∙ absent (row_of rows number) none)
+          sym (get_tickets rows ascend q ∙ ap (λ n. seat_of (row_of rows n)) (eqb-true q number (sym (unsigned_tied q number) ∙ e))
+          ∙ absent (row_of rows number) none)
       by q false e = refl

@@ -108,7 +108,8 @@ abbrev AreBelowIn : ℕ → ByteMap RepositoryStateValue → Type 0
 AreBelowIn next repositories = (repo : List ℕ) (r : RepositoryStateValue) (name : List ℕ) (b : BranchStateValue)
     → get repositories repo ≡ Some r → get r.branches name ≡ Some b → HasTokensBelow next b
 
-module _ (l : LakeStateValue) (below : AreTokensBelow l) (next : ℕ) (later : (b : BranchStateValue) → HasTokensBelow l.next_token b → HasTokensBelow next b) (repo : List ℕ) where
+module _ (l : LakeStateValue) (below : AreTokensBelow l) (next : ℕ) (later : (b : BranchStateValue) → HasTokensBelow l.next_token b → HasTokensBelow next b)
+    (repo : List ℕ) where
   -- a repository is changed
   repository_below : (change : RepositoryStateValue → RepositoryStateValue)
       → ((r : RepositoryStateValue) → AreBelow l.next_token r.branches → AreBelow next (change r).branches)
@@ -162,7 +163,8 @@ module _ (l : LakeStateValue) (below : AreTokensBelow l) (repo : List ℕ) where
   -- staged changes are sealed
   pub seal_below : (name : List ℕ) (version : ℕ) → AreBelowIn (l.next_token + 1) (in_branch repo name (branch_after (Seal l.next_token version)) l).repositories
   seal_below name version =
-      branch_below l below (l.next_token + 1) (below_later l.next_token) repo name (branch_after (Seal l.next_token version)) (λ b h. sealed_below l.next_token b h version)
+      branch_below l below (l.next_token + 1) (below_later l.next_token) repo name (branch_after (Seal l.next_token version))
+      (λ b h. sealed_below l.next_token b h version)
 
 -- a change is staged, and the ticket of its number goes
 pub ticketed_below : (l : LakeStateValue) (repo name path : List ℕ) (change : Change) (number : Option ℕ) → AreTokensBelow l

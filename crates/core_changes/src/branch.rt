@@ -4,8 +4,8 @@ ghost use Rattle.core_state.specs.BranchStates.{branch_value, new_branch};
 ghost use Rattle.core_changes.specs.BranchChanges.{HasRoom, HasRoomTo, FitsBranch, branch_after};
 
 use branch_record::{BranchRecord, Tokens};
-use lake_base::{NoMemory, Path};
 use core_state::BranchState;
+use lake_base::{NoMemory, Path};
 use lake_values::{Change, CommitId, ResetWhat};
 use std::alloc::Global;
 

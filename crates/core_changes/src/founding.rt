@@ -7,8 +7,8 @@ ghost use Rattle.core_changes.specs.LakeChanges.{after_repository_create};
 ghost use Rattle.core_changes.specs.NewRepositories.{IsNew};
 
 use crate::places::{make_place, put_in_place};
-use lake_base::{Digest, NoMemory, RepoName};
 use core_state::{FilePlace, LakeState, RepositoryState};
+use lake_base::{Digest, NoMemory, RepoName};
 use lake_values::CommitId;
 use std::alloc::Global;
 

@@ -14,13 +14,16 @@ ghost use Rattle.core_state.specs.LakeStates.{lake_value, tickets_of};
 ghost use Rattle.core_changes.specs.RepositoryChanges.{HasRoomFor, HasRoomIn, FitsRepository, repository_after};
 ghost use Rattle.core_changes.specs.FreshTokens.{AreTokensBelow};
 ghost use Rattle.core_changes.specs.LakeRoom.{HasRoomAt, HasTicketRoom};
-ghost use Rattle.core_changes.specs.LakeChanges.{after_branch_create, after_branch_delete, after_copy, after_fault, after_head, after_note_set, after_reset, after_seal, after_stage, after_tag_create, after_tag_delete, after_ticket_drop, after_ticket_take};
+ghost use Rattle.core_changes.specs.LakeChanges.{after_branch_create, after_branch_delete, after_copy, after_fault};
+ghost use Rattle.core_changes.specs.LakeChanges.{after_head, after_note_set, after_reset, after_seal, after_stage};
+ghost use Rattle.core_changes.specs.LakeChanges.{after_tag_create, after_tag_delete, after_ticket_drop};
+ghost use Rattle.core_changes.specs.LakeChanges.{after_ticket_take};
 
 use crate::branch::{BranchChange, branch_at};
 use crate::repository::{RepositoryChange, Room, change_repository, make_room_in};
 use byte_map::ByteMap;
-use lake_base::{NoMemory, Path, RefName, RepoName};
 use core_state::{LakeState, RepositoryState};
+use lake_base::{NoMemory, Path, RefName, RepoName};
 use lake_values::{Change, CommitId, Entry, Note, NoteName, Place, ResetWhat};
 use std::alloc::Global;
 use std::collections::BTreeMap;

@@ -11,7 +11,9 @@ ghost use Rattle.lake_values.specs.declared.settings.NoteName.{NoteName};
 ghost use Rattle.lake_model.specs.declared.history.By.{By};
 ghost use Rattle.lake_model.specs.declared.history.CopySource.{CopySource};
 ghost use Rattle.lake_model.specs.declared.history.Operation.{Operation};
-ghost use Rattle.lake_model.specs.declared.history.Operation.TheVariants.{BranchCreate, BranchDelete, Copy, NoteSet, RepoCreate, Reset, Seal, Stage, TagCreate, TagDelete, TicketDrop, TicketTake};
+ghost use Rattle.lake_model.specs.declared.history.Operation.TheVariants.{BranchCreate, BranchDelete, Copy, NoteSet};
+ghost use Rattle.lake_model.specs.declared.history.Operation.TheVariants.{RepoCreate, Reset, Seal, Stage, TagCreate};
+ghost use Rattle.lake_model.specs.declared.history.Operation.TheVariants.{TagDelete, TicketDrop, TicketTake};
 ghost use Rattle.lake_model.specs.declared.history.SealFor.{SealFor};
 ghost use Rattle.lake_model.specs.Commits.{IsAdmissible, bare_repository, first_draft};
 ghost use Rattle.lake_model.specs.Soundness.{IsSound};
@@ -21,7 +23,10 @@ ghost use Rattle.core_state.specs.Index.{HasIndex};
 ghost use Rattle.core_state.specs.Counts.{AreCounted, AreFew, HasVersions};
 ghost use Rattle.core_state.specs.LakeStates.{LakeStateValue, state_of};
 ghost use Rattle.core_changes.specs.FreshTokens.{AreTokensBelow};
-ghost use Rattle.core_changes.specs.LakeChanges.{after_branch_create, after_branch_delete, after_copy, after_fault, after_note_set, after_repository_create, after_reset, after_seal, after_stage, after_tag_create, after_tag_delete, after_ticket_drop, after_ticket_take};
+ghost use Rattle.core_changes.specs.LakeChanges.{after_branch_create, after_branch_delete, after_copy, after_fault};
+ghost use Rattle.core_changes.specs.LakeChanges.{after_note_set, after_repository_create, after_reset, after_seal};
+ghost use Rattle.core_changes.specs.LakeChanges.{after_stage, after_tag_create, after_tag_delete, after_ticket_drop};
+ghost use Rattle.core_changes.specs.LakeChanges.{after_ticket_take};
 
 /// What each operation makes of a lake is what its entry makes of the state that the lake stands for. Of a change that
 /// is staged, copied or sealed this needs tokens that differ and are below the next one.
@@ -88,7 +93,8 @@ pub fn laws_of_counts()
     ensures seal { (given : VersionsGiven) (l : LakeStateValue) (by : By) (repo branch : List ℕ) (why : SealFor)
         → HasVersions given l
         → HasVersions (versions_after given (accepted_entry by (Seal repo branch why))) (after_seal repo branch l) }
-    ensures branch_create { (given : VersionsGiven) (l : LakeStateValue) (by : By) (repo branch : List ℕ) (commit : Digest)
+    ensures branch_create { (given : VersionsGiven) (l : LakeStateValue) (by : By) (repo branch : List ℕ)
+        (commit : Digest)
         → HasVersions given l
         → HasVersions (versions_after given (accepted_entry by (BranchCreate repo branch commit)))
         (after_branch_create repo branch commit l) }
@@ -100,7 +106,8 @@ pub fn laws_of_counts()
         → HasVersions given l
         → HasVersions (versions_after given (accepted_entry by (TagCreate repo tag commit)))
         (after_tag_create repo tag commit l) }
-    ensures tag_delete { (given : VersionsGiven) (l : LakeStateValue) (by : By) (repo tag : List ℕ) → HasVersions given l
+    ensures tag_delete { (given : VersionsGiven) (l : LakeStateValue) (by : By) (repo tag : List ℕ)
+        → HasVersions given l
         → HasVersions (versions_after given (accepted_entry by (TagDelete repo tag))) (after_tag_delete repo tag l) }
     ensures note_set { (given : VersionsGiven) (l : LakeStateValue) (by : By) (repo : List ℕ)
         (name : NoteName) (note : Option Note)
@@ -120,7 +127,8 @@ pub fn laws_of_counts()
 
 /// The tokens of each branch stay below the next one, and differ.
 pub fn laws_of_tokens()
-    ensures ticket_take { (l : LakeStateValue) (seat : ℕ) → AreTokensBelow l → AreTokensBelow (after_ticket_take seat l) }
+    ensures ticket_take { (l : LakeStateValue) (seat : ℕ) → AreTokensBelow l
+        → AreTokensBelow (after_ticket_take seat l) }
     ensures ticket_drop { (l : LakeStateValue) (number : ℕ)
         → AreTokensBelow l → AreTokensBelow (after_ticket_drop number l) }
     ensures stage { (l : LakeStateValue) (repo branch path : List ℕ) (change : Change)

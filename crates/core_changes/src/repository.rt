@@ -13,8 +13,8 @@ ghost use Rattle.core_changes.specs.RepositoryChanges.{HasRoomFor, HasRoomIn, Fi
 use crate::branch::{BranchChange, change_branch, make_room};
 use crate::places::{drop_place, make_place, put_in_place};
 use byte_map::ByteMap;
-use lake_base::{NoMemory, RefName};
 use core_state::{BranchState, RepositoryState};
+use lake_base::{NoMemory, RefName};
 use lake_values::{CommitId, Note, NoteName};
 use std::alloc::Global;
 

@@ -55,7 +55,8 @@ module _ (repo : List ℕ) (new : NewCommit) (l : LakeStateValue) (may : MayHave
       ap (λ repositories. record l { repositories = repositories })
       (changed_same l.repositories repo (with_commit new) (λ r is. has_same new r (may r is) (has r is)))
 
-  module _ (id : Digest) (named : new.id ≡ id) (with_it : LakeStateValue) (added : with_it ≡ in_repository repo (with_commit (record new { id = id })) l) (has : HasIn repo new l false) where
+  module _ (id : Digest) (named : new.id ≡ id) (with_it : LakeStateValue) (added : with_it ≡ in_repository repo (with_commit (record new { id = id })) l)
+      (has : HasIn repo new l false) where
     was_added : with_it ≡ in_repository repo (with_commit new) l
     was_added = added ∙ ap (λ (id : Digest). in_repository repo (with_commit (record new { id = id })) l) (sym named)
 
@@ -89,7 +90,8 @@ module _ {K X : Type 0} (view : KeeperView K) (by : By) (operation : Operation) 
 
   module _ (repo : List ℕ) (new : NewCommit) where
     -- where the commit was there before
-    pub keeps_known : (result : Result X StepFault) (before after : Parts K) → in_repository repo (with_commit new) (lake_value before.present) ≡ lake_value before.present
+    pub keeps_known : (result : Result X StepFault) (before after : Parts K)
+        → in_repository repo (with_commit new) (lake_value before.present) ≡ lake_value before.present
         → Keeps view by (unmade operation puts) result before after → Keeps view by (commit_added repo new operation puts) result before after
     keeps_known (Ok x) before after same keeps = record {
       history = keeps.history;

@@ -44,7 +44,8 @@ module _ (r : RepositoryStateValue) where
     merge_of strategy = record {
       strategy = strategy;
       map =
-          ap (λ m. merged_map strategy m (map_of (repository_of r) of_source) (map_of (repository_of r) of_dest)) (sym (map_there r of_base base (sym has_base)))
+          ap (λ m. merged_map strategy m (map_of (repository_of r) of_source) (map_of (repository_of r) of_dest))
+          (sym (map_there r of_base base (sym has_base)))
           ∙ ap (λ m. merged_map strategy base.map m (map_of (repository_of r) of_dest)) (sym (map_there r of_source source (sym has_source)))
           ∙ ap (merged_map strategy base.map source.map) (sym (map_there r of_dest dest (sym has_dest)));
     }

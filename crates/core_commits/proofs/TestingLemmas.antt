@@ -105,7 +105,8 @@ module _ (l : LakeStateValue) (sound : IsSound (state_of l)) (index : HasIndex l
       expired_refused fault is (Err e) same = record {
         clash = any_clash.clash;
         there = any_clash.there;
-        tells = inr (rest any_clash.clash ∙ first_tells (swap_expired (state_of l) repo branch rule) (clash_fault any_clash.clash) fault is ∙ ap Some (sym same));
+        tells =
+            inr (rest any_clash.clash ∙ first_tells (swap_expired (state_of l) repo branch rule) (clash_fault any_clash.clash) fault is ∙ ap Some (sym same));
       }
       expired_refused fault is (Ok x) same = absurd same
 
@@ -216,7 +217,8 @@ module _ (l : LakeStateValue) (repo branch : List ℕ) (swap : SwapKind) (about 
   pub expired_is : swap_expired (state_of l) repo branch (swap_rule swap about)
       ≡ option_or (option_and_then (expired_fault (repository_of r)) (swap_rule swap about).source) (expired_fault (repository_of r) new.content.name)
   expired_is =
-      expired_there (state_of l) repo branch (swap_rule swap about) (repository_of r) (branch_of b) (in_state l repo branch r b at on) (on_state l repo branch r b at on)
+      expired_there (state_of l) repo branch (swap_rule swap about) (repository_of r) (branch_of b) (in_state l repo branch r b at on)
+      (on_state l repo branch r b at on)
       ∙ ap (λ id. option_or (option_and_then (expired_fault (repository_of r)) (swap_rule swap about).source) (expired_fault (repository_of r) id))
       (sym (ap (λ (n : NewCommit). n.id) is))
 

@@ -33,7 +33,8 @@ draft_for swap about r b = (swap_rule swap about).draft (repository_of r) (branc
 
 -- A new head is the commit of what is drafted, where the tree that was built is that of the draft; it is within its limits,
 -- and its bytes are that commit's.
-pub record IsDrafted (cut : Cut) (r : RepositoryStateValue) (b : BranchStateValue) (swap : SwapKind) (about : AboutValue) (built : TreeValue) (new : NewHead) : Type 0 where
+pub record IsDrafted (cut : Cut) (r : RepositoryStateValue) (b : BranchStateValue) (swap : SwapKind) (about : AboutValue) (built : TreeValue)
+    (new : NewHead) : Type 0 where
   pub content : new.content ≡ file_of (commit_spelling new.commit)
   pub limits : IsSpelledCommit new.commit
   pub tree : new.tree.value ≡ built

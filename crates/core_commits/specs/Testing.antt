@@ -39,7 +39,8 @@ pub record IsNewHead (l : LakeStateValue) (repo branch : List ℕ) (swap : SwapK
 
 -- What the test of a new head answers: for a clash of its commit that is there, or for none where there is none, it tells
 -- the first cause.
-pub record AsksForHead {X : Type 0} (l : LakeStateValue) (given : VersionsGiven) (repo branch : List ℕ) (version settings : ℕ) (swap : SwapKind) (about : AboutValue) (answer : Result X StepFault) : Type 0 where
+pub record AsksForHead {X : Type 0} (l : LakeStateValue) (given : VersionsGiven) (repo branch : List ℕ) (version settings : ℕ) (swap : SwapKind)
+    (about : AboutValue) (answer : Result X StepFault) : Type 0 where
   pub clash : Option Clash
   pub there : IsSwapClash (state_of l) repo branch (swap_rule swap about) clash
   pub tells : TellsOrFails (first_cause (swap_causes (state_of l) given repo branch version settings (swap_rule swap about) clash)) answer

@@ -10,8 +10,8 @@ ghost use Rattle.core_state.specs.RepositoryStates.{RepositoryStateValue, reposi
 ghost use Rattle.core_changes.specs.LakeChanges.{in_repository};
 ghost use Rattle.core_commits.specs.HeadOperations.{without_commit};
 
-use lake_base::{NoMemory, RepoName};
 use core_state::{LakeState, RepositoryState};
+use lake_base::{NoMemory, RepoName};
 use lake_values::{CommitId, CommitRecord};
 use meta_range::Tree;
 use std::alloc::Global;

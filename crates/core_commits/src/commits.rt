@@ -6,9 +6,9 @@ ghost use Rattle.core_state.specs.RepositoryStates.{repository_value};
 ghost use Rattle.core_commits.specs.HeadOperations.{IsDrafted, swap_parents};
 
 use core_puts::commit_file;
+use core_state::{BranchState, RepositoryState};
 use lake_base::{Digest, NoMemory, Sequence};
 use lake_model::SwapKind;
-use core_state::{BranchState, RepositoryState};
 use lake_values::{About, CommitId, CommitRecord};
 use meta_range::{File, Tree};
 use std::alloc::Global;

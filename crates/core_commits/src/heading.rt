@@ -7,9 +7,9 @@ ghost use Rattle.core_changes.specs.LakeChanges.{after_new_head, in_repository};
 ghost use Rattle.core_commits.specs.CommitNames.{AreNames, HasNamesRoom};
 
 use crate::naming::{NewNames, put_names};
-use lake_base::{RefName, RepoName};
 use core_changes::lake::set_head;
 use core_state::LakeState;
+use lake_base::{RefName, RepoName};
 use lake_values::CommitId;
 
 /// A commit that stands in its repository becomes the head of a branch: the index is told of it and of the files of its

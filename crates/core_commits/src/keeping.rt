@@ -11,11 +11,11 @@ ghost use Rattle.core_puts.specs.KeptChanges.{Keeps};
 ghost use Rattle.core_commits.specs.KeptHeads.{MayHaveIn, commit_added};
 
 use crate::adding::{add_commit, remove_commit};
+use core_puts::keep;
+use core_state::{LakeState, RepositoryState};
 use keeper::{Keeper, Put};
 use lake_base::RepoName;
-use core_puts::keep;
 use lake_model::{By, HistoryEntry, Operation, StepFault};
-use core_state::{LakeState, RepositoryState};
 use lake_values::{CommitId, CommitRecord};
 use meta_range::Tree;
 use std::alloc::Global;

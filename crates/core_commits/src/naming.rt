@@ -8,9 +8,9 @@ ghost use Rattle.core_state.specs.NewCommits.{with_files};
 ghost use Rattle.core_commits.specs.CommitNames.{AreNames, HasNamesRoom, HasPlace, with_named};
 
 use byte_map::ByteMap;
-use lake_base::{Digest, NoMemory, RepoName, TryCopy};
 use core_changes::places::{make_place, put_in_place};
 use core_state::{FilePlace, NameIndex};
+use lake_base::{Digest, NoMemory, RepoName, TryCopy};
 use lake_values::CommitId;
 use meta_range::Tree;
 use std::alloc::Global;

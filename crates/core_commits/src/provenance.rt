@@ -13,13 +13,12 @@ ghost use Rattle.meta_range.specs.Provenance.{IsMadeFrom};
 ghost use Rattle.core_commits.specs.HeadOperations.{draft_for};
 ghost use Rattle.core_commits.specs.HeadProvenance.{HasTreesOf};
 
+use core_state::{BranchState, RepositoryState};
 use lake_base::NoMemory;
 use lake_model::SwapKind;
-use core_state::{BranchState, RepositoryState};
 use lake_values::{Changes, CommitId};
-use meta_range::Tree;
+use meta_range::{Provenance, Tree};
 use std::alloc::Global;
-use meta_range::Provenance;
 
 /// What the map that is drafted for a branch is made from, over trees of the repository: for a commit the head's tree
 /// and the sealed changes, for a merge or a pick its three trees. It is a search for each tree, and one for the base of
@@ -59,7 +58,8 @@ fn changed<'a>(
     old: &CommitId,
     changes: &'a Changes,
 ) -> Provenance<'a>
-    ensures made { IsMadeFrom result (apply changes.now (map_of (repository_of (repository_value repository.now)) old.now)) }
+    ensures made { IsMadeFrom result
+        (apply changes.now (map_of (repository_of (repository_value repository.now)) old.now)) }
     ensures trees { HasTreesOf (repository_value repository.now) result }
 {
     match tree_at(repository, old) {

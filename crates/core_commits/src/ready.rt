@@ -9,11 +9,11 @@ ghost use Rattle.core_commits.specs.ReadyHeads.{IsReadyHead};
 
 use crate::commits::NewHead;
 use crate::naming::{NewNames, make_names_room, names_of};
+use core_puts::new_head_puts;
+use core_state::LakeState;
 use keeper::Put;
 use lake_base::{NoMemory, RefName, RepoName, TryCopy};
 use lake_model::{Operation, SwapKind};
-use core_puts::new_head_puts;
-use core_state::LakeState;
 use lake_values::{About, CommitRecord};
 use std::alloc::Global;
 

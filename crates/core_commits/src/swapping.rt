@@ -14,15 +14,15 @@ use crate::heading::make_head;
 use crate::keeping::keep_commit;
 use crate::ready::ready_head;
 use crate::testing::{Guard, test_head};
+use core_puts::place;
+use core_state::{LakeState, law_of_versions};
 use keeper::Keeper;
 use lake_base::{RefName, RepoName};
-use core_puts::place;
+use lake_laws::causes::laws_of_causes;
 use lake_model::{By, HistoryEntry, StepFault, SwapKind};
-use core_state::{LakeState, law_of_versions};
 use lake_values::{About, CommitId, CommitRecord};
 use meta_range::Tree;
 use std::alloc::Global;
-use lake_laws::causes::laws_of_causes;
 
 /// Makes a commit with this tree the head of a branch: the place of its entry, its id and what it says. Stopped,
 /// HistoryFull, NoRepo, NoRef, Protected for a commit, Changed, Expired, NameClash, StoreFault.
@@ -42,7 +42,8 @@ pub fn swap<K: Keeper>(
     requires sound { IsSound (state_of (lake_value present.old)) }
     requires index { HasIndex (lake_value present.old) }
     requires counted { AreCounted (lake_value present.old) }
-    requires tree { HasTreeFor (lake_value present.old) repo.now branch.now guard.version guard.settings kind about tree }
+    requires tree { HasTreeFor (lake_value present.old) repo.now branch.now guard.version guard.settings kind
+        about tree }
     ensures reply { (given : VersionsGiven) → HasVersions given (lake_value present.old)
         → IsSwapReply (state_of (lake_value present.old)) given repo.now branch.now guard.version guard.settings
         (swap_rule kind about) (head_answer result) }

@@ -12,10 +12,10 @@ ghost use Rattle.core_commits.specs.Testing.{AsksForHead, HasTreeFor, IsNewHead}
 use crate::commits::{NewHead, new_head};
 use crate::provenance::provenance_of;
 use crate::standing::law_of_standing;
-use lake_base::{RefName, RepoName, TryCopy};
 use core_causes::{test_guard, test_live_head, test_new_commit};
-use lake_model::{StepFault, SwapKind};
 use core_state::{LakeState, law_of_versions};
+use lake_base::{RefName, RepoName, TryCopy};
+use lake_model::{StepFault, SwapKind};
 use lake_values::{About, CommitId};
 use meta_range::Tree;
 use std::alloc::Global;
@@ -46,9 +46,11 @@ pub fn test_head(
 ) -> Result<NewHead, StepFault>
     requires sound { IsSound (state_of (lake_value lake.now)) }
     requires index { HasIndex (lake_value lake.now) }
-    requires tree { HasTreeFor (lake_value lake.now) repo.now branch.now guard.version guard.settings kind about.now tree }
+    requires tree { HasTreeFor (lake_value lake.now) repo.now branch.now guard.version guard.settings kind
+        about.now tree }
     ensures asks { (given : VersionsGiven) → HasVersions given (lake_value lake.now)
-        → AsksForHead (lake_value lake.now) given repo.now branch.now guard.version guard.settings kind about.now result }
+        → AsksForHead (lake_value lake.now) given repo.now branch.now guard.version guard.settings kind
+        about.now result }
     ensures found { IfOk result (IsNewHead (lake_value lake.now) repo.now branch.now kind about.now) }
     ensures room { OnOk result ((lake_value lake.now).entries < 4194304) }
 {

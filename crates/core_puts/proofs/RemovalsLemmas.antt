@@ -95,7 +95,8 @@ module _ (what : ResetWhat) (token : ℕ) where
   removals_first path paths = either (drops_path what path)
     where
       either : (b : Bool) → map (λ path. removed_put (Staged token path)) (cond b (path ∷ filter (drops_path what) paths) (filter (drops_path what) paths))
-          ≡ map (λ path. removed_put (Staged token path)) (cond b (path ∷ []) []) ++ map (λ path. removed_put (Staged token path)) (filter (drops_path what) paths)
+          ≡ map (λ path. removed_put (Staged token path)) (cond b (path ∷ []) []) ++ map (λ path. removed_put (Staged token path))
+          (filter (drops_path what) paths)
       either true = refl
       either false = refl
 
@@ -117,7 +118,8 @@ module _ (what : ResetWhat) (token : ℕ) where
   removals_dropped path drops = ap (λ b. map (λ path. removed_put (Staged token path)) (cond b (path ∷ []) [])) drops
 
   -- those of the rows from the start on are those of all
-  pub removals_from : (rows : Rows) → removals_at what token (map (λ row. row.0) (entries_from (reset_start what) rows)) ≡ removals_at what token (map (λ row. row.0) rows)
+  pub removals_from : (rows : Rows)
+      → removals_at what token (map (λ row. row.0) (entries_from (reset_start what) rows)) ≡ removals_at what token (map (λ row. row.0) rows)
   unfolding removals_at
   removals_from [] = refl
   removals_from (row ∷ rows) = by (is_lt (byte_order row.0 (reset_start what))) refl (removals_from rows)
@@ -130,12 +132,17 @@ module _ (what : ResetWhat) (token : ℕ) where
       either false xs ys same = same
 
       by : (b : Bool) → is_lt (byte_order row.0 (reset_start what)) ≡ b
-          → puts_of (filter (drops_path what) (map (λ row. row.0) (entries_from (reset_start what) rows))) ≡ puts_of (filter (drops_path what) (map (λ row. row.0) rows))
-          → puts_of (filter (drops_path what) (map (λ row. row.0) (cond (not b) (row ∷ entries_from (reset_start what) rows) (entries_from (reset_start what) rows))))
+          → puts_of (filter (drops_path what) (map (λ row. row.0) (entries_from (reset_start what) rows)))
+          ≡ puts_of (filter (drops_path what) (map (λ row. row.0) rows))
+          → puts_of
+          (filter (drops_path what) (map (λ row. row.0) (cond (not b) (row ∷ entries_from (reset_start what) rows) (entries_from (reset_start what) rows))))
           ≡ puts_of (filter (drops_path what) (map (λ row. row.0) (row ∷ rows)))
       by true low rest =
-          rest ∙ sym (ap (λ b. puts_of (cond b (row.0 ∷ filter (drops_path what) (map (λ row. row.0) rows)) (filter (drops_path what) (map (λ row. row.0) rows)))) (low_stays what row.0 low))
-      by false high rest = either (drops_path what row.0) (filter (drops_path what) (map (λ row. row.0) (entries_from (reset_start what) rows))) (filter (drops_path what) (map (λ row. row.0) rows)) rest
+          rest
+          ∙ sym (ap (λ b. puts_of (cond b (row.0 ∷ filter (drops_path what) (map (λ row. row.0) rows)) (filter (drops_path what) (map (λ row. row.0) rows))))
+          (low_stays what row.0 low))
+      by false high rest = either (drops_path what row.0) (filter (drops_path what) (map (λ row. row.0) (entries_from (reset_start what) rows)))
+          (filter (drops_path what) (map (λ row. row.0) rows)) rest
 
   -- from a row that isn't dropped on there are none
   none_above : (path : List ℕ) → is_lt (byte_order path (reset_start what)) ≡ false → drops_path what path ≡ false
@@ -150,5 +157,6 @@ module _ (what : ResetWhat) (token : ℕ) where
       → drops_path what row.0 ≡ false → removals_at what token (map (λ row. row.0) (row ∷ rows)) ≡ []
   unfolding removals_at
   removals_end row rows ascend from stays =
-      ap (λ b. map (λ path. removed_put (Staged token path)) (cond b (row.0 ∷ filter (drops_path what) (map (λ row. row.0) rows)) (filter (drops_path what) (map (λ row. row.0) rows)))) stays
+      ap (λ b. map (λ path. removed_put (Staged token path))
+      (cond b (row.0 ∷ filter (drops_path what) (map (λ row. row.0) rows)) (filter (drops_path what) (map (λ row. row.0) rows)))) stays
       ∙ ap (map (λ path. removed_put (Staged token path))) (none_above row.0 from stays rows (head_below row rows ascend))

@@ -8,9 +8,9 @@ ghost use Rattle.core_puts.specs.Puts.{create_branch_puts, delete_branch_puts, r
 use crate::parts::{BranchParts, branch_at, parts_after_seal, parts_at, push_branch};
 use crate::pushing::{push_counts, push_removed};
 use crate::removing::push_removals;
+use core_state::LakeState;
 use keeper::Put;
 use lake_base::{NoMemory, RefName, RepoName, Sequence};
-use core_state::LakeState;
 use lake_values::{CommitId, ResetWhat};
 use pair_format::StoredKey;
 use std::alloc::Global;

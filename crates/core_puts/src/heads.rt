@@ -1,5 +1,6 @@
 //! Commits that become the head of a branch.
-ghost use Rattle.std.specs.Prelude.{◌≡◌, ◌++◌, ◌<◌, ◌+◌, ◌∷◌, [], drop, false, length, IfOk, OnOk, option_and_then, option_copied};
+ghost use Rattle.std.specs.Prelude.{◌≡◌, ◌++◌, ◌<◌, ◌+◌, ◌∷◌, [], drop, false, length, IfOk, OnOk, option_and_then};
+ghost use Rattle.std.specs.Prelude.{option_copied};
 ghost use Rattle.std.specs.FinMap.{get};
 ghost use Rattle.lake_base.specs.Names.{is_like_id};
 ghost use Rattle.meta_range.specs.Files.{file_at};
@@ -13,9 +14,9 @@ use crate::parts::{BranchParts, branch_at, push_branch};
 use crate::pushing::push_counts;
 use crate::removing::push_removals_of;
 use byte_map::ByteMap;
+use core_state::{FilePlace, LakeState};
 use keeper::Put;
 use lake_base::{Digest, NoMemory, RefName, RepoName, Sequence};
-use core_state::{FilePlace, LakeState};
 use lake_values::{CommitId, CommitRecord, ResetWhat};
 use meta_range::Tree;
 use std::alloc::Global;

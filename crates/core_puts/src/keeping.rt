@@ -4,11 +4,11 @@ ghost use Rattle.core_state.specs.Counts.{AreFew};
 ghost use Rattle.core_state.specs.LakeStates.{lake_value};
 ghost use Rattle.core_puts.specs.KeptChanges.{Keeps, Stays, unmade};
 
+use core_changes::lake::stop;
+use core_state::LakeState;
 use keeper::{Keeper, Put};
 use lake_base::Trouble;
-use core_changes::lake::stop;
 use lake_model::{By, EntryKind, HistoryEntry, Operation, StepFault};
-use core_state::LakeState;
 
 /// Makes the puts by one call of the keeper, and then appends the entry of the operation, for which it takes the room
 /// before. Where the store fails its fault is appended, and the lake is stopped. StoreFault, NoMemory.

@@ -5,14 +5,14 @@ ghost use Rattle.core_state.specs.LakeStates.{lake_value};
 ghost use Rattle.core_puts.specs.FreshLakes.{bare_lake, fresh_puts};
 
 use crate::commits::first_commit;
+use crate::create_repository_puts;
 use crate::first_repository::new_repository;
 use byte_map::ByteMap;
+use core_changes::founding::{create_repository, make_repository_room};
+use core_state::{LakeState, NameIndex};
 use keeper::Put;
 use lake_base::{NoMemory, RefName, RepoName};
-use core_changes::founding::{create_repository, make_repository_room};
 use lake_format::Cut;
-use crate::create_repository_puts;
-use core_state::{LakeState, NameIndex};
 use std::alloc::Global;
 use std::collections::BTreeMap;
 

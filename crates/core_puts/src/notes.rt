@@ -11,10 +11,10 @@ ghost use Rattle.core_state.specs.LakeStates.{lake_value};
 ghost use Rattle.core_puts.specs.Puts.{HasText, note_put, note_text, repository_put, set_note_puts};
 
 use crate::pushing::{push_counts, push_removed, push_spelled};
+use core_state::{LakeState, RepositoryState};
 use hook_rules::{write_hooks, write_protection};
 use keeper::Put;
 use lake_base::{NoMemory, RepoName, Sequence, TryCopy};
-use core_state::{LakeState, RepositoryState};
 use lake_values::{Note, NoteName};
 use pair_format::{Stored, StoredKey};
 use std::alloc::Global;

@@ -8,9 +8,9 @@ ghost use Rattle.core_puts.specs.Puts.{branch_at, spelled_put};
 ghost use Rattle.core_puts.specs.BranchParts.{parts_of};
 
 use crate::pushing::push_spelled;
+use core_state::{BranchState, LakeState};
 use keeper::Put;
 use lake_base::{NoMemory, RefName, RepoName, Sequence, TryCopy};
-use core_state::{BranchState, LakeState};
 use lake_values::CommitId;
 use pair_format::Stored;
 use std::alloc::Global;

@@ -8,9 +8,9 @@ ghost use Rattle.core_puts.specs.Puts.{spelled_put, stage_puts, ticket_puts};
 
 use crate::parts::branch_at;
 use crate::pushing::{only_put, push_counts};
+use core_state::LakeState;
 use keeper::Put;
 use lake_base::{NoMemory, Path, RefName, RepoName, TryCopy};
-use core_state::LakeState;
 use lake_values::{Change, Entry};
 use pair_format::Stored;
 use std::alloc::Global;

@@ -7,9 +7,9 @@ ghost use Rattle.core_puts.specs.Removing.{reset_start};
 
 use crate::pushing::push_removed;
 use branch_record::{ResetWhat, Tokens};
+use core_state::BranchState;
 use keeper::Put;
 use lake_base::NoMemory;
-use core_state::BranchState;
 use pair_format::StoredKey;
 use std::alloc::Global;
 

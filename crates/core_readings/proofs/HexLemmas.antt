@@ -1,5 +1,6 @@
 -- The hex text of a digest: it is 64 digits, and no other digest has it.
-use Rattle.std.proofs.Common.{◌≡◌, ℕ, zero, suc, ◌+◌, ◌*◌, ◌/◌, ◌%◌, ◌<◌, ◌==◌, Bool, true, false, not, cond, ltb, ◌&&◌, inl, inr, List, [], ◌∷◌, length, take, slice_index, min, Option, Some, None, refl, sym, ap, ◌∙◌, arith}
+use Rattle.std.proofs.Common.{◌≡◌, ℕ, zero, suc, ◌+◌, ◌*◌, ◌/◌, ◌%◌, ◌<◌, ◌==◌, Bool, true, false, not, cond, ltb, ◌&&◌, inl, inr, List, [], ◌∷◌, length, take}
+use Rattle.std.proofs.Common.{slice_index, min, Option, Some, None, refl, sym, ap, ◌∙◌, arith}
 use Rattle.std.specs.List.{AllByRecursion, position, position_or_len}
 use Rattle.std.specs.Option.{is_none, option_or}
 use Rattle.std.proofs.lemmas.Bool.{and_parts, cases_lt, eqb-true}
@@ -105,7 +106,8 @@ none_stray p s all = none_before (position_or_len (λ byte. not (p byte)) s) (le
 
 read_whole : (text : List ℕ) → length text ≡ 64 → AllByRecursion (λ c. is_hex c ≡ true) text → digest_fault text ≡ None
 read_whole text long hex =
-    ap (λ f. option_or f (cond (length text == 64) None (Some (min 64 (length text))))) (ap stray_hex (take_all 64 text (omega arith)) ∙ none_stray is_hex text hex)
+    ap (λ f. option_or f (cond (length text == 64) None (Some (min 64 (length text)))))
+    (ap stray_hex (take_all 64 text (omega arith)) ∙ none_stray is_hex text hex)
     ∙ ap (λ n. cond (n == 64) None (Some (min 64 n))) long
 
 -- the text of a digest is like an id

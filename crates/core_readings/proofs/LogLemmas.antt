@@ -56,7 +56,8 @@ module _ (l : LakeStateValue) (repo : List ℕ) (e : RefExprValue) (after : Opti
       past_other = then_ok (known_commit (repository_at r) after) (pages_from (repository_at r)) after (sym known) ∙ past_name
 
       -- a move finds no parent
-      pub log_parentless : (fault : StepFault) → Err fault ≡ expression_target (repository_at r) e → Err fault ≡ log_reply (state_of l) repo e after since amount
+      pub log_parentless : (fault : StepFault) → Err fault ≡ expression_target (repository_at r) e
+          → Err fault ≡ log_reply (state_of l) repo e after since amount
       log_parentless fault is = then_err (expression_target (repository_at r) e) (λ id. Ok (page_of (repository_at r) after id)) fault is ∙ past_other
 
       -- the page

@@ -87,5 +87,6 @@ module _ (g : Graph) (sound : IsSound g) where
   named_never name place fault =
       sym (find_nothing (reads name) (ids g) (λ other within passes.
       let same = (bytes_eq-Decides (encode_lower other.0) name).0 passes in
-      let reads : digest_fault name ≡ None = ap digest_fault (sym same) ∙ digest_reads other.0 (id_digest other (commit_of g other) refl (ids_from g other within)) in
+      let reads : digest_fault name ≡ None =
+      ap digest_fault (sym same) ∙ digest_reads other.0 (id_digest other (commit_of g other) refl (ids_from g other within)) in
       cc))

@@ -72,7 +72,8 @@ module _ (l : LakeStateValue) (given : VersionsGiven) (repo branch : List ℕ) (
     no_branch is = sym (ap (of_branch (repository_at r)) (found_branch (repository_value r) branch None is)) ∙ at_repository
 
     module _ (b : BranchState) (is : Some (branch_value b) ≡ get (repository_value r).branches branch) where
-      at_branch : unless_refused (option_map_or (expired_source (repository_at r)) sides None) (preparation (state_of l) given repo branch sides (repository_at r) (branch_at b))
+      at_branch : unless_refused (option_map_or (expired_source (repository_at r)) sides None)
+          (preparation (state_of l) given repo branch sides (repository_at r) (branch_at b))
           ≡ prepare_reply (state_of l) given repo branch sides
       at_branch = sym (ap (of_branch (repository_at r)) (found_branch (repository_value r) branch (Some b) is)) ∙ at_repository
 

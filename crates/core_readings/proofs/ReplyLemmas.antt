@@ -33,7 +33,8 @@ module _ {X : Type 0} where
   in_none l name f is = sym (ap (λ o. option_map_or f o (Err NoRepo)) (found_repository l name None is))
 
   -- it is
-  pub in_some : (l : LakeStateValue) (name : List ℕ) (f : Repository → Result X StepFault) (r : RepositoryState) → Some (repository_value r) ≡ get l.repositories name
+  pub in_some : (l : LakeStateValue) (name : List ℕ) (f : Repository → Result X StepFault) (r : RepositoryState)
+      → Some (repository_value r) ≡ get l.repositories name
       → f (repository_at r) ≡ in_repository_of (state_of l) name f
   in_some l name f r is = sym (ap (λ o. option_map_or f o (Err NoRepo)) (found_repository l name (Some r) is))
 
@@ -48,7 +49,8 @@ module _ {X Y : Type 0} (first : Result X StepFault) (next : X → Result Y Step
 
 -- ---- what an expression leads to
 
-module _ {X : Type 0} (l : LakeStateValue) (name : List ℕ) (e : RefExprValue) (r : RepositoryState) (there : Some (repository_value r) ≡ get l.repositories name) where
+module _ {X : Type 0} (l : LakeStateValue) (name : List ℕ) (e : RefExprValue) (r : RepositoryState)
+    (there : Some (repository_value r) ≡ get l.repositories name) where
   -- it leads nowhere
   pub target_err : (next : Repository → Digest → Result X StepFault) (fault : StepFault) → Err fault ≡ expression_target (repository_at r) e
       → Err fault ≡ in_repository_of (state_of l) name (λ q. expression_target q e then next q)

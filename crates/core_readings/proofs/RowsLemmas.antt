@@ -41,7 +41,8 @@ module _ {X Y : Type 0} (told : List ℕ → X → Y) (after : List ℕ) where
   from_start bytes m (Some name) is = ap (λ key. rows_above told after (entries_above key m)) is ∙ above_alone (entries m)
 
   -- so the search may start there
-  pub all_above : {K : Type 0} (bytes : K → List ℕ) (m : ByteMap (Option X)) (start : Option K) (rows : List (List ℕ × Option X)) (given : List ℕ) → given ≡ after
+  pub all_above : {K : Type 0} (bytes : K → List ℕ) (m : ByteMap (Option X)) (start : Option K) (rows : List (List ℕ × Option X)) (given : List ℕ)
+      → given ≡ after
       → rows ≡ option_map_or (λ name. entries_above (bytes name) m) start (entries m) → IfSome start (λ name. bytes name ≡ given)
       → rows_above told given rows ≡ rows_above told after (entries m)
   all_above bytes m start rows given same found is =
@@ -61,7 +62,8 @@ mapped p f told (row ∷ rows) =
       | false ↦ mapped p f told rows
     ]
 
-module _ {X Y Z : Type 0} (after : List ℕ) (f : Option X → Option Y) (g : X → Y) (none : f None ≡ None) (some : (x : X) → f (Some x) ≡ Some (g x)) (told : List ℕ × Y → Z) where
+module _ {X Y Z : Type 0} (after : List ℕ) (f : Option X → Option Y) (g : X → Y) (none : f None ≡ None) (some : (x : X) → f (Some x) ≡ Some (g x))
+    (told : List ℕ × Y → Z) where
   from_row : (name : List ℕ) (later : List (List ℕ × Y)) → Option Y → List Z
   from_row name later o = map told (filter (λ e. is_lt (byte_order after e.0)) (cons_option (option_map (λ y. (name, y)) o) later))
 
@@ -95,7 +97,8 @@ pub tags_told : (r : RepositoryState) (after : List ℕ) → rows_above (λ name
 tags_told r after =
     sym (values_told after (λ tag. tag) (λ id. id) refl (λ id. refl) (λ e. e) r.tags) ∙ map-id (above after (some_values (λ tag. tag) r.tags))
 
-pub heads_told : (r : RepositoryState) (after : List ℕ) → rows_above (λ name b. (name, b.record.head)) after (entries r.branches) ≡ names_above (repository_at r) false after
+pub heads_told : (r : RepositoryState) (after : List ℕ)
+    → rows_above (λ name b. (name, b.record.head)) after (entries r.branches) ≡ names_above (repository_at r) false after
 heads_told r after = sym (changed_told after branch_value branch_of (λ b. (b.0, b.1.head)) r.branches)
 
 pub infos_told : (l : LakeState) (after : List ℕ) → rows_above (λ name r. repository_info (name, repository_at r)) after (entries l.repositories)

@@ -1,5 +1,6 @@
 -- What a name and an expression lead to.
-use Rattle.std.proofs.Common.{◌≡◌, ℕ, ◌==◌, ◌&&◌, true, false, not, List, [], ◌∷◌, Some, None, Option, option_map, refl, sym, ap, subst, ◌∙◌, ◌⊎◌, inl, inr, length, Bor, arith}
+use Rattle.std.proofs.Common.{◌≡◌, ℕ, ◌==◌, ◌&&◌, true, false, not, List, [], ◌∷◌, Some, None, Option, option_map, refl, sym, ap, subst, ◌∙◌, ◌⊎◌, inl, inr}
+use Rattle.std.proofs.Common.{length, Bor, arith}
 use Rattle.std.specs.Option.{is_some, option_copied, option_or}
 use Rattle.std.specs.FinMap.{get}
 use Rattle.std.specs.Str.{bytes_eq}
@@ -43,7 +44,8 @@ some_branch None = refl
 some_branch (Some x) = refl
 
 -- an expression without `@` and without moves is a plain branch where one is found
-pub plain_if_found : (r : RepositoryStateValue) (e : RefExprValue) (o : Option (Bor BranchState)) → option_map branch_value (option_copied o) ≡ get r.branches e.name
+pub plain_if_found : (r : RepositoryStateValue) (e : RefExprValue) (o : Option (Bor BranchState))
+    → option_map branch_value (option_copied o) ≡ get r.branches e.name
     → e.at ≡ false → (length e.moves == 0) ≡ true → is_some o ≡ is_plain_branch (repository_of r) e
 plain_if_found r e o is at none =
     some_branch o ∙ ap is_some (sym (found_branch r e.name (option_copied o) is))

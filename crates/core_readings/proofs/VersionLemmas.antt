@@ -21,7 +21,8 @@ use Rattle.core_state.specs.RepositoryStates.{repository_value}
 use Rattle.core_readings.proofs.PlacesLemmas.{found_branch, repository_at}
 use Rattle.core_readings.proofs.ReplyLemmas.{in_some}
 
-module _ (l : LakeStateValue) (given : VersionsGiven) (has : HasVersions given l) (repo : List ℕ) (r : RepositoryState) (there : Some (repository_value r) ≡ get l.repositories repo) where
+module _ (l : LakeStateValue) (given : VersionsGiven) (has : HasVersions given l) (repo : List ℕ) (r : RepositoryState)
+    (there : Some (repository_value r) ≡ get l.repositories repo) where
   abbrev versions_in : List ℕ → Repository → Result Versions StepFault
   versions_in branch q = cond (contains_key q.branches branch) (Ok (versions_at l.entries given repo branch)) (Err NoRef)
 
@@ -33,12 +34,14 @@ module _ (l : LakeStateValue) (given : VersionsGiven) (has : HasVersions given l
   versions_found branch b is =
       let version = sym (has.branches repo (repository_value r) branch (branch_value b) (sym there) (sym is)) in
       (λ i. Ok (record { at = l.entries; version = version i; settings = given_settings i }))
-      ∙ ap (λ (o : Option Branch). cond (is_some o) (Ok (versions_at l.entries given repo branch)) (Err NoRef)) (sym (found_branch (repository_value r) branch (Some b) is))
+      ∙ ap (λ (o : Option Branch). cond (is_some o) (Ok (versions_at l.entries given repo branch)) (Err NoRef))
+      (sym (found_branch (repository_value r) branch (Some b) is))
       ∙ in_some l repo (versions_in branch) r there
 
   pub versions_missing : (branch : List ℕ) → None ≡ get (repository_value r).branches branch → Err NoRef ≡ versions_reply (state_of l) given repo branch
   versions_missing branch is =
-      ap (λ (o : Option Branch). cond (is_some o) (Ok (versions_at l.entries given repo branch)) (Err NoRef)) (sym (found_branch (repository_value r) branch None is))
+      ap (λ (o : Option Branch). cond (is_some o) (Ok (versions_at l.entries given repo branch)) (Err NoRef))
+      (sym (found_branch (repository_value r) branch None is))
       ∙ in_some l repo (versions_in branch) r there
 
   abbrev note_in : NoteName → Repository → Result NoteReply StepFault

@@ -10,8 +10,8 @@ ghost use Rattle.core_state.specs.RepositoryStates.{repository_of, repository_va
 use crate::targets::is_plain_branch;
 use branch_record::Looked;
 use commit_graph::RefExpr;
-use lake_base::Path;
 use core_state::{BranchState, RepositoryState};
+use lake_base::Path;
 use lake_values::{CommitId, Entry};
 
 /// The entry at a path of a commit's map; none where there is no such commit. It takes no memory.

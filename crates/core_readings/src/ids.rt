@@ -18,9 +18,11 @@ pub fn law_of_reading_by_id()
     ensures now { (state : State) (repo : List ℕ) (r : Repository) (id : Digest) (at : Bool)
         → IsSound state → get state.repositories repo ≡ Some r → HasCommit r id
         → expression_map r (by_id id at) ≡ Ok (map_of r id) }
-    ensures later { (state : State) (entries : List HistoryEntry) (repo : List ℕ) (r : Repository) (id : Digest) (at : Bool)
+    ensures later { (state : State) (entries : List HistoryEntry) (repo : List ℕ) (r : Repository) (id : Digest)
+        (at : Bool)
         → IsSound state → IsLegal state entries → get state.repositories repo ≡ Some r → HasCommit r id
-        → HasRepository (replay state entries) repo (λ s. expression_map s (by_id id at) ≡ expression_map r (by_id id at)) }
+        → HasRepository (replay state entries) repo
+        (λ s. expression_map s (by_id id at) ≡ expression_map r (by_id id at)) }
 {
     law_of_identity();
     law_of_soundness();

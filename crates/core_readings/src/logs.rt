@@ -7,11 +7,11 @@ ghost use Rattle.core_state.specs.LakeStates.{lake_value, state_of};
 ghost use Rattle.core_state.specs.RepositoryStates.{repository_of, repository_value};
 ghost use Rattle.core_readings.specs.Answers.{log_answer};
 
+use crate::{name_target, target};
 use commit_graph::RefExpr;
+use core_state::{LakeState, RepositoryState};
 use lake_base::{NoMemory, RepoName, Sequence, TryCopy};
 use lake_model::StepFault;
-use crate::{name_target, target};
-use core_state::{LakeState, RepositoryState};
 use lake_values::{CommitId, CommitRecord};
 use std::alloc::Global;
 

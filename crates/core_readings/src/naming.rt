@@ -8,9 +8,9 @@ ghost use Rattle.core_state.specs.RepositoryStates.{repository_of, repository_va
 ghost use Rattle.core_readings.specs.Answers.{list_answer};
 
 use crate::rows::{Name, Tell, first_told};
+use core_state::{BranchState, LakeState, RepositoryState};
 use lake_base::{NameFault, NoMemory, RefName, RepoName, Sequence, Text, TryCopy};
 use lake_model::{RepoInfo, StepFault};
-use core_state::{BranchState, LakeState, RepositoryState};
 use lake_values::CommitId;
 use std::alloc::Global;
 

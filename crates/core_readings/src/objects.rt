@@ -5,11 +5,11 @@ ghost use Rattle.lake_model.specs.Refusals.{Gives};
 ghost use Rattle.lake_model.specs.Soundness.{IsSound};
 ghost use Rattle.core_state.specs.LakeStates.{lake_value, state_of};
 
+use crate::{entry_at, target};
 use commit_graph::RefExpr;
+use core_state::LakeState;
 use lake_base::{NoMemory, Path, RepoName, TryCopy};
 use lake_model::{Seen, StepFault};
-use crate::{entry_at, target};
-use core_state::LakeState;
 use lake_values::{Entry, Place};
 use std::alloc::Global;
 

@@ -10,14 +10,14 @@ ghost use Rattle.core_state.specs.LakeStates.{lake_value, state_of};
 ghost use Rattle.core_state.specs.RepositoryStates.{repository_of, repository_value};
 ghost use Rattle.core_readings.specs.Answers.{page_answer};
 
+use crate::{is_plain_branch, target};
+use branch_record::{LayerCursor, SliceChanges};
 use commit_graph::RefExpr;
+use core_state::{BranchState, LakeState, RepositoryState};
 use lake_base::{NoMemory, RepoName};
 use lake_model::StepFault;
 use lake_pages::{Page, PageQuery, page_of, page_over};
-use crate::{is_plain_branch, target};
-use core_state::{BranchState, LakeState, RepositoryState};
 use lake_values::{CommitId, KeyMap};
-use branch_record::{LayerCursor, SliceChanges};
 use std::alloc::Global;
 
 /// A page of what an expression leads to: the items under a prefix and a delimiter above a name, so many, and whether

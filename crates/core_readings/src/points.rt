@@ -8,11 +8,11 @@ ghost use Rattle.lake_model.specs.Soundness.{IsSound};
 ghost use Rattle.core_state.specs.LakeStates.{lake_value, state_of};
 ghost use Rattle.core_state.specs.RepositoryStates.{repository_of, repository_value};
 
+use crate::{is_plain_branch, target};
 use commit_graph::RefExpr;
+use core_state::{LakeState, RepositoryState};
 use lake_base::{NoMemory, RepoName, Sequence, Text, TryCopy};
 use lake_model::{Point, StepFault};
-use crate::{is_plain_branch, target};
-use core_state::{LakeState, RepositoryState};
 use lake_values::CommitId;
 use std::alloc::Global;
 

@@ -17,9 +17,9 @@ ghost use Rattle.core_readings.specs.Trees.{HasTrees, IsCutBy};
 
 use crate::prepared::Prepared;
 use crate::sides::{test_source, tree_of, trio_of};
+use core_state::{BranchState, LakeState, RepositoryState};
 use lake_base::{NoMemory, RefName, RepoName, Sequence, TryCopy};
 use lake_model::{Sides, StepFault};
-use core_state::{BranchState, LakeState, RepositoryState};
 use lake_values::HookRules;
 use std::alloc::Global;
 use std::sync::Arc;

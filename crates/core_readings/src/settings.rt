@@ -9,9 +9,9 @@ ghost use Rattle.core_state.specs.LakeStates.{lake_value, state_of};
 ghost use Rattle.core_state.specs.RepositoryStates.{repository_of, repository_value};
 ghost use Rattle.core_readings.specs.Answers.{note_answer};
 
+use core_state::{LakeState, RepositoryState};
 use lake_base::{NoMemory, RefName, RepoName, TryCopy};
 use lake_model::{StepFault, Versions};
-use core_state::{LakeState, RepositoryState};
 use lake_values::{Note, NoteName};
 use std::alloc::Global;
 

@@ -1,5 +1,6 @@
 //! The commits of a merge or a pick, and their trees.
-ghost use Rattle.std.specs.Prelude.{◌≡◌, ◌↔◌, [], Some, None, drop, IsTrue, IsSome, IfOk, IfSome, option_copied, option_map};
+ghost use Rattle.std.specs.Prelude.{◌≡◌, ◌↔◌, [], Some, None, drop, IsTrue, IsSome, IfOk, IfSome, option_copied};
+ghost use Rattle.std.specs.Prelude.{option_map};
 ghost use Rattle.std.specs.FinMap.{empty, get};
 ghost use Rattle.std.specs.Option.{option_map_or};
 ghost use Rattle.lake_values.specs.Ancestry.{base};
@@ -15,17 +16,17 @@ ghost use Rattle.lake_format.specs.declared.cut.Cut.{Cut as AnyCut};
 ghost use Rattle.core_readings.specs.Preparations.{AreCommits, HasCutSides, HasSides};
 ghost use Rattle.core_readings.specs.Trees.{AreTreesOf, HasRanges, HasTrees, IsCutBy, IsTreeOf};
 
+use core_state::{BranchState, LakeState, RepositoryState};
 use lake_base::{NoMemory, RepoName};
 use lake_format::USUAL_CUT;
 use lake_model::{Sides, StepFault};
-use core_state::{BranchState, LakeState, RepositoryState};
 use lake_values::{CommitId, KeyMap};
 use meta_range::{Tree, Trio};
 use std::alloc::Global;
 use std::sync::Arc;
 
-/// Whether the commits of a merge or a pick are commits of a repository, by a search each; so they are of one that isn't
-/// there. It takes no memory.
+/// Whether the commits of a merge or a pick are commits of a repository, by a search each; so they are of one that
+/// isn't there. It takes no memory.
 pub fn are_commits(lake: &LakeState, repo: &RepoName, sides: &Sides) -> bool
     ensures { IsTrue result ↔ HasSides (state_of (lake_value lake.now)) repo.now sides.now }
 {
@@ -59,7 +60,8 @@ pub(crate) fn test_source(
     sides: Option<&Sides>,
 ) -> Result<(), StepFault>
     ensures { result ≡ unless_refused
-        (option_map_or (expired_source (repository_of (repository_value repository.now))) (option_copied sides.entry) None) tt }
+        (option_map_or (expired_source (repository_of (repository_value repository.now)))
+        (option_copied sides.entry) None) tt }
 {
     let Some(sides) = sides else {
         return Ok(());
@@ -146,7 +148,8 @@ fn base_tree(
     requires head { HasCommit (repository_of (repository_value repository.now)) head.now }
     requires source { HasCommit (repository_of (repository_value repository.now)) source.now }
     ensures map { IfOk result (λ tree. IsTreeOf (repository_value repository.now) (base_map
-        (option_map (map_of (repository_of (repository_value repository.now))) (base repository.now.graph head.now source.now)))
+        (option_map (map_of (repository_of (repository_value repository.now)))
+        (base repository.now.graph head.now source.now)))
         tree.value) }
     ensures cut { (cut : AnyCut) → IsCutBy cut (repository_value repository.now)
         → IfOk result (λ tree. tree.value.files ≡ files cut tree.value.map) }

@@ -5,9 +5,9 @@ ghost use Rattle.lake_model.specs.State.{HasCommit};
 ghost use Rattle.core_state.specs.RepositoryStates.{HasTargets, repository_of, repository_value};
 
 use commit_graph::RefExpr;
+use core_state::RepositoryState;
 use lake_base::{Digest, RefName};
 use lake_model::StepFault;
-use core_state::RepositoryState;
 use lake_values::CommitId;
 
 /// The commit whose id reads so. It takes no memory.

@@ -20,7 +20,8 @@ module _ (opened : LakeStateValue) (history : List HistoryEntry) (l : LakeStateV
   few = record { counted = stands.counted; room = allowed.room }
 
   -- the store failed
-  fault_follows : (AreFew l → AreCounted (after_fault l)) → (HasIndex l → HasIndex (after_fault l)) → Follows opened history l (faulted_entry by operation) (after_fault l)
+  fault_follows : (AreFew l → AreCounted (after_fault l)) → (HasIndex l → HasIndex (after_fault l))
+      → Follows opened history l (faulted_entry by operation) (after_fault l)
   fault_follows counted index = record {
     allowed = record { running = allowed.running; room = allowed.room; possible = allowed.possible };
     state = refl;

@@ -8,11 +8,14 @@ ghost use Rattle.lake_values.specs.declared.settings.NoteName.{NoteName};
 ghost use Rattle.commit_graph.specs.Expressions.{RefExprValue};
 ghost use Rattle.lake_model.specs.declared.history.By.{By};
 ghost use Rattle.lake_model.specs.declared.history.HistoryEntry.{HistoryEntry};
-ghost use Rattle.lake_model.specs.declared.history.Operation.TheVariants.{BranchCreate, BranchDelete, NoteSet, TagCreate, TagDelete};
+ghost use Rattle.lake_model.specs.declared.history.Operation.TheVariants.{BranchCreate, BranchDelete, NoteSet};
+ghost use Rattle.lake_model.specs.declared.history.Operation.TheVariants.{TagCreate, TagDelete};
 ghost use Rattle.lake_model.specs.Refusals.{first_cause};
-ghost use Rattle.lake_model.specs.Steps.{create_branch_causes, create_tag_causes, delete_branch_causes, delete_tag_causes, in_it, set_note_causes, target_in};
+ghost use Rattle.lake_model.specs.Steps.{create_branch_causes, create_tag_causes, delete_branch_causes};
+ghost use Rattle.lake_model.specs.Steps.{delete_tag_causes, in_it, set_note_causes, target_in};
 ghost use Rattle.core_state.specs.LakeStates.{LakeStateValue, state_of};
-ghost use Rattle.core_changes.specs.LakeChanges.{after_branch_create, after_branch_delete, after_note_set, after_tag_create, after_tag_delete};
+ghost use Rattle.core_changes.specs.LakeChanges.{after_branch_create, after_branch_delete, after_note_set};
+ghost use Rattle.core_changes.specs.LakeChanges.{after_tag_create, after_tag_delete};
 ghost use Rattle.core_standing.specs.Standing.{MayMake, Stands, versions_since};
 
 use core_changes::{laws_of_counts, laws_of_few, laws_of_indexes, laws_of_states, laws_of_tokens};
@@ -60,7 +63,8 @@ pub fn law_of_settings()
     ensures { (opened : LakeStateValue) (history : List HistoryEntry) (present : LakeStateValue)
         (by : By) (repo : List ℕ) (expected : Option ℕ) (name : NoteName) (note : Option Note)
         → Stands opened history present
-        → first_cause (set_note_causes (state_of present) (versions_since opened history) repo expected name note) ≡ None
+        → first_cause (set_note_causes (state_of present) (versions_since opened history) repo expected name note)
+        ≡ None
         → IfSome note (λ n. note_name n ≡ name)
         → MayMake opened history present by (NoteSet repo name note) (after_note_set repo name note) }
 {

@@ -12,8 +12,8 @@ ghost use Rattle.core_changes.specs.LakeChanges.{after_repository_create};
 ghost use Rattle.core_standing.specs.Standing.{MayMake, Stands};
 
 use core_changes::{laws_of_counts, laws_of_few, laws_of_indexes, laws_of_states, laws_of_tokens};
-use lake_laws::soundness::law_of_soundness;
 use lake_laws::repositories::law_of_repository_steps;
+use lake_laws::soundness::law_of_soundness;
 
 /// Where no cause holds, of which one is a clash of the first commit, a repository may be made whose default branch has
 /// a name like no id.

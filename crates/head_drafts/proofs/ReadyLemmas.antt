@@ -84,7 +84,8 @@ module _ (state : State) (given : VersionsGiven) (repo branch : List ℕ) (sides
   abbrev of_lake : Option Repository → Result PreparedValue StepFault
   of_lake found = option_map_or (λ r. of_branch r (get r.branches branch)) found (Err step.NoRepo)
 
-  handed : (r : Repository) (b : Branch) → get state.repositories repo ≡ Some r → get r.branches branch ≡ Some b → preparation state given repo branch sides r b ≡ p
+  handed : (r : Repository) (b : Branch) → get state.repositories repo ≡ Some r → get r.branches branch ≡ Some b
+      → preparation state given repo branch sides r b ≡ p
   handed r b at on = unless_ok (option_map_or (expired_source r) sides None) (preparation state given repo branch sides r b) p
       (sym (ap (of_branch r) on) ∙ sym (ap of_lake at) ∙ is)
 
@@ -149,7 +150,8 @@ module _ (state : State) (given : VersionsGiven) (repo branch : List ℕ) (about
             settled = settled (is_refused strategy sides.base sides.source (head_map r b)) _ open_ones.0;
           },
         );
-        allowed = allowed r.notes.hooks branch (head_map r b) ((swap_rule (kind.Pick base source strategy) about).draft r b) (none_under HookDenied _ open_ones.1);
+        allowed =
+            allowed r.notes.hooks branch (head_map r b) ((swap_rule (kind.Pick base source strategy) about).draft r b) (none_under HookDenied _ open_ones.1);
         drafted = is;
       }
 
@@ -190,7 +192,8 @@ module _ (reply : Result PreparedValue StepFault) (draft : PreparedValue → Dra
   refused_step fault gives = sym gives
 
   -- what has no draft
-  pub refused_draft : (p : PreparedValue) (fault : DraftFault) → reply ≡ Ok p → IsDraft p.cut (draft p) (Err fault) → IsHeadReply reply draft (Err (Draft fault))
+  pub refused_draft : (p : PreparedValue) (fault : DraftFault) → reply ≡ Ok p → IsDraft p.cut (draft p) (Err fault)
+      → IsHeadReply reply draft (Err (Draft fault))
   refused_draft p fault is made = subst (λ x. IsHeadReply x draft (Err (Draft fault))) (sym is) made
 
   -- what has one

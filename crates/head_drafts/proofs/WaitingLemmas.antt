@@ -79,7 +79,8 @@ module _ (early late : State) (repo : List ℕ) (r s : Repository) (b c : Branch
       ap (option_map (map_of s)) found ∙ same_maps_of (base r.commits b.head source) (in_graph b.head source) in
       (λ i. record { base = base_map (old i); source = (maps source has).1 i; strategy = strategy })
 
-  same_pick_sides : (from source : Digest) (strategy : Strategy) → HasCommit r from → HasCommit r source → pick_sides s from source strategy ≡ pick_sides r from source strategy
+  same_pick_sides : (from source : Digest) (strategy : Strategy) → HasCommit r from → HasCommit r source
+      → pick_sides s from source strategy ≡ pick_sides r from source strategy
   same_pick_sides from source strategy at has = λ i. record { base = (maps from at).1 i; source = (maps source has).1 i; strategy = strategy }
 
   -- the same is drafted, and it is as worth making
@@ -102,12 +103,20 @@ module _ (early late : State) (repo : List ℕ) (r s : Repository) (b c : Branch
     still_ready (kind.Merge source strategy) is =
         let sides = same_merge_sides source strategy is.worth.0 in
         ready_as_before (kind.Merge source strategy)
-        (λ i. record { parents = head i ∷ source ∷ []; objects = same_merged (merge_sides s c source strategy) (merge_sides r b source strategy) sides i; about = about })
+        (λ i. record {
+          parents = head i ∷ source ∷ [];
+          objects = same_merged (merge_sides s c source strategy) (merge_sides r b source strategy) sides i;
+          about = about;
+        })
         ((maps source is.worth.0).0, still_mergeable (merge_sides s c source strategy) (merge_sides r b source strategy) sides is.worth.1) is
     still_ready (kind.Pick from source strategy) is =
         let sides = same_pick_sides from source strategy is.worth.0 is.worth.1 in
         ready_as_before (kind.Pick from source strategy)
-        (λ i. record { parents = head i ∷ []; objects = same_merged (pick_sides s from source strategy) (pick_sides r from source strategy) sides i; about = about }) (
+        (λ i. record {
+          parents = head i ∷ [];
+          objects = same_merged (pick_sides s from source strategy) (pick_sides r from source strategy) sides i;
+          about = about;
+        }) (
           (maps from is.worth.0).0,
           (maps source is.worth.1).0,
           still_mergeable (pick_sides s from source strategy) (pick_sides r from source strategy) sides is.worth.2,
@@ -161,7 +170,8 @@ module _ (state : State) (given : VersionsGiven) (history later : List HistoryEn
       let kept = keeps_commits early later repo r sound goes_on at s from_early id one.0 one.1 in
       (ap is_some kept.0, kept.1)
 
-  pub ready_later : (swap : SwapKind) (about : AboutValue) (tree : TreeValue) → IsReadyOn early branch swap about tree r b → IsReadyOn late branch swap about tree s c
+  pub ready_later : (swap : SwapKind) (about : AboutValue) (tree : TreeValue) → IsReadyOn early branch swap about tree r b
+      → IsReadyOn late branch swap about tree s c
   ready_later swap about tree =
       still_ready early late repo r s b c same_cut same_branch.0 same_branch.1 same_notes
       ((sound.repositories repo r at).heads branch b on).0 kept_maps
@@ -180,7 +190,8 @@ both_are given repo branch version settings is =
 
 -- a draft that was ready by the versions of then is ready by them whatever legal entries follow
 pub ready_by_then : (state : State) (given : VersionsGiven) (history later : List HistoryEntry) (repo branch : List ℕ) (version settings : ℕ) (swap : SwapKind)
-    (about : AboutValue) (tree : TreeValue) (r : Repository) (b : Branch) → IsSound (replay state history) → AreBelowNext given → IsLegal state (history ++ later)
+    (about : AboutValue) (tree : TreeValue) (r : Repository) (b : Branch) → IsSound (replay state history) → AreBelowNext given
+    → IsLegal state (history ++ later)
     → get (replay state history).repositories repo ≡ Some r → get r.branches branch ≡ Some b
     → branch_version (count_versions given history) repo branch ≡ version → settings_version (count_versions given history) repo ≡ settings
     → IsReadyOn (replay state history) branch swap about tree r b
@@ -190,7 +201,8 @@ ready_by_then state given history later repo branch version settings swap about 
     ready_later state given history later repo branch sound below legal r s b c at on after on_later (is ∙ both.0) (also ∙ both.1) swap about tree ready
 
 -- so is what was drafted of what a lake handed out
-module _ (opened : LakeStateValue) (history : List HistoryEntry) (repo branch : List ℕ) (swap : SwapKind) (about : AboutValue) (p : PreparedValue) (tree : TreeValue)
+module _ (opened : LakeStateValue) (history : List HistoryEntry) (repo branch : List ℕ) (swap : SwapKind) (about : AboutValue) (p : PreparedValue)
+    (tree : TreeValue)
     (is : prepare_reply (replay (state_of opened) history) (versions_since opened history) repo branch (sides_of swap) ≡ Ok p)
     (have : (sides : Sides) → sides_of swap ≡ Some sides → HasSides (replay (state_of opened) history) repo sides) {present : LakeStateValue}
     (stands : Stands opened history present) where
@@ -206,13 +218,17 @@ module _ (opened : LakeStateValue) (history : List HistoryEntry) (repo branch : 
       (ready_there then given repo branch about swap p tree have found.r found.b found.at found.same made)
 
 -- a lake that goes on from another one has its entries and more
-module _ {K : Type 0} (before now : LakeValue K) (later : List HistoryEntry) (repo branch : List ℕ) (swap : SwapKind) (about : AboutValue) (head : HeadDraft) where
+module _ {K : Type 0} (before now : LakeValue K) (later : List HistoryEntry) (repo branch : List ℕ) (swap : SwapKind) (about : AboutValue)
+    (head : HeadDraft) where
   abbrev ready_in : LakeState → List HistoryEntry → Type 0
   ready_in opened history =
-      IsReadyFor (replay (state_of (lake_value opened)) history) (versions_since (lake_value opened) history) repo branch head.version head.settings swap about head.tree
+      IsReadyFor (replay (state_of (lake_value opened)) history)
+      (versions_since (lake_value opened) history) repo branch head.version head.settings swap about head.tree
 
-  pub later_swap : Waits (lake_value before.opened) before.history repo branch swap about head → now.opened ≡ before.opened → now.history ≡ before.history ++ later
-      → IsLegal (state_of (lake_value now.opened)) now.history → IsReadyFor (state now) (versions now) repo branch head.version head.settings swap about head.tree
+  pub later_swap : Waits (lake_value before.opened) before.history repo branch swap about head → now.opened ≡ before.opened
+      → now.history ≡ before.history ++ later
+      → IsLegal (state_of (lake_value now.opened)) now.history
+      → IsReadyFor (state now) (versions now) repo branch head.version head.settings swap about head.tree
   later_swap waits same goes_on legal =
       subst (λ opened. ready_in opened now.history) (sym same)
       (subst (ready_in before.opened) (sym goes_on)

@@ -5,7 +5,8 @@ ghost use Rattle.lake_values.specs.HookDecisions.{denying_rule};
 ghost use Rattle.lake_values.specs.KeyMap.{apply, differences};
 ghost use Rattle.lake_values.specs.Merging.{merged_map};
 ghost use Rattle.core_readings.specs.Preparations.{prepared_value};
-ghost use Rattle.head_drafts.specs.Drafts.{IsDraft, IsTest, clean_merge, drafted_commit, conflicts_fault, drafted_map, no_changes};
+ghost use Rattle.head_drafts.specs.Drafts.{IsDraft, IsTest, clean_merge, drafted_commit, conflicts_fault, drafted_map};
+ghost use Rattle.head_drafts.specs.Drafts.{no_changes};
 ghost use Rattle.head_drafts.specs.DraftMaps.{first_path};
 ghost use Rattle.head_drafts.specs.declared.fault.DraftFault.TheVariants.{Dirty, HookDenied};
 
@@ -19,9 +20,9 @@ use lake_values::{Changes, HookRules, KeyMap, Pairs, Strategy};
 use meta_range::{Tree, Trio};
 use std::alloc::Global;
 
-/// The tree of a new head, of what a lake handed out for it: of the merge or the pick whose trees it has, by a strategy;
-/// and else of the sealed changes. Of a merge or a pick Dirty, NoChanges, Conflicts, HookDenied; of a commit NoChanges,
-/// HookDenied: the first that holds. It takes time by the maps' paths.
+/// The tree of a new head, of what a lake handed out for it: of the merge or the pick whose trees it has, by a
+/// strategy; and else of the sealed changes. Of a merge or a pick Dirty, NoChanges, Conflicts, HookDenied; of a commit
+/// NoChanges, HookDenied: the first that holds. It takes time by the maps' paths.
 pub fn draft(
     alloc: Global,
     prepared: &Prepared,
@@ -31,7 +32,8 @@ pub fn draft(
 ) -> Result<Tree, DraftFault>
     requires dest { IfSome prepared.now.trio (λ trio. trio.dest ≡ prepared.now.tree.value) }
     requires modulus { 0 < prepared.now.cut.modulus }
-    ensures { IsDraft prepared.now.cut (drafted_map strategy (prepared_value prepared.now) branch.now metadata.now) result }
+    ensures { IsDraft prepared.now.cut
+        (drafted_map strategy (prepared_value prepared.now) branch.now metadata.now) result }
 {
     let head = map_of(alloc, &prepared.tree)?;
     let sealed = head.apply(alloc, &prepared.sealed)?;
@@ -78,7 +80,8 @@ fn draft_merge(
     requires head { head.now ≡ prepared.now.tree.value.map }
     requires modulus { 0 < prepared.now.cut.modulus }
     ensures { IsDraft prepared.now.cut
-        (clean_merge strategy (trio.now.base.map, trio.now.source.map) (prepared_value prepared.now) branch.now metadata.now) result }
+        (clean_merge strategy (trio.now.base.map, trio.now.source.map)
+        (prepared_value prepared.now) branch.now metadata.now) result }
 {
     let taken = differences_of(alloc, trio.source(), trio.base())?;
     test_changed(&taken)?;

@@ -34,10 +34,10 @@ pub struct HeadDraft {
     pub tree: Tree,
 }
 
-/// Drafts a new head of a branch: what the lake hands out for it is asked, and its tree is made. The condition of `swap`
-/// holds of it by these versions; what `swap` refuses besides (a stopped lake, a full history, a protected branch, a commit
-/// that expired, a clash) isn't asked. What it gives waits: whatever legal entries follow, the condition holds. NoRepo;
-/// NoRef; Expired for a source that is; and the faults of `draft`.
+/// Drafts a new head of a branch: what the lake hands out for it is asked, and its tree is made. The condition of
+/// `swap` holds of it by these versions; what `swap` refuses besides (a stopped lake, a full history, a protected
+/// branch, a commit that expired, a clash) isn't asked. What it gives waits: whatever legal entries follow, the
+/// condition holds. NoRepo; NoRef; Expired for a source that is; and the faults of `draft`.
 pub fn draft_head<K: Keeper>(
     alloc: Global,
     lake: &Lake<K>,
@@ -51,7 +51,8 @@ pub fn draft_head<K: Keeper>(
         (λ p. drafted_map (strategy_of kind) p branch.now about.now.metadata) result }
     ensures ready { IfOk result (λ head. IsReadyFor (state lake.now) (versions lake.now) repo.now branch.now
         head.version head.settings kind about.now head.tree) }
-    ensures waits { IfOk result (λ head. Waits (lake_value lake.now.opened) lake.now.history repo.now branch.now kind about.now head) }
+    ensures waits { IfOk result
+        (λ head. Waits (lake_value lake.now.opened) lake.now.history repo.now branch.now kind about.now head) }
 {
     law_of_waiting();
     let _ = lake.entries();
@@ -71,8 +72,8 @@ pub fn draft_head<K: Keeper>(
     })
 }
 
-/// Whether a branch or its repository isn't there, or its version or that of the settings isn't this. `swap` refuses any
-/// tree then, and its condition asks nothing. It takes no memory.
+/// Whether a branch or its repository isn't there, or its version or that of the settings isn't this. `swap` refuses
+/// any tree then, and its condition asks nothing. It takes no memory.
 pub fn is_outdated<K: Keeper>(
     lake: &Lake<K>,
     repo: &RepoName,

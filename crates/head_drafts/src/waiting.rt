@@ -17,18 +17,20 @@ ghost use Rattle.head_drafts.specs.HeadDrafts.{Waits, sides_of, strategy_of};
 
 use keeper::Keeper;
 
-/// What was drafted of what a lake handed out stays ready for `swap` by the versions that were handed out: whatever legal
-/// entries follow meanwhile, its condition holds. Where the branch is gone or one of both versions changed, it asks
-/// nothing, and `swap` refuses; else the branch has the head, the sealed changes and the settings of before, and commits
-/// have the maps and the merge base of before. (A law: it does nothing.)
+/// What was drafted of what a lake handed out stays ready for `swap` by the versions that were handed out: whatever
+/// legal entries follow meanwhile, its condition holds. Where the branch is gone or one of both versions changed, it
+/// asks nothing, and `swap` refuses; else the branch has the head, the sealed changes and the settings of before, and
+/// commits have the maps and the merge base of before. (A law: it does nothing.)
 pub fn law_of_waiting()
     ensures { (opened present : LakeStateValue) (history : List HistoryEntry) (repo branch : List ℕ) (kind : SwapKind)
         (about : AboutValue) (p : PreparedValue) (tree : TreeValue)
         → Stands opened history present
-        → prepare_reply (replay (state_of opened) history) (versions_since opened history) repo branch (sides_of kind) ≡ Ok p
+        → prepare_reply (replay (state_of opened) history)
+        (versions_since opened history) repo branch (sides_of kind) ≡ Ok p
         → IfSome (sides_of kind) (HasSides (replay (state_of opened) history) repo)
         → IsDraft p.cut (drafted_map (strategy_of kind) p branch about.metadata) (Ok tree)
-        → Waits opened history repo branch kind about (record { version = p.version; settings = p.settings; tree = tree }) }
+        → Waits opened history repo branch kind about
+        (record { version = p.version; settings = p.settings; tree = tree }) }
 {}
 
 /// So the condition of `swap` holds of it of a lake that went on. (A law: it does nothing.)

@@ -1,5 +1,6 @@
 -- Steps of a match: what is left to do after each, and how little.
-use Rattle.std.proofs.Common.{Option, Some, None, IfSome, Bor, MatchOption, ◌≡◌, ℕ, suc, ◌+◌, ◌*◌, ◌<◌, ◌≤◌, Bool, true, false, cond, List, [], ◌∷◌, length, ◌||◌, ◌&&◌, refl, sym, ap, ◌∙◌, arith, mul-le-mul_right}
+use Rattle.std.proofs.Common.{Option, Some, None, IfSome, Bor, MatchOption, ◌≡◌, ℕ, suc, ◌+◌, ◌*◌, ◌<◌, ◌≤◌, Bool, true, false, cond, List, [], ◌∷◌, length}
+use Rattle.std.proofs.Common.{◌||◌, ◌&&◌, refl, sym, ap, ◌∙◌, arith, mul-le-mul_right}
 use Rattle.std.specs.Bool.{◌==◌}
 use Rattle.std.specs.List.{list_all}
 use Rattle.std.proofs.lemmas.Bool.Decides.{Decides-eqb}
@@ -59,7 +60,8 @@ later_tail pattern name c e = or_right (matches pattern (c ∷ name)) _ e
 later_star : (byte : ℕ) (rest name : List ℕ) → byte ≡ 42 → matches_later (byte ∷ rest) name ≡ true → matches_later rest name ≡ true
 later_star byte rest [] star e = or_cases (matches (byte ∷ rest) []) false _ e (λ t. sym (on_star byte rest [] star) ∙ t) (λ f. absurd (cc))
 later_star byte rest (c ∷ name) star e =
-    or_cases (matches (byte ∷ rest) (c ∷ name)) (matches_later (byte ∷ rest) name) _ e (λ t. sym (on_star byte rest (c ∷ name) star) ∙ t) (λ t. later_tail rest name c (later_star byte rest name star t))
+    or_cases (matches (byte ∷ rest) (c ∷ name)) (matches_later (byte ∷ rest) name) _ e (λ t. sym (on_star byte rest (c ∷ name) star) ∙ t)
+    (λ t. later_tail rest name c (later_star byte rest name star t))
 
 and_right : (a b : Bool) → a && b ≡ true → b ≡ true
 and_right true b e = e
@@ -69,14 +71,17 @@ byte_matched : (byte c : ℕ) (rest name : List ℕ) → (byte ≡ 42 → ⊥) �
 byte_matched byte c rest name ne e = and_right (c == byte) (matches rest name) (sym (on_byte byte rest (c ∷ name) ne) ∙ e)
 
 later_rest : (byte : ℕ) (rest name : List ℕ) → (byte ≡ 42 → ⊥) → matches_later (byte ∷ rest) name ≡ true → matches_later rest name ≡ true
-later_rest byte rest [] ne e = or_cases (matches (byte ∷ rest) []) false _ e (λ t. let never : false ≡ true = sym (on_byte byte rest [] ne) ∙ t in absurd (cc)) (λ f. absurd (cc))
+later_rest byte rest [] ne e =
+    or_cases (matches (byte ∷ rest) []) false _ e (λ t. let never : false ≡ true = sym (on_byte byte rest [] ne) ∙ t in absurd (cc)) (λ f. absurd (cc))
 later_rest byte rest (c ∷ name) ne e =
-    or_cases (matches (byte ∷ rest) (c ∷ name)) (matches_later (byte ∷ rest) name) _ e (λ t. later_tail rest name c (later_here rest name (byte_matched byte c rest name ne t)))
+    or_cases (matches (byte ∷ rest) (c ∷ name))
+    (matches_later (byte ∷ rest) name) _ e (λ t. later_tail rest name c (later_here rest name (byte_matched byte c rest name ne t)))
     (λ t. later_tail rest name c (later_rest byte rest name ne t))
 
 later_byte : (byte c : ℕ) (rest name : List ℕ) → (byte ≡ 42 → ⊥) → matches_later (byte ∷ rest) (c ∷ name) ≡ true → matches_later rest name ≡ true
 later_byte byte c rest name ne e =
-    or_cases (matches (byte ∷ rest) (c ∷ name)) (matches_later (byte ∷ rest) name) _ e (λ t. later_here rest name (byte_matched byte c rest name ne t)) (λ t. later_rest byte rest name ne t)
+    or_cases (matches (byte ∷ rest) (c ∷ name)) (matches_later (byte ∷ rest) name) _ e (λ t. later_here rest name (byte_matched byte c rest name ne t))
+    (λ t. later_rest byte rest name ne t)
 
 after_one_later : (pattern name : List ℕ) → matches_after_one pattern name ≡ true → matches_later pattern name ≡ true
 after_one_later pattern name e = later_split pattern name ∙ or_right (matches pattern name) _ e
@@ -93,13 +98,17 @@ star_same byte pattern rest name again star begins later =
     sym (later_split rest name) ∙ sym whole
     ∙ sym (absorbed (matches pattern name) again (λ t. whole ∙ later_star byte rest name star (sym (ap (λ p. matches_later p name) begins) ∙ later t)))
 
-byte_same : (byte c : ℕ) (pattern rest name left : List ℕ) → (byte ≡ 42 → ⊥) → byte ≡ c → pattern ≡ byte ∷ rest → name ≡ c ∷ left → matches rest left ≡ matches pattern name
+byte_same : (byte c : ℕ) (pattern rest name left : List ℕ) → (byte ≡ 42 → ⊥) → byte ≡ c → pattern ≡ byte ∷ rest → name ≡ c ∷ left
+    → matches rest left ≡ matches pattern name
 byte_same byte c pattern rest name left ne same begins is =
-    sym (ap (λ p. matches p name) begins ∙ ap (matches (byte ∷ rest)) is ∙ on_byte byte rest (c ∷ left) ne ∙ ap (λ b. b && matches rest left) ((Decides-eqb c byte).1 (sym same)))
+    sym (ap (λ p. matches p name) begins ∙ ap (matches (byte ∷ rest)) is ∙ on_byte byte rest (c ∷ left) ne
+    ∙ ap (λ b. b && matches rest left) ((Decides-eqb c byte).1 (sym same)))
 
-pub byte_other : (byte c : ℕ) (pattern rest name left : List ℕ) → (byte ≡ 42 → ⊥) → (byte ≡ c → ⊥) → pattern ≡ byte ∷ rest → name ≡ c ∷ left → matches pattern name ≡ false
+pub byte_other : (byte c : ℕ) (pattern rest name left : List ℕ) → (byte ≡ 42 → ⊥) → (byte ≡ c → ⊥) → pattern ≡ byte ∷ rest → name ≡ c ∷ left
+    → matches pattern name ≡ false
 byte_other byte c pattern rest name left ne other begins is =
-    ap (λ p. matches p name) begins ∙ ap (matches (byte ∷ rest)) is ∙ on_byte byte rest (c ∷ left) ne ∙ ap (λ b. b && matches rest left) (differ c byte (λ e. other (sym e)))
+    ap (λ p. matches p name) begins ∙ ap (matches (byte ∷ rest)) is ∙ on_byte byte rest (c ∷ left) ne
+    ∙ ap (λ b. b && matches rest left) (differ c byte (λ e. other (sym e)))
 
 pub none_other : (c : ℕ) (pattern name left : List ℕ) → length pattern ≡ 0 → name ≡ c ∷ left → matches pattern name ≡ false
 unfolding matches
@@ -149,7 +158,8 @@ module _ (most longest : ℕ) (walk : Walk) (going : IsWalk most longest walk) w
       record {
         same = ap (λ b. b || matches_again walk.star) (byte_same byte c walk.pattern.now rest.now walk.name.now left.now ne same begins is);
         going = record {
-          later = λ t. later_byte byte c rest.now left.now ne (sym (ap (λ p. matches_later p walk.name.now) begins ∙ ap (matches_later (byte ∷ rest.now)) is) ∙ going.later t);
+          later = λ t. later_byte byte c rest.now left.now ne
+              (sym (ap (λ p. matches_later p walk.name.now) begins ∙ ap (matches_later (byte ∷ rest.now)) is) ∙ going.later t);
           name = omega (arith, named, going.name);
           pattern = omega (arith, plain, going.pattern);
           star = passed most walk.pattern.now rest.now walk.star longer plain going.star;
@@ -158,7 +168,8 @@ module _ (most longest : ℕ) (walk : Walk) (going : IsWalk most longest walk) w
       }
 
   -- a step back, where the pattern doesn't match
-  pub back : (r : Option Walk) → matches walk.pattern.now walk.name.now ≡ false → MatchOption r (matches_again walk.star ≡ false) (Leads most longest walk (matches_again walk.star))
+  pub back : (r : Option Walk) → matches walk.pattern.now walk.name.now ≡ false
+      → MatchOption r (matches_again walk.star ≡ false) (Leads most longest walk (matches_again walk.star))
       → MatchOption r (outcome walk ≡ false) (Leads most longest walk (outcome walk))
   back r other leads =
       let same : outcome walk ≡ matches_again walk.star = ap (λ b. b || matches_again walk.star) other in
@@ -170,7 +181,8 @@ or_none : (b : Bool) → b || false ≡ b
 or_none true = refl
 or_none false = refl
 
-star_or_not : (byte : ℕ) (pattern : List ℕ) (b stars : Bool) → stars ≡ matches pattern [] → b && stars ≡ cond b (matches_later pattern []) (begins_with_byte byte (matches pattern) [])
+star_or_not : (byte : ℕ) (pattern : List ℕ) (b stars : Bool) → stars ≡ matches pattern []
+    → b && stars ≡ cond b (matches_later pattern []) (begins_with_byte byte (matches pattern) [])
 star_or_not byte pattern true stars e = e ∙ sym (or_none (matches pattern []))
 star_or_not byte pattern false stars e = refl
 
@@ -179,10 +191,12 @@ unfolding matches
 all_stars [] = refl
 all_stars (byte ∷ pattern) = star_or_not byte pattern (byte == 42) (list_all (λ byte. byte == 42) pattern) (all_stars pattern)
 
-pub at_end : (most longest : ℕ) (walk : Walk) → IsWalk most longest walk → length walk.name.now ≡ 0 → list_all (λ byte. byte == 42) walk.pattern.now ≡ outcome walk
+pub at_end : (most longest : ℕ) (walk : Walk) → IsWalk most longest walk → length walk.name.now ≡ 0
+    → list_all (λ byte. byte == 42) walk.pattern.now ≡ outcome walk
 at_end most longest walk going none = ended walk.pattern.now walk.name.now (matches_again walk.star) none going.later
   where
-    ended : (pattern name : List ℕ) (again : Bool) → length name ≡ 0 → (again ≡ true → matches_later pattern name ≡ true) → list_all (λ byte. byte == 42) pattern ≡ matches pattern name || again
+    ended : (pattern name : List ℕ) (again : Bool) → length name ≡ 0 → (again ≡ true → matches_later pattern name ≡ true)
+        → list_all (λ byte. byte == 42) pattern ≡ matches pattern name || again
     ended pattern [] again none later = all_stars pattern ∙ sym (absorbed (matches pattern []) again (λ t. sym (or_none (matches pattern [])) ∙ later t))
     ended pattern (c ∷ name) again none later = absurd (omega arith)
 

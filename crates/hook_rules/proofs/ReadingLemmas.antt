@@ -35,7 +35,8 @@ IsPattern-pattern_of rule value text e =
     let found = in_turn-Ok (field_of pattern (codes "pattern") rule) text (object_of rule value) e in
     IsPattern-field (codes "pattern") rule found.0 text found.2
 
-pub IsProtection-read : (value : Data) (items : Items) (patterns : List (List ℕ)) → list_of value ≡ Ok items → rules_from pattern_of 0 items ≡ Ok patterns → IsProtection patterns
+pub IsProtection-read : (value : Data) (items : Items) (patterns : List (List ℕ)) → list_of value ≡ Ok items → rules_from pattern_of 0 items ≡ Ok patterns
+    → IsProtection patterns
 IsProtection-read value items patterns listed read =
     let few = few_of-list_of value items listed in
     let kept = Keeps-rules_from pattern_of IsPattern IsPattern-pattern_of 0 items patterns read in
@@ -48,8 +49,10 @@ mapped make None deny e = absurd (cc)
 mapped make (Some x) deny e = (x, refl, cc)
 
 IsDeny-denial : (type : HookType) (value : Data) (deny : Deny) → denial type value ≡ Some deny → IsDeny deny
-IsDeny-denial hook.RequireMeta value deny e = let m = mapped RequireMeta (text_within 1 128 value) deny e in subst IsDeny m.2 (text_within-Some 1 128 value m.0 m.1)
-IsDeny-denial hook.DenyPrefix value deny e = let m = mapped DenyPrefix (text_within 1 1024 value) deny e in subst IsDeny m.2 (text_within-Some 1 1024 value m.0 m.1)
+IsDeny-denial hook.RequireMeta value deny e = let m = mapped RequireMeta (text_within 1 128 value) deny e in
+    subst IsDeny m.2 (text_within-Some 1 128 value m.0 m.1)
+IsDeny-denial hook.DenyPrefix value deny e = let m = mapped DenyPrefix (text_within 1 1024 value) deny e in
+    subst IsDeny m.2 (text_within-Some 1 1024 value m.0 m.1)
 IsDeny-denial hook.MaxSize value deny e = let m = mapped MaxSize (whole_number value) deny e in subst IsDeny m.2 tt
 IsDeny-denial hook.MaxChanges value deny e = let m = mapped MaxChanges (whole_number value) deny e in subst IsDeny m.2 tt
 
@@ -65,7 +68,8 @@ IsHook-hook_of rule value x e =
     let type = in_turn-Ok _ x (field_of hook_type (codes "type") rule found.0) found.2 in
     let branch = in_turn-Ok _ x (field_of pattern (codes "branch") rule found.0) type.2 in
     let deny = in_turn-Ok _ x (field_of (denial type.0) (field_name type.0) rule found.0) branch.2 in
-    kept (record { branch = branch.0; deny = deny.0 }) x deny.2 (IsPattern-field (codes "branch") rule found.0 branch.0 branch.1, is_deny type.0 rule found.0 deny.0 deny.1)
+    kept (record { branch = branch.0; deny = deny.0 }) x deny.2
+    (IsPattern-field (codes "branch") rule found.0 branch.0 branch.1, is_deny type.0 rule found.0 deny.0 deny.1)
   where
     is_deny : (type : HookType) (rule : ℕ) (from : Data) (deny : Deny) → field_of (denial type) (field_name type) rule from ≡ Ok deny → IsDeny deny
     is_deny type rule from deny e = let f = field_of-Ok (denial type) (field_name type) rule from deny e in IsDeny-denial type f.0 deny f.1

@@ -1,5 +1,6 @@
 -- What is kept of rules reads back as the same, as data and as text.
-use Rattle.std.proofs.Common.{◌≡◌, ℕ, ◌≤◌, length, List, [], ◌∷◌, true, false, map, Some, Ok, option_map, codes, Vec, Global, take, take_all, subst, refl, sym, ap, ◌∙◌, arith}
+use Rattle.std.proofs.Common.{◌≡◌, ℕ, ◌≤◌, length, List, [], ◌∷◌, true, false, map, Some, Ok, option_map, codes, Vec, Global, take, take_all, subst, refl, sym}
+use Rattle.std.proofs.Common.{ap, ◌∙◌, arith}
 use Rattle.std.specs.List.{list_all, AllByRecursion}
 use Rattle.serde_json.specs.Data.{Data, string, array, object, no_members, put, depth}
 use Rattle.serde_json.specs.Read.{read}
@@ -15,7 +16,8 @@ use Rattle.lake_values.specs.declared.settings.HookRule.{HookRule}
 use Rattle.setting_forms.proofs.FormsLemmas.{option_filter-here, text_within-string}
 use Rattle.setting_forms.proofs.RulesLemmas.{rules_of-written}
 use Rattle.setting_forms.proofs.TextLemmas.{IsFlat, no_floats, flat, read-list, number_flat}
-use Rattle.hook_rules.specs.HookForms.{pattern, pattern_of, pattern_data, protection_of, protection_data, protection_text, denial, type_of, type_name, field_name, field_data, hook_of, hook_data, hooks_of, hooks_data, hooks_text, HasNumber}
+use Rattle.hook_rules.specs.HookForms.{pattern, pattern_of, pattern_data, protection_of, protection_data, protection_text, denial, type_of, type_name}
+use Rattle.hook_rules.specs.HookForms.{field_name, field_data, hook_of, hook_data, hooks_of, hooks_data, hooks_text, HasNumber}
 
 -- ---- patterns
 
@@ -90,8 +92,10 @@ hooks_depth rules = omega (arith, flat hook_data (λ x. hook_depth x.branch x.de
 flat_as : (branch : List ℕ) (deny : Deny) → HasNumber deny → IsFlat hook_data (record { branch = branch; deny = deny })
 flat_as branch (RequireMeta key) small = record { numbers = (tt, (tt, (tt, tt))); again = refl; shallow = omega arith }
 flat_as branch (DenyPrefix prefix) small = record { numbers = (tt, (tt, (tt, tt))); again = refl; shallow = omega arith }
-flat_as branch (MaxSize bytes) small = record { numbers = (tt, (number_flat bytes small, (tt, tt))); again = rw (number_of-decimal bytes small); shallow = omega arith }
-flat_as branch (MaxChanges count) small = record { numbers = (tt, (number_flat count small, (tt, tt))); again = rw (number_of-decimal count small); shallow = omega arith }
+flat_as branch (MaxSize bytes) small =
+    record { numbers = (tt, (number_flat bytes small, (tt, tt))); again = rw (number_of-decimal bytes small); shallow = omega arith }
+flat_as branch (MaxChanges count) small =
+    record { numbers = (tt, (number_flat count small, (tt, tt))); again = rw (number_of-decimal count small); shallow = omega arith }
 
 each_hook : (rules : List HookRule) → AllByRecursion (λ rule. HasNumber rule.deny) rules → AllByRecursion (IsFlat hook_data) rules
 each_hook [] each = tt
@@ -102,7 +106,8 @@ hooks_text_again rules each = read-list hook_data rules (each_hook rules each)
 
 -- the named fields, put one after another
 pub hook_fields : (branch : List ℕ) (deny : Deny)
-    → object (put (codes "type") (string (type_name (type_of deny))) (put (field_name (type_of deny)) (field_data deny) (put (codes "branch") (string branch) no_members))) ≡ hook_data (record { branch = branch; deny = deny })
+    → object (put (codes "type") (string (type_name (type_of deny)))
+    (put (field_name (type_of deny)) (field_data deny) (put (codes "branch") (string branch) no_members))) ≡ hook_data (record { branch = branch; deny = deny })
 hook_fields branch (RequireMeta key) = refl
 hook_fields branch (DenyPrefix prefix) = refl
 hook_fields branch (MaxSize bytes) = refl
@@ -110,13 +115,16 @@ hook_fields branch (MaxChanges count) = refl
 
 -- ---- the texts
 
-module _ (value : Value) (text : List ℕ) (fits : has_float (view value) ≡ false → text ≡ compact_text (view value)) (again : depth (view value) ≤ 127 → read text ≡ Some (view value)) where
+module _ (value : Value) (text : List ℕ) (fits : has_float (view value) ≡ false → text ≡ compact_text (view value))
+    (again : depth (view value) ≤ 127 → read text ≡ Some (view value)) where
   pub protection_written : (patterns : List (List ℕ)) → view value ≡ protection_data patterns → text ≡ protection_text patterns
   protection_written patterns is = fits (ap has_float is ∙ protection_floats patterns) ∙ ap compact_text is
 
-  pub protection_read : (patterns : List (List ℕ)) → view value ≡ protection_data patterns → IsProtection patterns → option_map protection_of (read text) ≡ Some (Ok patterns)
+  pub protection_read : (patterns : List (List ℕ)) → view value ≡ protection_data patterns → IsProtection patterns
+      → option_map protection_of (read text) ≡ Some (Ok patterns)
   protection_read patterns is kept =
-      ap (option_map protection_of) (again (subst (λ d. depth d ≤ 127) (sym is) (protection_depth patterns)) ∙ ap Some is) ∙ ap Some (protection_again patterns kept)
+      ap (option_map protection_of) (again (subst (λ d. depth d ≤ 127) (sym is) (protection_depth patterns)) ∙ ap Some is)
+      ∙ ap Some (protection_again patterns kept)
 
   pub hooks_written : (rules : List HookRule) → view value ≡ hooks_data rules → text ≡ hooks_text rules
   hooks_written rules is = fits (ap has_float is ∙ hooks_floats rules) ∙ ap compact_text is
@@ -126,7 +134,8 @@ module _ (value : Value) (text : List ℕ) (fits : has_float (view value) ≡ fa
       ap (option_map hooks_of) (again (subst (λ d. depth d ≤ 127) (sym is) (hooks_depth rules)) ∙ ap Some is) ∙ ap Some (hooks_again rules kept)
 
 -- the value of a list, of which the first so many have been written
-pub shown : {X : Type 0} (write : X → Data) (list : Vec Value Global) (xs ys : List X) (count : ℕ) → map view list.items ≡ map write (take count xs) → length xs ≤ count → xs ≡ ys
+pub shown : {X : Type 0} (write : X → Data) (list : Vec Value Global) (xs ys : List X) (count : ℕ) → map view list.items ≡ map write (take count xs)
+    → length xs ≤ count → xs ≡ ys
     → view (Array list) ≡ array (items_of (map write ys))
 shown write list xs ys count so_far all same =
     view-Array list ∙ ap (λ ds. array (items_of ds)) (so_far ∙ ap (map write) (take_all count xs all ∙ same))

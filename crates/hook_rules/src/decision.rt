@@ -35,7 +35,8 @@ pub enum Decision {
 /// where its pattern matches the branch, and the metadata lacks its key, a changed path begins with its prefix,
 /// an entry that is put has a greater size, or more paths change. It takes no memory.
 pub fn decide(rules: &HookRules, event: &Event<'_>) -> Decision
-    ensures { result ≡ decision_of (denying_rule rules.now event.now.branch.now event.now.metadata.now event.now.changes.now) }
+    ensures { result
+        ≡ decision_of (denying_rule rules.now event.now.branch.now event.now.metadata.now event.now.changes.now) }
 {
     match denied_by(rules, event) {
         Some(rule) => Decision::Deny(rule),

@@ -6,7 +6,8 @@ ghost use Rattle.lake_values.specs.Settings.{AreHooks};
 ghost use Rattle.lake_values.specs.declared.settings.HookRule.{HookRule as Hook};
 ghost use Rattle.std.specs.List.{AllByRecursion};
 ghost use Rattle.setting_forms.specs.Forms.{IsReadAs, field_of};
-ghost use Rattle.hook_rules.specs.HookForms.{hook_type, denial, field_name, type_of, field_data, hook_of, hooks_of, hook_data, hooks_data, hooks_text, HasNumber};
+ghost use Rattle.hook_rules.specs.HookForms.{hook_type, denial, field_name, type_of, field_data, hook_of, hooks_of};
+ghost use Rattle.hook_rules.specs.HookForms.{hook_data, hooks_data, hooks_text, HasNumber};
 
 use crate::hook_type::HookType;
 use crate::pattern::read_pattern;

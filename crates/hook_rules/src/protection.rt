@@ -68,6 +68,7 @@ fn pattern_value(alloc: Global, pattern: &Text) -> Result<Value, NoMemory>
 
 /// What is kept of protection reads back as the same. (A law: it does nothing.)
 pub fn law_of_protection()
-    ensures data { (patterns : List (List ℕ)) → IsProtection patterns → protection_of (protection_data patterns) ≡ Ok patterns }
+    ensures data { (patterns : List (List ℕ)) → IsProtection patterns
+        → protection_of (protection_data patterns) ≡ Ok patterns }
     ensures text { (patterns : List (List ℕ)) → read (protection_text patterns) ≡ Some (protection_data patterns) }
 {}

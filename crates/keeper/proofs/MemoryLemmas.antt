@@ -15,5 +15,6 @@ landing_at number fails i x lt is =
     ∙ (let next : suc i ≡ i + 1 = omega arith in ap (λ k. option_or (landing number x) (first_landing number (drop k fails))) next)
 
 -- whether a load is to fail is whether one of its number is found
-pub listed : (fails items : List KeeperFail) (loads number : ℕ) (found : Bool) → found ≡ list_any (is_load number) items → items ≡ fails → number ≡ next_count loads → is_load_to_fail fails loads ≡ found
+pub listed : (fails items : List KeeperFail) (loads number : ℕ) (found : Bool) → found ≡ list_any (is_load number) items → items ≡ fails
+    → number ≡ next_count loads → is_load_to_fail fails loads ≡ found
 listed fails items loads number found is same count = sym (is ∙ (λ i. list_any (is_load (count i)) (same i)))

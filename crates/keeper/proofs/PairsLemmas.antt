@@ -6,7 +6,8 @@ use Rattle.std.specs.Ordering.{eq_by_cmp}
 use Rattle.std.specs.Map.{lookup}
 use Rattle.std.specs.Cmp.{eq_by_cmp_equiv}
 use Rattle.std.proofs.lemmas.Cmp.{nat_list_cmp_total}
-use Rattle.std.specs.FinMap.{find, get, entries, from_entries, from_sorted, insert, remove, get-from_entries, get-from_sorted, get-insert, get-remove, entries-from_sorted, same_map, slice_cmp-IsAntisymmetric, nat_cmp-IsAntisymmetric}
+use Rattle.std.specs.FinMap.{find, get, entries, from_entries, from_sorted, insert, remove, get-from_entries, get-from_sorted, get-insert, get-remove}
+use Rattle.std.specs.FinMap.{entries-from_sorted, same_map, slice_cmp-IsAntisymmetric, nat_cmp-IsAntisymmetric}
 use Rattle.lake_base.specs.Maps.{byte_order}
 use Rattle.lake_base.proofs.MapsLemmas.{ascend_from}
 use Rattle.pair_format.specs.declared.pair.Pair.{Pair}
@@ -55,7 +56,8 @@ rows_removed es fs key h = same _ _ (λ q.
     ∙ sym (get-remove nat_list_cmp_total (from_entries es) key q))
 
 -- one pair more, whose row was the next
-pub pairs_more : (pairs : List Pair) (pair : Pair) (row : List ℕ × List ℕ) (left all : Rows) → (pair.key, pair.value) ≡ row → entries_of pairs ++ row ∷ left ≡ all → entries_of (pairs ++ pair ∷ []) ++ left ≡ all
+pub pairs_more : (pairs : List Pair) (pair : Pair) (row : List ℕ × List ℕ) (left all : Rows) → (pair.key, pair.value) ≡ row
+    → entries_of pairs ++ row ∷ left ≡ all → entries_of (pairs ++ pair ∷ []) ++ left ≡ all
 pairs_more pairs pair row left all is h =
     ap (λ l. l ++ left) (map-append (λ (p : Pair). (p.key, p.value)) pairs (pair ∷ []))
     ∙ append_assoc (entries_of pairs) ((pair.key, pair.value) ∷ []) left

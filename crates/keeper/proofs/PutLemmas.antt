@@ -14,7 +14,8 @@ use Rattle.keeper.specs.Keepers.{KeptPairs, pairs_with, pairs_after, last_put}
 put_under : (put : Put) (before : KeptPairs) (key : List ℕ) → get (pairs_with put before) key ≡ cond (bytes_eq key put.key) put.value (get before key)
 put_under put before key = by put.value
   where
-    by : (value : Option (List ℕ)) → get (option_map_or (λ v. insert before put.key v) value (remove before put.key)) key ≡ cond (bytes_eq key put.key) value (get before key)
+    by : (value : Option (List ℕ))
+        → get (option_map_or (λ v. insert before put.key v) value (remove before put.key)) key ≡ cond (bytes_eq key put.key) value (get before key)
     by None = get-remove nat_list_cmp_total before put.key key ∙ ap (λ b. cond b None (get before key)) (sym (texts_ties key put.key))
     by (Some v) = get-insert nat_list_cmp_total before put.key v key ∙ ap (λ b. cond b (Some v) (get before key)) (sym (texts_ties key put.key))
 
@@ -31,7 +32,8 @@ either (Some p) put b before = refl
 either None put true before = refl
 either None put false before = refl
 
-pub get_after : (puts : List Put) (before : KeptPairs) (key : List ℕ) → get (pairs_after puts before) key ≡ option_map_or (λ put. put.value) (last_put key puts) (get before key)
+pub get_after : (puts : List Put) (before : KeptPairs) (key : List ℕ)
+    → get (pairs_after puts before) key ≡ option_map_or (λ put. put.value) (last_put key puts) (get before key)
 unfolding pairs_after
 get_after [] before key = refl
 get_after (put ∷ puts) before key =

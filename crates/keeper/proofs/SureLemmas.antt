@@ -19,14 +19,16 @@ over_none [] = refl
 over_none (e ∷ es) = ap (λ m. insert m e.0 e.1) (over_none es)
 
 -- the last pair may be put in place first
-pub over_more : (old new : List Pair) (pair : Pair) (before : KeptPairs) → old ≡ new ++ pair ∷ [] → pairs_over (entries_of new) (insert before pair.key pair.value) ≡ pairs_over (entries_of old) before
+pub over_more : (old new : List Pair) (pair : Pair) (before : KeptPairs) → old ≡ new ++ pair ∷ []
+    → pairs_over (entries_of new) (insert before pair.key pair.value) ≡ pairs_over (entries_of old) before
 over_more old new pair before is =
     sym (over_last (entries_of new) (pair.key, pair.value) before)
     ∙ ap (λ es. pairs_over es before) (sym (map-append (λ (p : Pair). (p.key, p.value)) new (pair ∷ [])))
     ∙ ap (λ l. pairs_over (entries_of l) before) (sym is)
 
 -- the put that waits at the end is the next
-pub next_put : (old new : List Put) (put : Put) (pairs : KeptPairs) → old ≡ new ++ put ∷ [] → pairs_after (reverse old) pairs ≡ pairs_after (reverse new) (pairs_with put pairs)
+pub next_put : (old new : List Put) (put : Put) (pairs : KeptPairs) → old ≡ new ++ put ∷ []
+    → pairs_after (reverse old) pairs ≡ pairs_after (reverse new) (pairs_with put pairs)
 unfolding pairs_after
 next_put old new put pairs is = ap (λ l. pairs_after (reverse l) pairs) is ∙ ap (λ l. pairs_after l pairs) (reverse-append new (put ∷ []))
 
@@ -60,7 +62,8 @@ compared_keys pairs i j x y a b r is other first second e =
     e ∙ (λ k. byte_order ((first ∙ ap (λ (p : Pair). p.key) (sym is)) k) ((second ∙ ap (λ (p : Pair). p.key) (sym other)) k))
 
 -- the key and value of the pair at a place
-pub entry_at : (pairs : List Pair) (i : ℕ) (x : Pair) → i < length pairs → x ≡ get_or pairs i x → (x.key, x.value) ≡ get_or (entries_of pairs) i (x.key, x.value)
+pub entry_at : (pairs : List Pair) (i : ℕ) (x : Pair) → i < length pairs → x ≡ get_or pairs i x
+    → (x.key, x.value) ≡ get_or (entries_of pairs) i (x.key, x.value)
 entry_at pairs i x lt is = ap (λ (p : Pair). (p.key, p.value)) is ∙ sym (get_or-map (λ (p : Pair). (p.key, p.value)) pairs i x (x.key, x.value) lt)
 
 pub entries_len : (pairs : List Pair) → length (entries_of pairs) ≡ length pairs

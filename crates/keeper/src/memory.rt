@@ -1,11 +1,14 @@
 //! A keeper in memory that fails where it is told to, for tests.
-ghost use Rattle.std.specs.Prelude.{◌≡◌, ◌≢◌, [], true, false, Some, None, Err, IsTrue, IfOk, IfErr, OnOk, OnErr, IsErrOf, IsErr, IsOk};
+ghost use Rattle.std.specs.Prelude.{◌≡◌, ◌≢◌, [], true, false, Some, None, Err, IsTrue, IfOk, IfErr, OnOk, OnErr};
+ghost use Rattle.std.specs.Prelude.{IsErrOf, IsErr, IsOk};
 ghost use Rattle.std.specs.FinMap as map;
 ghost use Rattle.lake_base.specs.Maps.{HasAscendingKeys};
 ghost use Rattle.lake_base.specs.Memory.{next_count};
-ghost use Rattle.lake_base.specs.declared.outside.Trouble.TheVariants.{Failed as trouble_failed, NoMemory as trouble_no_memory};
+ghost use Rattle.lake_base.specs.declared.outside.Trouble.TheVariants.{Failed as trouble_failed};
+ghost use Rattle.lake_base.specs.declared.outside.Trouble.TheVariants.{NoMemory as trouble_no_memory};
 ghost use Rattle.keeper.specs.Keepers.{FailsByFault, MayHaveMade, entries_of, pairs_after};
-ghost use Rattle.keeper.specs.FailingKeepers.{is_load, is_load_to_fail, landing, first_landing, put_landing, faults_after};
+ghost use Rattle.keeper.specs.FailingKeepers.{is_load, is_load_to_fail, landing, first_landing, put_landing};
+ghost use Rattle.keeper.specs.FailingKeepers.{faults_after};
 ghost use Rattle.std.specs.List.{list_any};
 
 use crate::keeper::Keeper;

@@ -1,5 +1,6 @@
 //! A keeper in memory.
-ghost use Rattle.std.specs.Prelude.{◌≡◌, ◌<◌, ◌↔◌, [], reverse, Some, None, IsTrue, IfOk, IfErr, IfSome, IsErrOf, OnOk, OnErr, is_some, vec_len, vec_capacity, ◌++◌, ◌∷◌};
+ghost use Rattle.std.specs.Prelude.{◌≡◌, ◌<◌, ◌↔◌, [], reverse, Some, None, IsTrue, IfOk, IfErr, IfSome, IsErrOf, OnOk};
+ghost use Rattle.std.specs.Prelude.{OnErr, is_some, vec_len, vec_capacity, ◌++◌, ◌∷◌};
 ghost use Rattle.std.specs.FinMap as map;
 ghost use Rattle.lake_base.specs.Maps.{HasAscendingKeys};
 ghost use Rattle.lake_base.specs.declared.outside.Trouble.TheVariants.{NoMemory as trouble_no_memory};

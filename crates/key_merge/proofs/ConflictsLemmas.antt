@@ -19,9 +19,11 @@ use Rattle.key_merge.proofs.RowsLemmas.{find_above, ascends_above}
 use Rattle.key_merge.proofs.FrontLemmas.{IsFront, none_below, nothing_below}
 
 -- whose value a path takes among rows
-side_among : (sides : SidesValue) → Ascend sides → (q : List ℕ) → side_of (get (from_sorted {R = byte_order} sides.base) q) (get (from_sorted {R = byte_order} sides.source) q) (get (from_sorted {R = byte_order} sides.dest) q) ≡ side_at (front_at sides q)
+side_among : (sides : SidesValue) → Ascend sides → (q : List ℕ) → side_of (get (from_sorted {R = byte_order} sides.base) q)
+    (get (from_sorted {R = byte_order} sides.source) q) (get (from_sorted {R = byte_order} sides.dest) q) ≡ side_at (front_at sides q)
 side_among sides h q =
-    λ i. side_of (get-from_sorted byte_order sides.base q h.base i) (get-from_sorted byte_order sides.source q h.source i) (get-from_sorted byte_order sides.dest q h.dest i)
+    λ i. side_of (get-from_sorted byte_order sides.base q h.base i) (get-from_sorted byte_order sides.source q h.source i)
+    (get-from_sorted byte_order sides.dest q h.dest i)
 
 -- whether a path conflicts among rows
 abbrev pub is_among : SidesValue → List ℕ → Bool
@@ -30,13 +32,15 @@ is_among sides q = is_neither (side_at (front_at sides q))
 module _ (sides : SidesValue) (h : Ascend sides) where
   -- a path of the conflicts conflicts
   among_of : (q : List ℕ) → Contains (conflicts_of sides) q → is_among sides q ≡ true
-  among_of q within = ap is_neither (sym (side_among sides h q) ∙ ((are_conflicts (from_sorted sides.base) (from_sorted sides.source) (from_sorted sides.dest)).all q).0 within)
+  among_of q within =
+      ap is_neither (sym (side_among sides h q) ∙ ((are_conflicts (from_sorted sides.base) (from_sorted sides.source) (from_sorted sides.dest)).all q).0 within)
 
   of_among : (q : List ℕ) → is_among sides q ≡ true → Contains (conflicts_of sides) q
   of_among q t = ((are_conflicts (from_sorted sides.base) (from_sorted sides.source) (from_sorted sides.dest)).all q).1 (side_among sides h q ∙ neither _ t)
 
   -- a list that ascends, of just the paths that conflict, is that of the conflicts
-  conflicts_are : (paths : List (List ℕ)) → IsAscending paths → ((q : List ℕ) → Contains paths q → is_among sides q ≡ true) → ((q : List ℕ) → is_among sides q ≡ true → Contains paths q) → conflicts_of sides ≡ paths
+  conflicts_are : (paths : List (List ℕ)) → IsAscending paths → ((q : List ℕ) → Contains paths q → is_among sides q ≡ true)
+      → ((q : List ℕ) → is_among sides q ≡ true → Contains paths q) → conflicts_of sides ≡ paths
   conflicts_are paths ascend to from =
       sym (one_list (from_sorted sides.base) (from_sorted sides.source) (from_sorted sides.dest) paths (record {
         ascending = ascend;
@@ -44,10 +48,12 @@ module _ (sides : SidesValue) (h : Ascend sides) where
       }))
 
   above_ascends : (path : List ℕ) → Ascend (sides_above path sides)
-  above_ascends path = record { base = ascends_above path sides.base h.base; source = ascends_above path sides.source h.source; dest = ascends_above path sides.dest h.dest }
+  above_ascends path =
+      record { base = ascends_above path sides.base h.base; source = ascends_above path sides.source h.source; dest = ascends_above path sides.dest h.dest }
 
 -- above a path conflicts what conflicts among all, and nothing at or below it
-above_by : (b : Bool) (base source dest : Option EntryValue) → is_neither (side_of (cond b base None) (cond b source None) (cond b dest None)) ≡ (b && is_neither (side_of base source dest))
+above_by : (b : Bool) (base source dest : Option EntryValue)
+    → is_neither (side_of (cond b base None) (cond b source None) (cond b dest None)) ≡ (b && is_neither (side_of base source dest))
 above_by true base source dest = refl
 above_by false base source dest = refl
 
@@ -70,7 +76,8 @@ each_of : {X : Type 0} (P : X → Type 0) (xs : List X) → ((x : X) → Contain
 each_of P [] all = tt
 each_of P (x ∷ xs) all = (all x (Contains-first x xs), each_of P xs (λ y within. all y (Contains-later x y xs within)))
 
-first_ascends : (path : List ℕ) (paths : List (List ℕ)) → IsAscending paths → ((q : List ℕ) → Contains paths q → byte_order path q ≡ Less) → IsAscending (path ∷ paths)
+first_ascends : (path : List ℕ) (paths : List (List ℕ)) → IsAscending paths → ((q : List ℕ) → Contains paths q → byte_order path q ≡ Less)
+    → IsAscending (path ∷ paths)
 unfolding IsStrictlySortedBy
 first_ascends path paths ascend above = (each_of (λ q. byte_order path q ≡ Less) paths above, ascend)
 
@@ -102,7 +109,8 @@ module _ (sides : SidesValue) (front : FrontValue) (h : Ascend sides) (is : IsFr
       by Less lt = absurd (not_true _ (among_below q lt) t)
       by Equal tie = inl (same_key q front.path tie, sym (among_here q tie) ∙ t)
       by Greater gt =
-          let passes : (is_lt (byte_order front.path q) && is_among sides q) ≡ true = ap (λ o. is_lt o && is_among sides q) (turned q front.path Greater gt) ∙ t in
+          let passes : (is_lt (byte_order front.path q) && is_among sides q) ≡ true =
+          ap (λ o. is_lt o && is_among sides q) (turned q front.path Greater gt) ∙ t in
           inr (of_among (sides_above front.path sides) (above_ascends sides h front.path) q (among_above sides front.path q ∙ passes))
 
   conflicts_by : (b : Bool) → is_neither (side_at front) ≡ b → conflicts_of sides ≡ cond b (front.path ∷ rest) rest
@@ -126,7 +134,8 @@ module _ (sides : SidesValue) (front : FrontValue) (h : Ascend sides) (is : IsFr
       ])
 
   -- The conflicts at a front are its path, where it conflicts, and those of the rows above it.
-  pub conflicts_next : conflicts_of sides ≡ cond (is_neither (side_at front)) (front.path ∷ conflicts_of (sides_above front.path sides)) (conflicts_of (sides_above front.path sides))
+  pub conflicts_next : conflicts_of sides
+      ≡ cond (is_neither (side_at front)) (front.path ∷ conflicts_of (sides_above front.path sides)) (conflicts_of (sides_above front.path sides))
   conflicts_next = conflicts_by _ refl
 
 nothing_ascends : IsAscending []
@@ -136,10 +145,14 @@ nothing_ascends = tt
 -- no conflicts are left where base and source have no rows
 pub no_conflicts : (sides : SidesValue) → sides.base ≡ [] → sides.source ≡ [] → conflicts_of sides ≡ []
 no_conflicts sides no_base no_source =
-    let base : (q : List ℕ) → get (from_sorted {R = byte_order} sides.base) q ≡ None = λ q. ap (λ rows. get (from_sorted {R = byte_order} rows) q) no_base ∙ get-from_sorted byte_order [] q tt in
-    let source : (q : List ℕ) → get (from_sorted {R = byte_order} sides.source) q ≡ None = λ q. ap (λ rows. get (from_sorted {R = byte_order} rows) q) no_source ∙ get-from_sorted byte_order [] q tt in
+    let base : (q : List ℕ) → get (from_sorted {R = byte_order} sides.base) q ≡ None =
+    λ q. ap (λ rows. get (from_sorted {R = byte_order} rows) q) no_base ∙ get-from_sorted byte_order [] q tt in
+    let source : (q : List ℕ) → get (from_sorted {R = byte_order} sides.source) q ≡ None =
+    λ q. ap (λ rows. get (from_sorted {R = byte_order} rows) q) no_source ∙ get-from_sorted byte_order [] q tt in
     let dest = from_sorted {R = byte_order} sides.dest in
-    let calm : (q : List ℕ) → is_neither (side_of (get (from_sorted {R = byte_order} sides.base) q) (get (from_sorted {R = byte_order} sides.source) q) (get dest q)) ≡ false = λ q i. is_neither (side_of (base q i) (source q i) (get dest q)) in
+    let calm : (q : List ℕ)
+    → is_neither (side_of (get (from_sorted {R = byte_order} sides.base) q) (get (from_sorted {R = byte_order} sides.source) q) (get dest q)) ≡ false =
+    λ q i. is_neither (side_of (base q i) (source q i) (get dest q)) in
     sym (one_list (from_sorted sides.base) (from_sorted sides.source) dest [] (record {
       ascending = nothing_ascends;
       all = λ q. (λ within. absurd (Contains-nothing q within), λ conflict. absurd (not_true _ (calm q) (ap is_neither conflict)));

@@ -1,5 +1,6 @@
 -- The least path of two sides: none of their paths is below it, and passing it leaves fewer rows.
-use Rattle.std.proofs.Common.{◌≡◌, ℕ, ◌+◌, option_map, ◌<◌, ◌≤◌, T, Bool, true, false, cond, List, [], ◌∷◌, length, Some, None, Option, sym, ap, subst, refl, ◌∙◌, arith}
+use Rattle.std.proofs.Common.{◌≡◌, ℕ, ◌+◌, option_map, ◌<◌, ◌≤◌, T, Bool, true, false, cond, List, [], ◌∷◌, length, Some, None, Option, sym, ap, subst, refl}
+use Rattle.std.proofs.Common.{◌∙◌, arith}
 use Rattle.std.specs.FinMap.{find}
 use Rattle.std.specs.Ordering.{is_lt}
 use Rattle.std.specs.declared.cmp.Ordering.{Ordering}
@@ -24,11 +25,16 @@ not_above : (path other : List ℕ) → is_lt (byte_order other path) ≡ true �
 not_above path other low = ap is_lt (turned other path Less (lt_is _ low))
 
 -- of two paths the lesser is below neither
-lesser : (path other p : List ℕ) (b : Bool) → is_lt (byte_order other path) ≡ b → Some (cond b other path) ≡ Some p → (is_lt (byte_order path p) ≡ false) × (is_lt (byte_order other p) ≡ false)
+lesser : (path other p : List ℕ) (b : Bool) → is_lt (byte_order other path) ≡ b → Some (cond b other path) ≡ Some p
+    → (is_lt (byte_order path p) ≡ false) × (is_lt (byte_order other p) ≡ false)
 lesser path other p true low is =
-    let same : other ≡ p = cc in (subst (λ k. is_lt (byte_order path k) ≡ false) same (not_above path other low), subst (λ k. is_lt (byte_order other k) ≡ false) same (not_below_itself other))
+    let same : other ≡ p = cc in (
+      subst (λ k. is_lt (byte_order path k) ≡ false) same (not_above path other low),
+      subst (λ k. is_lt (byte_order other k) ≡ false) same (not_below_itself other),
+    )
 lesser path other p false never is =
-    let same : path ≡ p = cc in (subst (λ k. is_lt (byte_order path k) ≡ false) same (not_below_itself path), subst (λ k. is_lt (byte_order other k) ≡ false) same never)
+    let same : path ≡ p = cc in
+    (subst (λ k. is_lt (byte_order path k) ≡ false) same (not_below_itself path), subst (λ k. is_lt (byte_order other k) ≡ false) same never)
 
 alone : (path p : List ℕ) → Some path ≡ Some p → is_lt (byte_order path p) ≡ false
 alone path p is = let same : path ≡ p = cc in subst (λ k. is_lt (byte_order path k) ≡ false) same (not_below_itself path)
@@ -103,14 +109,16 @@ pub record IsFront (sides : SidesValue) (front : FrontValue) : Type 0 where
   pub least : least_path (first_path sides.base) (first_path sides.source) ≡ Some front.path
   pub values : front ≡ front_at sides front.path
 
-front_by : (sides : SidesValue) (front : FrontValue) (least : Option (List ℕ)) → Some front ≡ option_map (front_at sides) least → (least ≡ Some front.path) × (front ≡ front_at sides front.path)
+front_by : (sides : SidesValue) (front : FrontValue) (least : Option (List ℕ)) → Some front ≡ option_map (front_at sides) least
+    → (least ≡ Some front.path) × (front ≡ front_at sides front.path)
 front_by sides front None is = absurd cc
 front_by sides front (Some p) is =
     let same : front ≡ front_at sides p = cc in
     (ap (λ (f : FrontValue). Some f.path) (sym same), same ∙ ap (λ (f : FrontValue). front_at sides f.path) (sym same))
 
 pub front_is : (sides : SidesValue) (front : FrontValue) → Some front ≡ first_front sides → IsFront sides front
-front_is sides front is = let two = front_by sides front (least_path (first_path sides.base) (first_path sides.source)) is in record { least = two.0; values = two.1 }
+front_is sides front is = let two = front_by sides front (least_path (first_path sides.base) (first_path sides.source)) is in
+    record { least = two.0; values = two.1 }
 
 -- no front is left where base and source have no rows
 no_least : (base source : List RowValue) → least_path (first_path base) (first_path source) ≡ None → (base ≡ []) × (source ≡ [])

@@ -16,7 +16,8 @@ use Rattle.meta_range.proofs.CursorLemmas.{from_again, never_low, find_from, fin
 use Rattle.key_merge.specs.MergeWalk.{rows_ahead}
 
 -- the row that a cursor gives and what it has left are what it had
-pub ahead_of : (first : Option (Bor (List ℕ) × Bor EntryValue)) (old new : List RowValue) → MatchOption first ((old ≡ []) × (new ≡ [])) (λ row. old ≡ (row.0.now, row.1.now) ∷ new) → rows_ahead first new ≡ old
+pub ahead_of : (first : Option (Bor (List ℕ) × Bor EntryValue)) (old new : List RowValue)
+    → MatchOption first ((old ≡ []) × (new ≡ [])) (λ row. old ≡ (row.0.now, row.1.now) ∷ new) → rows_ahead first new ≡ old
 ahead_of None old new gives = sym gives.0
 ahead_of (Some row) old new gives = sym gives
 
@@ -73,8 +74,10 @@ module _ (path : List ℕ) (rows from : List RowValue) (h : HasAscendingKeys row
       }
 
 -- above a path is found what was found, and nothing at or below it
-pub find_above : (path q : List ℕ) (rows : List RowValue) → find byte_order q (rows_above (Some path) rows) ≡ cond (is_lt (byte_order path q)) (find byte_order q rows) None
-find_above path q rows = find-where_key byte_order (λ k. is_lt (byte_order path k)) q (λ x tie. ap (λ k. is_lt (byte_order path k)) (sym (same_key q x tie))) rows
+pub find_above : (path q : List ℕ) (rows : List RowValue)
+    → find byte_order q (rows_above (Some path) rows) ≡ cond (is_lt (byte_order path q)) (find byte_order q rows) None
+find_above path q rows =
+    find-where_key byte_order (λ k. is_lt (byte_order path k)) q (λ x tie. ap (λ k. is_lt (byte_order path k)) (sym (same_key q x tie))) rows
 
 pub ascends_above : (path : List ℕ) (rows : List RowValue) → HasAscendingKeys rows → HasAscendingKeys (rows_above (Some path) rows)
 ascends_above path rows h = is_sorted-where_key byte_order (λ k. is_lt (byte_order path k)) rows h

@@ -1,5 +1,6 @@
 -- One turn of the walk, and its ends.
-use Rattle.std.proofs.Common.{◌≡◌, ℕ, zero, suc, ◌+◌, ◌<◌, ◌≤◌, Bool, true, false, cond, List, [], ◌∷◌, ◌++◌, length, take, ltb, Some, None, Option, append_assoc, append-nil, length-append, sym, ap, subst, refl, ◌∙◌, arith}
+use Rattle.std.proofs.Common.{◌≡◌, ℕ, zero, suc, ◌+◌, ◌<◌, ◌≤◌, Bool, true, false, cond, List, [], ◌∷◌, ◌++◌, length, take, ltb, Some, None, Option}
+use Rattle.std.proofs.Common.{append_assoc, append-nil, length-append, sym, ap, subst, refl, ◌∙◌, arith}
 use Rattle.std.specs.FinMap.{entries, entries_sorted, from_sorted}
 use Rattle.std.proofs.lemmas.Bool.{lt-ltb}
 use Rattle.std.proofs.lemmas.List.{length-take}
@@ -15,7 +16,8 @@ use Rattle.lake_values.specs.declared.commit.Strategy.TheVariants.{Refuse, Sourc
 use Rattle.lake_values.specs.declared.merge.Side.{Side}
 use Rattle.lake_values.specs.declared.merge.Side.TheVariants.{Source, Destination, Neither}
 use Rattle.key_merge.specs.Refusal.{TellsConflicts}
-use Rattle.key_merge.specs.MergeWalk.{SidesValue, FrontValue, Ascend, sides_of, sides_above, first_front, side_at, winning_side, change_at, changes_of, conflicts_of, refusals_of, refused_paths}
+use Rattle.key_merge.specs.MergeWalk.{SidesValue, FrontValue, Ascend, sides_of, sides_above, first_front, side_at, winning_side, change_at, changes_of}
+use Rattle.key_merge.specs.MergeWalk.{conflicts_of, refusals_of, refused_paths}
 use Rattle.key_merge.proofs.FrontLemmas.{IsFront, front_is, no_front, fewer}
 use Rattle.key_merge.proofs.ChangesLemmas.{stays, changes_next, no_changes, all_changes}
 use Rattle.key_merge.proofs.ConflictsLemmas.{conflicts_next, no_conflicts, all_conflicts}
@@ -58,19 +60,24 @@ turn_of old new front first above ascend = record { ascend = ascend; is = front_
 
 module _ (old new : SidesValue) (front : FrontValue) (turn : IsTurn old new front) where
   pub turn_fewer : length new.base + length new.source < length old.base + length old.source
-  turn_fewer = subst (λ (s : SidesValue). length s.base + length s.source < length old.base + length old.source) (sym turn.above) (fewer old.base old.source front.path turn.is.least)
+  turn_fewer = subst (λ (s : SidesValue). length s.base + length s.source < length old.base + length old.source) (sym turn.above)
+      (fewer old.base old.source front.path turn.is.least)
 
   turn_changes : (strategy : Strategy) → changes_of strategy old ≡ rows_at front.path (change_at strategy front) ++ changes_of strategy new
-  turn_changes strategy = changes_next strategy old front turn.ascend turn.is ∙ ap (λ s. rows_at front.path (change_at strategy front) ++ changes_of strategy s) (sym turn.above)
+  turn_changes strategy =
+      changes_next strategy old front turn.ascend turn.is ∙ ap (λ s. rows_at front.path (change_at strategy front) ++ changes_of strategy s) (sym turn.above)
 
   pub turn_conflicts : conflicts_of old ≡ cond (is_neither (side_at front)) (front.path ∷ conflicts_of new) (conflicts_of new)
-  turn_conflicts = conflicts_next old front turn.ascend turn.is ∙ ap (λ s. cond (is_neither (side_at front)) (front.path ∷ conflicts_of s) (conflicts_of s)) (sym turn.above)
+  turn_conflicts =
+      conflicts_next old front turn.ascend turn.is ∙ ap (λ s. cond (is_neither (side_at front)) (front.path ∷ conflicts_of s) (conflicts_of s)) (sym turn.above)
 
   -- the source's value is taken
-  pub take_turn : (strategy : Strategy) (made pushed all : List (List ℕ × Change)) → winning_side strategy (side_at front) ≡ Source → pushed ≡ made ++ rows_at front.path (change_between front.source front.dest)
+  pub take_turn : (strategy : Strategy) (made pushed all : List (List ℕ × Change)) → winning_side strategy (side_at front) ≡ Source
+      → pushed ≡ made ++ rows_at front.path (change_between front.source front.dest)
       → made ++ changes_of strategy old ≡ all → pushed ++ changes_of strategy new ≡ all
   take_turn strategy made pushed all source is so_far =
-      let change : change_at strategy front ≡ change_between front.source front.dest = ap (λ v. change_between v front.dest) (source_taken front.source front.dest strategy (side_at front) source) in
+      let change : change_at strategy front ≡ change_between front.source front.dest =
+      ap (λ v. change_between v front.dest) (source_taken front.source front.dest strategy (side_at front) source) in
       ap (λ l. l ++ changes_of strategy new) is
       ∙ append_assoc made (rows_at front.path (change_between front.source front.dest)) (changes_of strategy new)
       ∙ ap (λ c. made ++ (rows_at front.path c ++ changes_of strategy new)) (sym change)
@@ -81,7 +88,8 @@ module _ (old new : SidesValue) (front : FrontValue) (turn : IsTurn old new fron
   pub stay_turn : (strategy : Strategy) (made all : List (List ℕ × Change)) → winning_side strategy (side_at front) ≡ Destination
       → made ++ changes_of strategy old ≡ all → made ++ changes_of strategy new ≡ all
   stay_turn strategy made all dest so_far =
-      let change : change_at strategy front ≡ None = ap (λ v. change_between v front.dest) (dest_stays front.source front.dest strategy (side_at front) dest) ∙ stays front.dest in
+      let change : change_at strategy front ≡ None =
+      ap (λ v. change_between v front.dest) (dest_stays front.source front.dest strategy (side_at front) dest) ∙ stays front.dest in
       ap (λ c. made ++ (rows_at front.path c ++ changes_of strategy new)) (sym change)
       ∙ ap (λ l. made ++ l) (sym (turn_changes strategy))
       ∙ so_far
@@ -90,7 +98,8 @@ module _ (old new : SidesValue) (front : FrontValue) (turn : IsTurn old new fron
   calm_by true e = cc
   calm_by false e = refl
 
-  refusals_by : (strategy : Strategy) (side : Side) → side ≡ side_at front → (winning_side strategy side ≡ Neither → ⊥) → refusals_of strategy old ≡ refusals_of strategy new
+  refusals_by : (strategy : Strategy) (side : Side) → side ≡ side_at front → (winning_side strategy side ≡ Neither → ⊥)
+      → refusals_of strategy old ≡ refusals_of strategy new
   refusals_by Refuse Source is never = turn_conflicts ∙ calm_by _ (ap is_neither (sym is))
   refusals_by Refuse Destination is never = turn_conflicts ∙ calm_by _ (ap is_neither (sym is))
   refusals_by Refuse Neither is never = absurd (never refl)
@@ -98,13 +107,15 @@ module _ (old new : SidesValue) (front : FrontValue) (turn : IsTurn old new fron
   refusals_by DestWins side is never = refl
 
   -- where it refuses at none so far, it refuses at none here
-  pub refuse_turn : (strategy : Strategy) (all : List (List ℕ)) → (winning_side strategy (side_at front) ≡ Neither → ⊥) → refusals_of strategy old ≡ all → refusals_of strategy new ≡ all
+  pub refuse_turn : (strategy : Strategy) (all : List (List ℕ)) → (winning_side strategy (side_at front) ≡ Neither → ⊥) → refusals_of strategy old ≡ all
+      → refusals_of strategy new ≡ all
   refuse_turn strategy all never so_far = sym (refusals_by strategy (side_at front) refl never) ∙ so_far
 
 -- ---- the end
 
 -- without strategy, a merge in which a path conflicts is refused
-refused_by : (base source dest : KeyMapValue) (path : List ℕ) (paths : List (List ℕ)) → conflicts base source dest ≡ path ∷ paths → TellsConflicts Refuse base source dest (take 100 (path ∷ paths)) (length (path ∷ paths))
+refused_by : (base source dest : KeyMapValue) (path : List ℕ) (paths : List (List ℕ)) → conflicts base source dest ≡ path ∷ paths
+    → TellsConflicts Refuse base source dest (take 100 (path ∷ paths)) (length (path ∷ paths))
 refused_by base source dest path paths are = record {
   refused = ap (λ l. ltb 0 (length l)) are ∙ lt-ltb 0 (length (path ∷ paths)) (omega arith);
   least = ap (take 100) (sym are);
@@ -112,13 +123,15 @@ refused_by base source dest path paths are = record {
 }
 
 -- the first path at which it refuses, and the conflicts above it, are all conflicts
-pub refused_at : (strategy : Strategy) (base source dest : KeyMapValue) (old new : SidesValue) (front : FrontValue) → IsTurn old new front → winning_side strategy (side_at front) ≡ Neither
+pub refused_at : (strategy : Strategy) (base source dest : KeyMapValue) (old new : SidesValue) (front : FrontValue) → IsTurn old new front
+    → winning_side strategy (side_at front) ≡ Neither
     → refusals_of strategy old ≡ refused_paths strategy base source dest
     → TellsConflicts strategy base source dest (take 100 (front.path ∷ conflicts_of new)) (length (front.path ∷ conflicts_of new))
 refused_at strategy base source dest old new front turn refuses so_far =
     let two = undecided strategy (side_at front) refuses in
     let all : refusals_of Refuse old ≡ refused_paths Refuse base source dest = subst (λ s. refusals_of s old ≡ refused_paths s base source dest) two.0 so_far in
-    let first : conflicts_of old ≡ front.path ∷ conflicts_of new = turn_conflicts old new front turn ∙ ap (λ b. cond b (front.path ∷ conflicts_of new) (conflicts_of new)) two.1 in
+    let first : conflicts_of old ≡ front.path ∷ conflicts_of new =
+    turn_conflicts old new front turn ∙ ap (λ b. cond b (front.path ∷ conflicts_of new) (conflicts_of new)) two.1 in
     subst (λ s. TellsConflicts s base source dest (take 100 (front.path ∷ conflicts_of new)) (length (front.path ∷ conflicts_of new))) (sym two.0)
     (refused_by base source dest front.path (conflicts_of new) (sym all ∙ first))
 
@@ -135,7 +148,8 @@ no_more strategy sides none =
 
 -- so what is gathered is all of the changes
 pub gathered_all : (strategy : Strategy) (base source dest : KeyMapValue) (sides : SidesValue) (made : List (List ℕ × Change)) → None ≡ first_front sides
-    → made ++ changes_of strategy sides ≡ entries (differences (merged_map strategy base source dest) dest) → made ≡ entries (differences (merged_map strategy base source dest) dest)
+    → made ++ changes_of strategy sides ≡ entries (differences (merged_map strategy base source dest) dest)
+    → made ≡ entries (differences (merged_map strategy base source dest) dest)
 gathered_all strategy base source dest sides made none so_far = sym (append-nil made) ∙ ap (λ l. made ++ l) (sym (no_more strategy sides none).0) ∙ so_far
 
 pub gathered_ascend : (changes : ChangesValue) (made : List (List ℕ × Change)) → made ≡ entries changes → HasAscendingKeys made
@@ -145,7 +159,8 @@ pub gathered_are : (changes : ChangesValue) (made : List (List ℕ × Change)) �
 gathered_are changes made is = ap from_sorted is ∙ same_again changes
 
 -- and it isn't refused
-pub unrefused : (strategy : Strategy) (base source dest : KeyMapValue) (sides : SidesValue) → None ≡ first_front sides → refusals_of strategy sides ≡ refused_paths strategy base source dest → is_refused strategy base source dest ≡ false
+pub unrefused : (strategy : Strategy) (base source dest : KeyMapValue) (sides : SidesValue) → None ≡ first_front sides
+    → refusals_of strategy sides ≡ refused_paths strategy base source dest → is_refused strategy base source dest ≡ false
 unrefused strategy base source dest sides none so_far = by strategy (sym so_far ∙ (no_more strategy sides none).1)
   where
     by : (strategy : Strategy) → refused_paths strategy base source dest ≡ [] → is_refused strategy base source dest ≡ false
@@ -175,7 +190,8 @@ take_cut (suc n) [] ys = refl
 take_cut (suc n) (x ∷ xs) ys = ap (λ l. x ∷ l) (take_cut n xs ys)
 
 -- one more conflict
-pub tells_more : (path : List ℕ) (paths listed left all : List (List ℕ)) (total : ℕ) → Tells paths total (path ∷ left) all → listed ≡ take 100 (paths ++ path ∷ []) → Tells listed (total + 1) left all
+pub tells_more : (path : List ℕ) (paths listed left all : List (List ℕ)) (total : ℕ) → Tells paths total (path ∷ left) all
+    → listed ≡ take 100 (paths ++ path ∷ []) → Tells listed (total + 1) left all
 tells_more path paths listed left all total tells is = record {
   found = tells.found ++ path ∷ [];
   least = is ∙ ap (λ l. take 100 (l ++ path ∷ [])) tells.least ∙ take_cut 100 tells.found (path ∷ []);
@@ -190,17 +206,21 @@ tells_all paths left all total none tells =
     (tells.least ∙ ap (take 100) found_all, tells.count ∙ ap length found_all)
 
 -- a turn at a path that conflicts
-pub conflict_turn : (old new : SidesValue) (front : FrontValue) → IsTurn old new front → is_neither (side_at front) ≡ true → (paths listed all : List (List ℕ)) (total : ℕ)
+pub conflict_turn : (old new : SidesValue) (front : FrontValue) → IsTurn old new front → is_neither (side_at front) ≡ true
+    → (paths listed all : List (List ℕ)) (total : ℕ)
     → Tells paths total (conflicts_of old) all → listed ≡ take 100 (paths ++ front.path ∷ []) → Tells listed (total + 1) (conflicts_of new) all
 conflict_turn old new front turn conflict paths listed all total tells is =
-    let left : conflicts_of old ≡ front.path ∷ conflicts_of new = turn_conflicts old new front turn ∙ ap (λ b. cond b (front.path ∷ conflicts_of new) (conflicts_of new)) conflict in
+    let left : conflicts_of old ≡ front.path ∷ conflicts_of new =
+    turn_conflicts old new front turn ∙ ap (λ b. cond b (front.path ∷ conflicts_of new) (conflicts_of new)) conflict in
     tells_more front.path paths listed (conflicts_of new) all total (subst (λ l. Tells paths total l all) left tells) is
 
 -- and at one that doesn't
-pub calm_turn : (old new : SidesValue) (front : FrontValue) → IsTurn old new front → is_neither (side_at front) ≡ false → (paths all : List (List ℕ)) (total : ℕ)
+pub calm_turn : (old new : SidesValue) (front : FrontValue) → IsTurn old new front → is_neither (side_at front) ≡ false
+    → (paths all : List (List ℕ)) (total : ℕ)
     → Tells paths total (conflicts_of old) all → Tells paths total (conflicts_of new) all
 calm_turn old new front turn calm paths all total tells =
-    let left : conflicts_of old ≡ conflicts_of new = turn_conflicts old new front turn ∙ ap (λ b. cond b (front.path ∷ conflicts_of new) (conflicts_of new)) calm in
+    let left : conflicts_of old ≡ conflicts_of new =
+    turn_conflicts old new front turn ∙ ap (λ b. cond b (front.path ∷ conflicts_of new) (conflicts_of new)) calm in
     subst (λ l. Tells paths total l all) left tells
 
 pub no_conflict_left : (sides : SidesValue) → None ≡ first_front sides → conflicts_of sides ≡ []
@@ -215,12 +235,15 @@ dest_decides side e f = cc
 -- ---- the start
 
 -- before the first turn, all changes are still to come
-pub gathered_first : (strategy : Strategy) (base source dest : KeyMapValue) (sides : SidesValue) (made : List (List ℕ × Change)) → sides ≡ sides_of base source dest → made ≡ []
+pub gathered_first : (strategy : Strategy) (base source dest : KeyMapValue) (sides : SidesValue) (made : List (List ℕ × Change))
+    → sides ≡ sides_of base source dest → made ≡ []
     → made ++ changes_of strategy sides ≡ entries (differences (merged_map strategy base source dest) dest)
-gathered_first strategy base source dest sides made all none = ap (λ l. l ++ changes_of strategy sides) none ∙ ap (changes_of strategy) all ∙ all_changes strategy base source dest
+gathered_first strategy base source dest sides made all none =
+    ap (λ l. l ++ changes_of strategy sides) none ∙ ap (changes_of strategy) all ∙ all_changes strategy base source dest
 
 -- and all paths for which it refuses
-pub unrefused_first : (strategy : Strategy) (base source dest : KeyMapValue) (sides : SidesValue) → sides ≡ sides_of base source dest → refusals_of strategy sides ≡ refused_paths strategy base source dest
+pub unrefused_first : (strategy : Strategy) (base source dest : KeyMapValue) (sides : SidesValue) → sides ≡ sides_of base source dest
+    → refusals_of strategy sides ≡ refused_paths strategy base source dest
 unrefused_first Refuse base source dest sides all = ap conflicts_of all ∙ all_conflicts base source dest
 unrefused_first SourceWins base source dest sides all = refl
 unrefused_first DestWins base source dest sides all = refl

@@ -48,7 +48,12 @@ impl<'a> Model for Front<'a> {
 
     ghost Value = { FrontValue };
 
-    ghost view = { λ front. record { path = front.path.now; base = option_copied front.base; source = option_copied front.source; dest = option_copied front.dest } };
+    ghost view = { λ front. record {
+      path = front.path.now;
+      base = option_copied front.base;
+      source = option_copied front.source;
+      dest = option_copied front.dest;
+    } };
 }
 
 impl<'a> Sides<'a> {

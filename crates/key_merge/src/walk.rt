@@ -1,6 +1,7 @@
 //! The one walk of a merge. It gathers changes up to the first path for which the merge is refused, and from there on
 //! counts conflicts.
-ghost use Rattle.std.specs.Prelude.{◌≡◌, [], ◌∷◌, ◌++◌, ◌+◌, ◌<◌, ◌≤◌, ◌^◌, length, take, false, IfOk, OnOk, MatchResult};
+ghost use Rattle.std.specs.Prelude.{◌≡◌, [], ◌∷◌, ◌++◌, ◌+◌, ◌<◌, ◌≤◌, ◌^◌, length, take, false, IfOk, OnOk};
+ghost use Rattle.std.specs.Prelude.{MatchResult};
 ghost use Rattle.lake_values.specs.KeyMap.{differences};
 ghost use Rattle.lake_values.specs.Merging.{merged_map, is_refused};
 ghost use Rattle.key_merge.specs.Refusal.{TellsFault};

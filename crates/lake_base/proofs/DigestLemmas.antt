@@ -1,5 +1,6 @@
 -- 64 lower-case hex digits are the text of 32 bytes.
-use Rattle.std.proofs.Common.{◌≡◌, ℕ, zero, suc, ◌+◌, ◌*◌, ◌/◌, ◌%◌, ◌<◌, ◌==◌, Bool, true, false, not, cond, ltb, ◌&&◌, ◌||◌, inl, inr, List, [], ◌∷◌, length, take, min, slice_index, Option, Some, None, Ok, refl, sym, ap, ◌∙◌, arith}
+use Rattle.std.proofs.Common.{◌≡◌, ℕ, zero, suc, ◌+◌, ◌*◌, ◌/◌, ◌%◌, ◌<◌, ◌==◌, Bool, true, false, not, cond, ltb, ◌&&◌, ◌||◌, inl, inr, List, [], ◌∷◌, length}
+use Rattle.std.proofs.Common.{take, min, slice_index, Option, Some, None, Ok, refl, sym, ap, ◌∙◌, arith}
 use Rattle.std.specs.Option.{option_or}
 use Rattle.std.specs.List.{AllByRecursion}
 use Rattle.std.proofs.lemmas.Bool.{and_parts, cases_lt, eqb-true, ltb-true, ne_eqb}
@@ -49,7 +50,8 @@ tested false t h e = absurd cc
 digit : (c : ℕ) → is_hex c ≡ true → (v : ℕ) × (hex_digit_value c ≡ Some v) × (v < 16) × (slice_index lower_digits v ≡ c)
 digit c h = fitting (hex_digit_value c) c (tested (is_hex c) _ h (all_read-at 103 c refl (small c h)))
 
-pub pairs_back : (i n : ℕ) (s : List ℕ) → length s ≡ 2 * n → AllByRecursion (λ c. is_hex c ≡ true) s → (bytes : List ℕ) × (decode_pairs i s ≡ Ok bytes) × (s ≡ encode_lower bytes)
+pub pairs_back : (i n : ℕ) (s : List ℕ) → length s ≡ 2 * n → AllByRecursion (λ c. is_hex c ≡ true) s
+    → (bytes : List ℕ) × (decode_pairs i s ≡ Ok bytes) × (s ≡ encode_lower bytes)
 unfolding decode_pairs encode_with
 pairs_back i n [] len all = ([], refl, refl)
 pairs_back i n (h ∷ []) len all = absurd (omega (arith, len))
@@ -87,7 +89,8 @@ pub stray_fault : (text : List ℕ) (n at : ℕ) → n ≡ min (length text) 64 
 stray_fault text n at e found =
     ap (λ f. option_or f (cond (length text == 64) None (Some (min 64 (length text))))) (sym (found ∙ ap stray_hex (front_is text n e)))
 
-pub length_fault : (text : List ℕ) (n : ℕ) → n ≡ min (length text) 64 → None ≡ stray_hex (take n text) → (length text ≡ 64 → ⊥) → digest_fault text ≡ Some (length (take n text))
+pub length_fault : (text : List ℕ) (n : ℕ) → n ≡ min (length text) 64 → None ≡ stray_hex (take n text) → (length text ≡ 64 → ⊥)
+    → digest_fault text ≡ Some (length (take n text))
 length_fault text n e found ne =
     ap (λ f. option_or f (cond (length text == 64) None (Some (min 64 (length text))))) (sym (found ∙ ap stray_hex (front_is text n e)))
     ∙ ap (λ b. cond b None (Some (min 64 (length text)))) (ne_eqb (length text) 64 ne)

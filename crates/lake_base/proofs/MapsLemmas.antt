@@ -1,5 +1,6 @@
 -- What a search finds in a list whose keys ascend, and what an edit at that place does.
-use Rattle.std.proofs.Common.{◌≡◌, ℕ, zero, suc, ◌-◌, ◌<◌, ◌≤◌, ◌&&◌, Bool, true, false, cond, T, List, [], ◌∷◌, length, map, get_or, set, length-drop, drop-cons, add-one, ◌+◌, Some, None, Ok, Err, Result, MatchResult, sym, ap, subst, refl, ◌∙◌, arith, drop}
+use Rattle.std.proofs.Common.{◌≡◌, ℕ, zero, suc, ◌-◌, ◌<◌, ◌≤◌, ◌&&◌, Bool, true, false, cond, T, List, [], ◌∷◌, length, map, get_or, set, length-drop}
+use Rattle.std.proofs.Common.{drop-cons, add-one, ◌+◌, Some, None, Ok, Err, Result, MatchResult, sym, ap, subst, refl, ◌∙◌, arith, drop}
 use Rattle.std.specs.Bool.{OnTrue, ◌==◌}
 use Rattle.std.specs.List.{insert, slice_get, AllWithin, AllByRecursion}
 use Rattle.std.specs.List.Sorted.{IsSearchInRange, IsBinarySearchResult, IsNonDecreasingBy, IsStrictlySortedBy}
@@ -8,7 +9,8 @@ use Rattle.std.specs.Ordering.{ordering_index, ordering_reverse, is_lt, is_eq}
 use Rattle.std.specs.declared.cmp.Ordering.{Ordering}
 use Rattle.std.specs.declared.cmp.Ordering.TheVariants.{Less, Equal, Greater}
 use Rattle.std.proofs.lemmas.Cmp.{nat_list_cmp_total}
-use Rattle.std.specs.FinMap.{find, put, entries-from_sorted, entries_sorted, from_sorted, entries, entries-insert, same_entries_map, slice_cmp-IsAntisymmetric, nat_cmp-IsAntisymmetric, insert as map_insert, empty, len, len-entries, len-empty}
+use Rattle.std.specs.FinMap.{find, put, entries-from_sorted, entries_sorted, from_sorted, entries, entries-insert, same_entries_map, slice_cmp-IsAntisymmetric}
+use Rattle.std.specs.FinMap.{nat_cmp-IsAntisymmetric, insert as map_insert, empty, len, len-entries, len-empty}
 use Rattle.std.specs.FinMap.Entries.{below_all, by_order, is_sorted, is_sorted-put, where_key}
 use Rattle.std.proofs.lemmas.List.{get_or_default}
 use Rattle.std.proofs.lemmas.Option.{get_or_from_slice_get, slice_get_within}
@@ -67,7 +69,8 @@ module _ {X : Type 0} where
   tail_ascends e es h = second _ _ h
 
   -- a key below all keys is below the one at a place
-  pub below_at : (k : List ℕ) (es : List (List ℕ × X)) (i : ℕ) (d : List ℕ × X) → T (below_all byte_order k es) → i < length es → byte_order k (get_or es i d).0 ≡ Less
+  pub below_at : (k : List ℕ) (es : List (List ℕ × X)) (i : ℕ) (d : List ℕ × X) → T (below_all byte_order k es) → i < length es
+      → byte_order k (get_or es i d).0 ≡ Less
   below_at k [] i d h lt = absurd (omega arith)
   below_at k (e ∷ es) zero d h lt = less _ (first _ _ h)
   below_at k (e ∷ es) (suc i) d h lt = below_at k es i d (second _ _ h) (omega arith)
@@ -80,12 +83,14 @@ module _ {X : Type 0} where
   rising (e ∷ es) k h (suc i) (suc j) d le lt = rising es k (tail_ascends e es h) i j d (omega arith) (omega arith)
 
   -- a search ends at the key, or at the gap for it
-  pub searched : (es : List (List ℕ × X)) (k : List ℕ) → HasAscendingKeys es → (r : Result ℕ ℕ) → IsSearchInRange r (length es) → IsBinarySearchResult (λ item. byte_order item.0 k) es r → MatchResult r (IsAt es k) (IsGap es k)
+  pub searched : (es : List (List ℕ × X)) (k : List ℕ) → HasAscendingKeys es → (r : Result ℕ ℕ) → IsSearchInRange r (length es)
+      → IsBinarySearchResult (λ item. byte_order item.0 k) es r → MatchResult r (IsAt es k) (IsGap es k)
   searched es k h (Ok at) within found = record { within = within; same = found }
   searched es k h (Err at) within parted = record { within = within; before = (parted (rising es k h)).0; from = (parted (rising es k h)).1 }
 
   -- a key above the last has its gap at the end
-  pub last_gap : (es : List (List ℕ × X)) (k : List ℕ) (x : List ℕ × X) → HasAscendingKeys es → slice_get es (length es - 1) ≡ Some x → byte_order x.0 k ≡ Less → IsGap es k (length es)
+  pub last_gap : (es : List (List ℕ × X)) (k : List ℕ) (x : List ℕ × X) → HasAscendingKeys es → slice_get es (length es - 1) ≡ Some x → byte_order x.0 k ≡ Less
+      → IsGap es k (length es)
   last_gap es k x h last lt = record {
     within = omega arith;
     before = λ j d low high.
@@ -97,14 +102,16 @@ module _ {X : Type 0} where
     from = λ j d low high. absurd (omega arith);
   }
 
-  pub tested_gap : (es : List (List ℕ × X)) (k : List ℕ) (x : List ℕ × X) → HasAscendingKeys es → slice_get es (length es - 1) ≡ Some x → (o : Ordering) → o ≡ byte_order x.0 k → (b : Bool) → b ≡ (ordering_index o == 0) → OnTrue b (IsGap es k (length es))
+  pub tested_gap : (es : List (List ℕ × X)) (k : List ℕ) (x : List ℕ × X) → HasAscendingKeys es → slice_get es (length es - 1) ≡ Some x → (o : Ordering)
+      → o ≡ byte_order x.0 k → (b : Bool) → b ≡ (ordering_index o == 0) → OnTrue b (IsGap es k (length es))
   tested_gap es k x h last Less e true is = last_gap es k x h last (sym e)
   tested_gap es k x h last Equal e true is = cc
   tested_gap es k x h last Greater e true is = cc
   tested_gap es k x h last o e false is = tt
 
   -- where all before are below and the key there is above
-  pub greater_gap : (es : List (List ℕ × X)) (k : List ℕ) (at : ℕ) (x : List ℕ × X) → HasAscendingKeys es → at < length es → AllWithin (λ item. byte_order item.0 k ≡ Less) es 0 at → x ≡ get_or es at x → byte_order x.0 k ≡ Greater → IsGap es k at
+  pub greater_gap : (es : List (List ℕ × X)) (k : List ℕ) (at : ℕ) (x : List ℕ × X) → HasAscendingKeys es → at < length es
+      → AllWithin (λ item. byte_order item.0 k ≡ Less) es 0 at → x ≡ get_or es at x → byte_order x.0 k ≡ Greater → IsGap es k at
   greater_gap es k at x h lt below is gt = record {
     within = omega (arith, lt);
     before = below;
@@ -147,7 +154,8 @@ module _ {X : Type 0} where
       ∙ ap (λ q. e ∷ q) (put_gap es k v at (gap_tail e es k at gap))
 
   -- what is found at a place
-  pub find_at : (es : List (List ℕ × X)) (k : List ℕ) (at : ℕ) (d : List ℕ × X) → HasAscendingKeys es → IsAt es k at → find byte_order k es ≡ Some (get_or es at d).1
+  pub find_at : (es : List (List ℕ × X)) (k : List ℕ) (at : ℕ) (d : List ℕ × X) → HasAscendingKeys es → IsAt es k at
+      → find byte_order k es ≡ Some (get_or es at d).1
   find_at [] k at d h is = absurd (omega (arith, is.within))
   find_at (e ∷ es) k zero d h is = ap (λ r. cond (is_eq r) (Some e.1) (find byte_order k es)) (turned e.0 k Equal (is.same e))
   find_at (e ∷ es) k (suc at) d h is =
@@ -161,7 +169,8 @@ module _ {X : Type 0} where
   find_gap [] k at gap = refl
   find_gap (e ∷ es) k zero gap =
       ap (λ r. cond (is_eq r) (Some e.1) (find byte_order k es)) (turned e.0 k Greater (gap.from 0 e (omega arith) (omega arith)))
-      ∙ find_gap es k zero (record { within = omega arith; before = λ i d low high. absurd (omega arith); from = λ i d low high. gap.from (suc i) d (omega arith) (omega arith) })
+      ∙ find_gap es k zero
+      (record { within = omega arith; before = λ i d low high. absurd (omega arith); from = λ i d low high. gap.from (suc i) d (omega arith) (omega arith) })
   find_gap (e ∷ es) k (suc at) gap =
       ap (λ r. cond (is_eq r) (Some e.1) (find byte_order k es)) (turned e.0 k Less (gap.before 0 e (omega arith) (omega arith)))
       ∙ find_gap es k at (gap_tail e es k at gap)
@@ -170,7 +179,8 @@ module _ {X : Type 0} where
   ascends_put es k v h = is_sorted-put byte_order nat_list_cmp_total k v es h
 
   -- a put in the list is an insert in the map
-  pub map_put : (es : List (List ℕ × X)) (k : List ℕ) (v : X) → HasAscendingKeys es → from_sorted {R = byte_order} (put byte_order k v es) ≡ map_insert (from_sorted es) k v
+  pub map_put : (es : List (List ℕ × X)) (k : List ℕ) (v : X) → HasAscendingKeys es
+      → from_sorted {R = byte_order} (put byte_order k v es) ≡ map_insert (from_sorted es) k v
   map_put es k v h =
       same_entries_map _ _ (
       entries-from_sorted byte_order _ (ascends_put es k v h)
@@ -241,7 +251,8 @@ module _ {K X : Type 0} {R : K → K → Ordering} (o : IsTotalOrder R) where
       both _ _ (subst (λ r. T (is_lt r)) (sym (o.trans a b e.0 lt (less _ (first _ _ h)))) tt) (lower_still a b es lt (second _ _ h))
 
   -- keys ascend where the first is below the second and the rest ascend
-  neighbours : (x y : K × X) (es : List (K × X)) → (T (is_lt (R x.0 y.0)) → T (is_sorted R (y ∷ es)) → T (is_sorted R (x ∷ y ∷ es))) × (T (is_sorted R (x ∷ y ∷ es)) → T (is_lt (R x.0 y.0)) × T (is_sorted R (y ∷ es)))
+  neighbours : (x y : K × X) (es : List (K × X)) → (T (is_lt (R x.0 y.0)) → T (is_sorted R (y ∷ es)) → T (is_sorted R (x ∷ y ∷ es)))
+      × (T (is_sorted R (x ∷ y ∷ es)) → T (is_lt (R x.0 y.0)) × T (is_sorted R (y ∷ es)))
   neighbours x y es = (
     λ lt h. both _ _ (both _ _ lt (lower_still x.0 y.0 es (less _ lt) (first _ _ h))) h,
     λ h. (first _ _ (first _ _ h), second _ _ h),
@@ -251,7 +262,8 @@ module _ {K X : Type 0} {R : K → K → Ordering} (o : IsTotalOrder R) where
       → (drop (at - 1) items ≡ x ∷ y ∷ drop (at + 1) items) × (drop at items ≡ y ∷ drop (at + 1) items)
   two_at items at x y some lt is other =
       let next : drop at items ≡ y ∷ drop (at + 1) items = rw add-one (drop-cons items at y lt ∙ ap (λ z. z ∷ drop (suc at) items) (sym other)) in
-      let here : drop (at - 1) items ≡ x ∷ drop (suc (at - 1)) items = drop-cons items (at - 1) x (omega arith) ∙ ap (λ z. z ∷ drop (suc (at - 1)) items) (sym is) in
+      let here : drop (at - 1) items ≡ x ∷ drop (suc (at - 1)) items =
+      drop-cons items (at - 1) x (omega arith) ∙ ap (λ z. z ∷ drop (suc (at - 1)) items) (sym is) in
       let same : suc (at - 1) ≡ at = omega arith in
       (here ∙ ap (λ n. x ∷ drop n items) same ∙ ap (λ l. x ∷ l) next, next)
 
@@ -261,7 +273,8 @@ module _ {K X : Type 0} {R : K → K → Ordering} (o : IsTotalOrder R) where
     pub rest_too : T (is_sorted R items) → T (is_sorted R rest)
 
   -- how the keys at two places compare
-  pub compared : (items : List (K × X)) (at : ℕ) (x y : K × X) (r : Ordering) → x ≡ get_or items (at - 1) x → y ≡ get_or items at y → r ≡ R (get_or items (at - 1) x).0 (get_or items at y).0 → r ≡ R x.0 y.0
+  pub compared : (items : List (K × X)) (at : ℕ) (x y : K × X) (r : Ordering) → x ≡ get_or items (at - 1) x → y ≡ get_or items at y
+      → r ≡ R (get_or items (at - 1) x).0 (get_or items at y).0 → r ≡ R x.0 y.0
   compared items at x y r is other e = e ∙ (λ i. R (sym is i).0 (sym other i).0)
 
   pub next_tells : (items : List (K × X)) (at : ℕ) (x y : K × X) → 1 ≤ at → at < length items → x ≡ get_or items (at - 1) x → y ≡ get_or items at y
@@ -289,7 +302,8 @@ module _ {K X : Type 0} {R : K → K → Ordering} (o : IsTotalOrder R) where
   end_tells items at h tells = tells.all (last_sorted (drop at items) (omega (arith, length-drop at items)))
 
 -- a test of each key holds of a list with another value at a key of which it holds
-pub all_put : {X : Type 0} (P : List ℕ → Type 0) (k : List ℕ) (v : X) (es : List (List ℕ × X)) → P k → AllByRecursion (λ row. P row.0) es → AllByRecursion (λ row. P row.0) (put byte_order k v es)
+pub all_put : {X : Type 0} (P : List ℕ → Type 0) (k : List ℕ) (v : X) (es : List (List ℕ × X)) → P k → AllByRecursion (λ row. P row.0) es
+    → AllByRecursion (λ row. P row.0) (put byte_order k v es)
 all_put P k v [] one all = (one, tt)
 all_put P k v (e ∷ es) one all =
     elim (byte_order k e.0) as (λ r. AllByRecursion (λ row. P row.0) (by_order r ((k, v) ∷ e ∷ es) ((e.0, v) ∷ es) (e ∷ put byte_order k v es))) [
@@ -299,7 +313,8 @@ all_put P k v (e ∷ es) one all =
     ]
 
 -- and of what a filter leaves
-pub all_where : {X : Type 0} (P : List ℕ → Type 0) (p : List ℕ → Bool) (es : List (List ℕ × X)) → AllByRecursion (λ row. P row.0) es → AllByRecursion (λ row. P row.0) (where_key byte_order p es)
+pub all_where : {X : Type 0} (P : List ℕ → Type 0) (p : List ℕ → Bool) (es : List (List ℕ × X)) → AllByRecursion (λ row. P row.0) es
+    → AllByRecursion (λ row. P row.0) (where_key byte_order p es)
 all_where P p [] all = tt
 all_where P p (e ∷ es) all =
     elim (p e.0) as (λ b. AllByRecursion (λ row. P row.0) (cond b (e ∷ where_key byte_order p es) (where_key byte_order p es))) [

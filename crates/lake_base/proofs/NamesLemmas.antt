@@ -1,5 +1,6 @@
 -- Names are texts: each byte that may stand in one is below 128.
-use Rattle.std.proofs.Common.{◌≡◌, ℕ, zero, suc, ◌+◌, ◌<◌, ◌≤◌, Bool, true, false, not, cond, List, [], ◌∷◌, length, position, Option, Some, None, option_map, refl, arith}
+use Rattle.std.proofs.Common.{◌≡◌, ℕ, zero, suc, ◌+◌, ◌<◌, ◌≤◌, Bool, true, false, not, cond, List, [], ◌∷◌, length, position, Option, Some, None, option_map}
+use Rattle.std.proofs.Common.{refl, arith}
 use Rattle.std.specs.List.{AllByRecursion, position_or_len}
 use Rattle.std.specs.Str.{IsAscii, is_utf8}
 use Rattle.std.proofs.lemmas.Bool.{ltb-false}
@@ -8,7 +9,8 @@ use Rattle.std.proofs.lemmas.Str.{IsUtf8-from_ascii, is_utf8-from_IsUtf8}
 use Rattle.lake_base.specs.Names.{bad_byte, begins_repo, continues_repo, begins_ref, continues_ref}
 use Rattle.lake_base.specs.declared.names.NameFault.TheVariants.{BadByte}
 
-stray_step : (p : ℕ → Bool) (c : ℕ) (s : List ℕ) → (length s ≤ position_or_len (λ byte. not (p byte)) s → AllByRecursion (λ k. p k ≡ true) s) → (b : Bool) → p c ≡ b
+stray_step : (p : ℕ → Bool) (c : ℕ) (s : List ℕ) → (length s ≤ position_or_len (λ byte. not (p byte)) s → AllByRecursion (λ k. p k ≡ true) s)
+    → (b : Bool) → p c ≡ b
     → suc (length s) ≤ cond (not (not b)) (1 + position_or_len (λ byte. not (p byte)) s) 0 → AllByRecursion (λ k. p k ≡ true) (c ∷ s)
 stray_step p c s rest true e le = (e, rest (omega (arith, le)))
 stray_step p c s rest false e le = absurd (omega (arith, le))
@@ -38,7 +40,8 @@ named_parts : (p : ℕ → Bool) (b : Bool) (o : Option ℕ) → cond b (option_
 named_parts p true o e = (refl, no_fault o e)
 named_parts p false o e = absurd cc
 
-named : (first others : ℕ → Bool) → ((c : ℕ) → first c ≡ true → c < 128) → ((c : ℕ) → others c ≡ true → c < 128) → (bytes : List ℕ) → bad_byte first others bytes ≡ None → IsAscii bytes
+named : (first others : ℕ → Bool) → ((c : ℕ) → first c ≡ true → c < 128) → ((c : ℕ) → others c ≡ true → c < 128) → (bytes : List ℕ)
+    → bad_byte first others bytes ≡ None → IsAscii bytes
 named first others small smalls [] e i = omega arith
 named first others small smalls (c ∷ s) e zero =
     small c (named_parts first (first c) (position (λ byte. not (others byte)) s) e).0

@@ -1,5 +1,6 @@
 -- Which bytes are texts, paths and names, and the first fault of those that aren't.
-use Rattle.std.specs.Prelude.{is_none, take, min, ◌≡◌, ◌==◌, ◌&&◌, ◌||◌, ◌+◌, ℕ, Bool, not, nat_lt, nat_le, if◌then◌else◌, List, length, drop, slice_index, position, Option, Some, None, option_map, Result, Ok, Err}
+use Rattle.std.specs.Prelude.{is_none, take, min, ◌≡◌, ◌==◌, ◌&&◌, ◌||◌, ◌+◌, ℕ, Bool, not, nat_lt, nat_le, if◌then◌else◌, List, length, drop, slice_index}
+use Rattle.std.specs.Prelude.{position, Option, Some, None, option_map, Result, Ok, Err}
 use Rattle.std.specs.Str.{is_utf8}
 use Rattle.std.specs.Option.{option_or}
 use Rattle.lake_base.specs.declared.names.NameFault.{NameFault}

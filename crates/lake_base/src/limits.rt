@@ -1,5 +1,5 @@
-//! The limits of names, texts and lists (this project's profile). Each but `REPO_NAME_LEAST` is the greatest count that is
-//! taken.
+//! The limits of names, texts and lists (this project's profile). Each but `REPO_NAME_LEAST` is the greatest count that
+//! is taken.
 ghost use Rattle.std.specs.Prelude.{◌≡◌};
 
 /// Bytes of the name of a repository.

@@ -1,5 +1,6 @@
 //! A source and a sink in memory, for tests and for runs without files.
-ghost use Rattle.std.specs.Prelude.{◌≡◌, ◌<◌, ◌≤◌, ◌++◌, [], false, true, length, min, take, is_err, IfOk, IsErr, OnErr, OnOk, IsTrue};
+ghost use Rattle.std.specs.Prelude.{◌≡◌, ◌<◌, ◌≤◌, ◌++◌, [], false, true, length, min, take, is_err, IfOk, IsErr};
+ghost use Rattle.std.specs.Prelude.{OnErr, OnOk, IsTrue};
 ghost use Rattle.lake_base.specs.Outside.{HasCause, Reads, Takes};
 ghost use Rattle.lake_base.specs.Memory.{next_count, faults_after, is_to_fail};
 

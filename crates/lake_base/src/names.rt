@@ -1,6 +1,7 @@
 //! Paths, and the names of repositories, branches and tags.
 ghost use Rattle.std.specs.Prelude.{◌≡◌, ◌+◌, ◌<◌, not, length, position, IfOk, None};
-ghost use Rattle.lake_base.specs.Names.{ReadsName, path_fault, repo_fault, ref_fault, bad_byte, begins_repo, continues_repo, begins_ref, continues_ref, is_hex, stray_hex, is_like_id};
+ghost use Rattle.lake_base.specs.Names.{ReadsName, path_fault, repo_fault, ref_fault, bad_byte, begins_repo};
+ghost use Rattle.lake_base.specs.Names.{continues_repo, begins_ref, continues_ref, is_hex, stray_hex, is_like_id};
 ghost use Rattle.lake_base.specs.declared.names.NameFault.TheVariants.{NoMemory as name_no_memory};
 
 use crate::copying::TryCopy;

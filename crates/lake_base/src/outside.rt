@@ -1,5 +1,6 @@
 //! What stands outside the lake: sources, sinks and clocks.
-ghost use Rattle.std.specs.Prelude.{◌≡◌, ◌≤◌, ◌++◌, ◌∷◌, [], ℕ, List, Option, length, take, IfOk, IfSome, OnErr, IsSome};
+ghost use Rattle.std.specs.Prelude.{◌≡◌, ◌≤◌, ◌++◌, ◌∷◌, [], ℕ, List, Option, length, take, IfOk, IfSome, OnErr};
+ghost use Rattle.std.specs.Prelude.{IsSome};
 ghost use Rattle.lake_base.specs.Outside.{HasCause, Reads, Takes};
 ghost use Rattle.lake_base.specs.declared.outside.Trouble.TheVariants.{NoMemory as trouble_no_memory};
 
@@ -68,7 +69,8 @@ pub trait Source: Drop {
     /// empty, 0 means the end. A failed read takes nothing.
     fn read(&mut self, room: &mut [u8]) -> Result<usize, Failed>
         ensures within { IfOk result (λ n. n ≤ length room.old) }
-        ensures reads { IfOk result (λ n. IfSome (left self.old) (λ bytes. Reads bytes (left self.new) room.old room.new n)) }
+        ensures reads { IfOk result
+            (λ n. IfSome (left self.old) (λ bytes. Reads bytes (left self.new) room.old room.new n)) }
         ensures failed { OnErr result (left self.new ≡ left self.old) }
         ensures cause { HasCause (faults self.old) (faults self.new) result };
 }
@@ -85,7 +87,8 @@ pub trait Sink: Drop {
     /// A failed write takes nothing.
     fn write(&mut self, bytes: &[u8]) -> Result<usize, Failed>
         ensures takes { IfOk result (Takes (length bytes.now)) }
-        ensures written { IfOk result (λ n. IfSome (written self.old) (λ before. written self.new ≡ Some (before ++ take n bytes.now))) }
+        ensures written { IfOk result
+            (λ n. IfSome (written self.old) (λ before. written self.new ≡ Some (before ++ take n bytes.now))) }
         ensures failed { OnErr result (written self.new ≡ written self.old) }
         ensures cause { HasCause (faults self.old) (faults self.new) result };
 }
@@ -97,6 +100,7 @@ pub trait Clock: Drop {
 
     /// Seconds since 1970, 0 before that.
     fn now(&mut self) -> u64
-        ensures reading { IfSome (readings self.new) (λ now. IfSome (readings self.old) (λ before. now ≡ before ++ result ∷ [])) }
+        ensures reading { IfSome (readings self.new)
+            (λ now. IfSome (readings self.old) (λ before. now ≡ before ++ result ∷ [])) }
         ensures told { IfSome (readings self.new) (λ _. IsSome (readings self.old)) };
 }

@@ -170,7 +170,8 @@ module _ (law : TellsOfHeads) (opened : LakeStateValue) (history : List HistoryE
   pub may_head : (clash : Option Clash) → IsSwapClash (state_of l) repo branch (swap_rule swap about) clash → first_cause (causes clash) ≡ None
       → (r : RepositoryStateValue) (b : BranchStateValue) (at : get l.repositories repo ≡ Some r) (on : get r.branches branch ≡ Some b)
       → MayHaveIn repo (commit_of_draft l.cut r.commits (draft_for swap about r b)) l
-      → MayMake opened history l by (swap_operation repo branch swap about) (after_new_head repo branch (commit_of_draft l.cut r.commits (draft_for swap about r b)))
+      → MayMake opened history l by (swap_operation repo branch swap about)
+      (after_new_head repo branch (commit_of_draft l.cut r.commits (draft_for swap about r b)))
   may_head clash there none r b at on have =
       let gone = clear clash none in
       let new = commit_of_draft l.cut r.commits (draft_for swap about r b) in
@@ -209,7 +210,8 @@ module _ {K : Type 0} (view : KeeperView K) (law : TellsOfHeads) (opened : LakeS
   found : (P : Making → Type 0) → IsSomeAnd (head_making repo branch swap about before.present) P
       → IsSomeAnd (drafted_in repo branch swap about was) (λ new. MayHaveIn repo new was)
       → IsMadeOn was repo branch
-      (λ r b. P (making_of (commit_of_draft was.cut r.commits (draft_for swap about r b))) × MayHaveIn repo (commit_of_draft was.cut r.commits (draft_for swap about r b)) was)
+      (λ r b. P (making_of (commit_of_draft was.cut r.commits (draft_for swap about r b)))
+      × MayHaveIn repo (commit_of_draft was.cut r.commits (draft_for swap about r b)) was)
   found P made may =
       made_on repo branch swap about was (λ new. P (making_of new) × MayHaveIn repo new was)
       (both_found making_of P (λ new. MayHaveIn repo new was) (drafted_in repo branch swap about was) made may)

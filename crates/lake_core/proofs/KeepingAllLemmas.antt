@@ -99,11 +99,11 @@ operation_whole : (state : State) (seat : ℕ) (operation : Operation) → Remov
 operation_whole state seat operation nothing whole = record {
   gone = gone_whole state seat operation nothing whole.gone;
   repositories = λ q r is.
-    from_parts (made_repository state.cut operation q) (get state.repositories q) (changed_by state.cut operation q) r
-    (made_whole state.cut operation q)
-    (λ x was. kept_if KeepsAllCommits (touches operation q) (change_of state.cut operation q) x
-    (λ touched. change_whole state.cut operation q x nothing (whole.repositories q x was)) (whole.repositories q x was))
-    (sym (get_after state seat operation q) ∙ is);
+      from_parts (made_repository state.cut operation q) (get state.repositories q) (changed_by state.cut operation q) r
+      (made_whole state.cut operation q)
+      (λ x was. kept_if KeepsAllCommits (touches operation q) (change_of state.cut operation q) x
+      (λ touched. change_whole state.cut operation q x nothing (whole.repositories q x was)) (whole.repositories q x was))
+      (sym (get_after state seat operation q) ∙ is);
 }
 
 kind_whole : (state : State) (seat : ℕ) (kind : EntryKind) → RemovesNothing (operation_of kind) → KeepsAll state

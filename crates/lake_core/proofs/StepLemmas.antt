@@ -275,9 +275,11 @@ module _ {K : Type 0} (view : KeeperView K) (by : By) (make : LakeState → Opti
       → Keeps {X = Unit {0}} view by (unmade made puts) (Err fault) called after
       → Leaves view by (make lake.present) answer lake (last after.present)
   unkept_leaves {X} (Err e) fault eq keeps =
-      subst (λ v. Leaves {X = X} view by (make v.present) (Err e) v (last after.present)) was
-      (refl, subst (λ o. LeavesParts {X = X} view by o (Err e) (parts_of first) (parts_of (last after.present))) (sym makes)
-      (refusal_leaves X e (subst (λ f. Keeps {X = Unit {0}} view by (unmade made puts) (Err f) called after) (sym eq) keeps)))
+      subst (λ v. Leaves {X = X} view by (make v.present) (Err e) v (last after.present)) was (
+        refl,
+        subst (λ o. LeavesParts {X = X} view by o (Err e) (parts_of first) (parts_of (last after.present))) (sym makes)
+            (refusal_leaves X e (subst (λ f. Keeps {X = Unit {0}} view by (unmade made puts) (Err f) called after) (sym eq) keeps)),
+      )
   unkept_leaves (Ok x) fault eq keeps = absurd eq
 
   -- it was made
@@ -285,12 +287,14 @@ module _ {K : Type 0} (view : KeeperView K) (by : By) (make : LakeState → Opti
       → lake_value next ≡ making.after (lake_value present)
       → (opened ≡ lake.opened) × IsSomeAnd (make lake.present) (λ m. IsMade view by m (parts_of lake) (parts_of (last next)))
   made_leaves next kept changed =
-      subst (λ v. (opened ≡ v.opened) × IsSomeAnd (make v.present) (λ m. IsMade view by m (parts_of v) (parts_of (last next)))) was
-      (refl, subst (λ o. IsSomeAnd o (λ m. IsMade view by m (parts_of first) (parts_of (last next)))) (sym makes) (record {
-        history = kept.history ∙ ap (λ o. history ++ accepted_entry by o ∷ []) is;
-        present = changed;
-        kept = subst (λ ps. IfSome (view.kept keeper) (λ b. view.kept after.keeper ≡ Some (pairs_after ps b))) are kept.kept;
-        once = kept.once;
-        quiet = kept.quiet;
-        keeper = kept.keeper;
-      }))
+      subst (λ v. (opened ≡ v.opened) × IsSomeAnd (make v.present) (λ m. IsMade view by m (parts_of v) (parts_of (last next)))) was (
+        refl,
+        subst (λ o. IsSomeAnd o (λ m. IsMade view by m (parts_of first) (parts_of (last next)))) (sym makes) (record {
+          history = kept.history ∙ ap (λ o. history ++ accepted_entry by o ∷ []) is;
+          present = changed;
+          kept = subst (λ ps. IfSome (view.kept keeper) (λ b. view.kept after.keeper ≡ Some (pairs_after ps b))) are kept.kept;
+          once = kept.once;
+          quiet = kept.quiet;
+          keeper = kept.keeper;
+        }),
+      )

@@ -44,7 +44,9 @@ stopped_by : (state : State) (history : List HistoryEntry) → IsLegal state his
 stopped_by state [] legal has = absurd (fault_none has)
 stopped_by state (entry ∷ later) legal has =
     elim (first_or_later entry (faulted_entry has.by has.tried) later has.among) [
-      | inl is ↦ subst (λ e. IsLegal (after state e) later → (replay (after state e) later).stopped ≡ true) (sym is) (stopped_then state has.by has.tried later) legal.1
+      | inl is ↦
+          subst (λ e. IsLegal (after state e) later → (replay (after state e) later).stopped ≡ true) (sym is)
+          (stopped_then state has.by has.tried later) legal.1
       | inr within ↦ stopped_by (after state entry) later legal.1 (record { by = has.by; tried = has.tried; among = within })
     ]
 

@@ -9,13 +9,16 @@ use Rattle.lake_values.specs.declared.settings.Note.{Note}
 use Rattle.lake_values.specs.declared.settings.NoteName.{NoteName}
 use Rattle.commit_graph.specs.Expressions.{RefExprValue}
 use Rattle.lake_model.specs.declared.history.CopySource.{CopySource}
-use Rattle.lake_model.specs.declared.history.Operation.TheVariants.{BranchCreate, BranchDelete, Copy, NoteSet, RepoCreate, Reset, Seal, Stage, TagCreate, TagDelete, TicketDrop, TicketTake}
+use Rattle.lake_model.specs.declared.history.Operation.TheVariants.{BranchCreate, BranchDelete, Copy, NoteSet, RepoCreate, Reset, Seal, Stage, TagCreate}
+use Rattle.lake_model.specs.declared.history.Operation.TheVariants.{TagDelete, TicketDrop, TicketTake}
 use Rattle.lake_model.specs.declared.history.SealFor.{SealFor}
 use Rattle.lake_model.specs.Steps.{copied_entry, copy_source, in_it, target_in}
 use Rattle.core_state.specs.LakeStates.{LakeStateValue, state_of}
-use Rattle.core_changes.specs.LakeChanges.{after_branch_create, after_branch_delete, after_copy, after_note_set, after_repository_create, after_reset, after_seal, after_stage, after_tag_create, after_tag_delete, after_ticket_drop, after_ticket_take}
+use Rattle.core_changes.specs.LakeChanges.{after_branch_create, after_branch_delete, after_copy, after_note_set, after_repository_create, after_reset}
+use Rattle.core_changes.specs.LakeChanges.{after_seal, after_stage, after_tag_create, after_tag_delete, after_ticket_drop, after_ticket_take}
 use Rattle.core_puts.specs.KeptChanges.{Making}
-use Rattle.core_puts.specs.Puts.{create_branch_puts, create_repository_puts, create_tag_puts, delete_branch_puts, delete_tag_puts, reset_puts, seal_puts, set_note_puts, stage_puts, ticket_puts}
+use Rattle.core_puts.specs.Puts.{create_branch_puts, create_repository_puts, create_tag_puts, delete_branch_puts, delete_tag_puts, reset_puts, seal_puts}
+use Rattle.core_puts.specs.Puts.{set_note_puts, stage_puts, ticket_puts}
 
 -- a number is given out to a seat
 abbrev pub take_ticket : ℕ → List ℕ → List ℕ → LakeStateValue → Making

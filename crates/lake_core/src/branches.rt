@@ -19,19 +19,18 @@ ghost use Rattle.lake_core.specs.Leaving.{Leaves};
 use crate::lake::Lake;
 use crate::ready::Ready;
 use commit_graph::RefExpr;
-use keeper::Keeper;
-use lake_base::{NoMemory, RefName, RepoName, TryCopy};
 use core_causes::{test_create_branch, test_delete_branch, test_seal, test_write};
 use core_changes::lake as change;
 use core_changes::repository::Room;
-use core_puts::{keep, place};
-use lake_model::{By, Operation, SealFor, StepFault, Versions};
-use core_puts::{create_branch_puts, delete_branch_puts, reset_puts, seal_puts};
+use core_puts::{create_branch_puts, delete_branch_puts, keep, place, reset_puts, seal_puts};
 use core_standing::{law_of_present, laws_of_names, laws_of_plain_names, laws_of_writes};
 use core_state::LakeState;
+use keeper::Keeper;
+use lake_base::{NoMemory, RefName, RepoName, TryCopy};
+use lake_laws::causes::laws_of_causes;
+use lake_model::{By, Operation, SealFor, StepFault, Versions};
 use lake_values::{CommitId, ResetWhat};
 use std::alloc::Global;
-use lake_laws::causes::laws_of_causes;
 
 impl<K: Keeper> Lake<K> {
     /// Makes a branch at the commit of an expression: the place of the entry, and the commit. Stopped, HistoryFull,

@@ -8,9 +8,9 @@ ghost use Rattle.core_puts.specs.KeptChanges.{IsFaulted, IsMade, Making};
 ghost use Rattle.lake_core.specs.Lakes.{LakeValue, state, versions};
 ghost use Rattle.lake_core.specs.Leaving.{parts_of};
 
-/// After a change that was made the state of a lake is the law's after its entry, and so are the versions; after a fault of
-/// the store it is the law's after the fault, and the versions are as they were. So what the law says of an entry, as that
-/// a seal leaves the answers of readings, holds of a lake before and after its change.
+/// After a change that was made the state of a lake is the law's after its entry, and so are the versions; after a
+/// fault of the store it is the law's after the fault, and the versions are as they were. So what the law says of an
+/// entry, as that a seal leaves the answers of readings, holds of a lake before and after its change.
 pub fn law_of_changes<K>()
     ensures made { (view : KeeperView K) (by : By) (made : Making) (old new : LakeValue K)
         → new.opened ≡ old.opened → IsMade view by made (parts_of old) (parts_of new)

@@ -5,10 +5,10 @@ ghost use Rattle.core_state.specs.FirstStates.{fresh_lake};
 ghost use Rattle.lake_core.specs.Opening.{IsFilled, IsUnopened};
 
 use crate::open_fault::OpenFault;
-use keeper::{Keeper, Pair};
-use lake_format::Cut;
 use core_puts::{fresh_lake, fresh_puts};
 use core_state::LakeState;
+use keeper::{Keeper, Pair};
+use lake_format::Cut;
 use std::alloc::Global;
 
 // The fresh lake of a cut, whose puts a keeper without pairs makes by one call. StoreFault, BadPair, NoMemory.
@@ -20,7 +20,8 @@ pub(crate) fn fill<K: Keeper>(
     ensures { MatchResult result
         (λ lake. (lake_value lake ≡ fresh_lake cut)
         × IsFilled (record { kept = K.kept; faults = K.faults; calls = K.calls }) cut keeper.old keeper.new)
-        (λ fault. IsUnopened (record { kept = K.kept; faults = K.faults; calls = K.calls }) cut keeper.old fault keeper.new) }
+        (λ fault.
+        IsUnopened (record { kept = K.kept; faults = K.faults; calls = K.calls }) cut keeper.old fault keeper.new) }
 {
     let pairs = keeper.load()?;
     if has_pairs(pairs.as_slice()) {

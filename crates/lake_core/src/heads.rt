@@ -7,12 +7,11 @@ ghost use Rattle.lake_core.specs.Lakes.{state, versions};
 ghost use Rattle.lake_core.specs.Leaving.{Leaves};
 
 use crate::lake::Lake;
+use core_commits::Guard;
+use core_standing::{law_of_new_heads, law_of_present};
 use keeper::Keeper;
 use lake_base::{RefName, RepoName};
-use core_commits::Guard;
-use core_standing::law_of_new_heads;
 use lake_model::{By, StepFault, SwapKind};
-use core_standing::law_of_present;
 use lake_values::{About, CommitId, CommitRecord};
 use meta_range::Tree;
 
@@ -35,7 +34,8 @@ impl<K: Keeper> Lake<K> {
         about: About,
         tree: Tree,
     ) -> Result<(u64, CommitId, CommitRecord), StepFault>
-        requires { IsReadyFor (state self.old) (versions self.old) repo.now branch.now version settings kind about tree }
+        requires { IsReadyFor (state self.old)
+            (versions self.old) repo.now branch.now version settings kind about tree }
         ensures reply { IsSwapReply (state self.old) (versions self.old) repo.now branch.now version settings
             (swap_rule kind about) (head_answer result) }
         ensures leaves { Leaves (record { kept = K.kept; faults = K.faults; calls = K.calls }) by

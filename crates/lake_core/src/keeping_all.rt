@@ -21,5 +21,6 @@ pub fn law_of_keeping_all()
         → RemoveNothing history → KeepsAll state → KeepsAll (replay state history) }
     ensures steps { StepsRemoveNothing }
     ensures note { (state : State) (given : VersionsGiven) (repo : List ℕ) (r : Repository)
-        → KeepsAll state → get state.repositories repo ≡ Some r → note_reply state given repo name.Retention ≡ Err NoNote }
+        → KeepsAll state → get state.repositories repo ≡ Some r
+        → note_reply state given repo name.Retention ≡ Err NoNote }
 {}

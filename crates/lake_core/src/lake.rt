@@ -2,9 +2,9 @@
 ghost use Rattle.std.specs.Prelude.{◌≡◌};
 ghost use Rattle.core_standing.specs.Standing.{Stands};
 
+use core_state::LakeState;
 use keeper::Keeper;
 use lake_model::HistoryEntry;
-use core_state::LakeState;
 use std::alloc::Global;
 use std::marker::Model;
 use std::snapshot::Snapshot;

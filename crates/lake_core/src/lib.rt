@@ -7,9 +7,9 @@
 //! - `readings`: the readings; `preparing`: what a new head of a branch is made from.
 //! - Laws, the contracts of functions that do nothing, of all that follows an opening. `runs`: how a run grows, by the
 //!   clause of each call that changes a lake; `changes`: what a change makes of the state and of the versions;
-//!   `faults`: a fault of the store stands in a history only where the keeper's count of faults rose or stands at its last
-//!   value, and a lake is stopped exactly where one does; `numbers`: the numbers of objects ascend, so each is given out
-//!   once; `keeping_all`: no step removes anything, so nothing is expired or gone.
+//!   `faults`: a fault of the store stands in a history only where the keeper's count of faults rose or stands at its
+//!   last value, and a lake is stopped exactly where one does; `numbers`: the numbers of objects ascend, so each is
+//!   given out once; `keeping_all`: no step removes anything, so nothing is expired or gone.
 //!
 //! Each change but `swap` has four blocks: it tests what may refuse it, in the one order; takes its memory; keeps its
 //! puts and its entry by one call of the keeper; and changes the lake in memory, which can't be refused any more. A
@@ -27,6 +27,7 @@ pub mod changes;
 pub mod faults;
 mod filling;
 pub mod heads;
+pub mod keeping_all;
 pub mod lake;
 pub mod notes;
 pub mod numbers;
@@ -40,15 +41,14 @@ pub mod repositories;
 pub mod runs;
 pub mod tags;
 pub mod tickets;
-pub mod keeping_all;
 
 pub use changes::law_of_changes;
 pub use core_puts::laws_of_founding;
 pub use core_readings::Prepared;
 pub use core_state::{BranchState, LakeState, RepositoryState};
 pub use faults::{law_of_stops, law_of_store_faults, law_of_sure_lakes};
+pub use keeping_all::law_of_keeping_all;
 pub use lake::Lake;
 pub use numbers::{law_of_new_numbers, law_of_numbers};
 pub use open_fault::OpenFault;
 pub use runs::law_of_runs;
-pub use keeping_all::law_of_keeping_all;

@@ -18,23 +18,22 @@ ghost use Rattle.lake_core.specs.Leaving.{Leaves};
 
 use crate::lake::Lake;
 use crate::ready::Ready;
-use keeper::Keeper;
-use lake_base::{NoMemory, RepoName, TryCopy};
 use core_causes::test_set_note;
 use core_changes::lake as change;
-use core_puts::{keep, place};
-use lake_model::{By, Operation, StepFault};
-use core_puts::set_note_puts;
+use core_puts::{keep, place, set_note_puts};
 use core_standing::{law_of_settings, laws_of_plain_names};
 use core_state::LakeState;
+use keeper::Keeper;
+use lake_base::{NoMemory, RepoName, TryCopy};
+use lake_laws::causes::laws_of_causes;
+use lake_model::{By, Operation, StepFault};
 use lake_values::{Note, NoteName};
 use std::alloc::Global;
-use lake_laws::causes::laws_of_causes;
 
 impl<K: Keeper> Lake<K> {
     /// Sets a setting of the name, or deletes it where no new one is given, where the settings have the version that is
-    /// expected, if one is: the place of the entry. Stopped, HistoryFull, NoRepo, NoNote, Changed. Retention has no text
-    /// yet in which it could be kept, so it isn't set.
+    /// expected, if one is: the place of the entry. Stopped, HistoryFull, NoRepo, NoNote, Changed. Retention has no
+    /// text yet in which it could be kept, so it isn't set.
     pub fn set_note(
         &mut self,
         by: By,

@@ -5,24 +5,25 @@ ghost use Rattle.lake_core.specs.Opening.{IsOpened, IsUnopened};
 use crate::filling::fill;
 use crate::lake::Lake;
 use crate::open_fault::OpenFault;
+use core_puts::laws_of_founding;
+use core_standing::{law_of_opening, law_of_versions_below};
 use keeper::Keeper;
 use lake_format::Cut;
-use core_puts::laws_of_founding;
 use lake_laws::soundness::law_of_soundness;
 use lake_laws::versions::law_of_next_versions;
-use core_standing::{law_of_opening, law_of_versions_below};
 use std::alloc::Global;
 use std::snapshot::Snapshot;
 
 impl<K: Keeper> Lake<K> {
     /// A fresh lake of a cut over a keeper without pairs, whose pairs it puts by one call. A refusal hands the keeper
-    /// back. The modulus of the cut is above 0. StoreFault, only where the keeper's count of faults rose or stands at its
-    /// last value; BadPair(0) where it has pairs; NoMemory.
+    /// back. The modulus of the cut is above 0. StoreFault, only where the keeper's count of faults rose or stands at
+    /// its last value; BadPair(0) where it has pairs; NoMemory.
     pub fn opened(alloc: Global, keeper: K, cut: Cut) -> Result<Lake<K>, (OpenFault, K)>
         requires { 0 < cut.modulus }
         ensures { MatchResult result
             (λ lake. IsOpened (record { kept = K.kept; faults = K.faults; calls = K.calls }) cut keeper lake)
-            (λ refusal. IsUnopened (record { kept = K.kept; faults = K.faults; calls = K.calls }) cut keeper refusal.0 refusal.1) }
+            (λ refusal. IsUnopened (record { kept = K.kept; faults = K.faults; calls = K.calls }) cut keeper refusal.0
+            refusal.1) }
     {
         let mut keeper = keeper;
         match fill(alloc, &mut keeper, cut) {

@@ -31,19 +31,18 @@ ghost use Rattle.lake_core.specs.Leaving.{Leaves};
 use crate::lake::Lake;
 use crate::ready::{Ready, ReadyCopy, TestedCopy};
 use commit_graph::RefExpr;
-use keeper::{Keeper, Put};
-use lake_base::{NoMemory, Path, RefName, RepoName, TryCopy};
 use core_causes::{Copied, test_copy, test_stage};
 use core_changes::lake as change;
 use core_changes::repository::Room;
-use core_puts::{keep, place};
-use lake_model::{By, CopySource, Operation, StepFault};
-use core_puts::{copy_puts, stage_puts};
+use core_puts::{copy_puts, keep, place, stage_puts};
 use core_standing::{law_of_present, laws_of_writes};
 use core_state::LakeState;
+use keeper::{Keeper, Put};
+use lake_base::{NoMemory, Path, RefName, RepoName, TryCopy};
+use lake_laws::causes::laws_of_causes;
+use lake_model::{By, CopySource, Operation, StepFault};
 use lake_values::{Change, CommitId, Entry};
 use std::alloc::Global;
-use lake_laws::causes::laws_of_causes;
 
 impl<K: Keeper> Lake<K> {
     /// Stages a change on a branch of this version: the place of the entry. The ticket of an own object's number goes,
@@ -159,8 +158,8 @@ fn law_of_copies()
     laws_of_writes();
 }
 
-// A change that nothing refuses, and that is to be staged. It changes nothing that the lake says, and nothing at all where
-// a cause refuses it. Stopped, HistoryFull, NoRepo, NoRef, Protected, Changed, NoMemory.
+// A change that nothing refuses, and that is to be staged. It changes nothing that the lake says, and nothing at all
+// where a cause refuses it. Stopped, HistoryFull, NoRepo, NoRef, Protected, Changed, NoMemory.
 fn ready_stage(
     alloc: Global,
     lake: &mut LakeState,
@@ -211,8 +210,8 @@ fn parts_of_stage(
     Ok(Ready { operation, puts })
 }
 
-// A copy that nothing refuses, and that is to be kept. It changes nothing that the lake says, and nothing at all where a
-// cause refuses it. Stopped, HistoryFull, NoRepo, NoRef, NoParent, Protected, Changed, NoPath, Expired, NoMemory.
+// A copy that nothing refuses, and that is to be kept. It changes nothing that the lake says, and nothing at all where
+// a cause refuses it. Stopped, HistoryFull, NoRepo, NoRef, NoParent, Protected, Changed, NoPath, Expired, NoMemory.
 fn ready_copy(
     alloc: Global,
     lake: &mut LakeState,
@@ -277,8 +276,8 @@ fn copy_source(
     }
 }
 
-// A copy that nothing refuses: its operation, and its entry twice, for the lake and for the answer. Stopped, HistoryFull,
-// NoRepo, NoRef, NoParent, Protected, Changed, NoPath, Expired, NoMemory.
+// A copy that nothing refuses: its operation, and its entry twice, for the lake and for the answer. Stopped,
+// HistoryFull, NoRepo, NoRef, NoParent, Protected, Changed, NoPath, Expired, NoMemory.
 fn tested_copy(
     alloc: Global,
     lake: &LakeState,

@@ -7,17 +7,17 @@ ghost use Rattle.core_readings.specs.Preparations.{HasCutSides, HasSides, prepar
 ghost use Rattle.lake_core.specs.Lakes.{state, versions};
 
 use crate::lake::Lake;
+use core_readings::Prepared;
+use core_standing::law_of_present;
 use keeper::Keeper;
 use lake_base::{RefName, RepoName};
 use lake_model::{Sides, StepFault};
-use core_readings::Prepared;
-use core_standing::law_of_present;
 
 impl<K: Keeper> Lake<K> {
-    /// What a commit, a merge or a pick on a branch is made from: the versions by which it is guarded, the head with its
-    /// tree, the sealed changes, the hooks, for a merge or a pick its three trees, and the cut. Trees are shared. The
-    /// base of a merge is the merge base of the head and the source. NoRepo; NoRef; Expired exactly where the source is
-    /// expired. The sides are commits of the repository, as `are_commits` tells.
+    /// What a commit, a merge or a pick on a branch is made from: the versions by which it is guarded, the head with
+    /// its tree, the sealed changes, the hooks, for a merge or a pick its three trees, and the cut. Trees are shared.
+    /// The base of a merge is the merge base of the head and the source. NoRepo; NoRef; Expired exactly where the
+    /// source is expired. The sides are commits of the repository, as `are_commits` tells.
     pub fn prepare(
         &self,
         repo: &RepoName,

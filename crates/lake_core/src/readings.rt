@@ -1,22 +1,23 @@
 //! The readings: each answers the one-thread reply at the state now, unless memory runs out.
 ghost use Rattle.std.specs.Prelude.{◌≡◌, option_copied};
-ghost use Rattle.lake_model.specs.Readings.{find_reply, log_reply, look_reply, names_reply, note_reply, page_reply, repositories_reply, resolve_reply, versions_reply};
+ghost use Rattle.lake_model.specs.Readings.{find_reply, log_reply, look_reply, names_reply, note_reply, page_reply};
+ghost use Rattle.lake_model.specs.Readings.{repositories_reply, resolve_reply, versions_reply};
 ghost use Rattle.lake_model.specs.Refusals.{Gives};
 ghost use Rattle.core_readings.specs.Answers.{list_answer, log_answer, note_answer, page_answer};
 ghost use Rattle.lake_core.specs.Lakes.{state, versions};
 
 use crate::lake::Lake;
 use commit_graph::RefExpr;
+use core_standing::law_of_present;
 use keeper::Keeper;
 use lake_base::{Path, RefName, RepoName, Sequence, Text};
 use lake_model::{Point, RepoInfo, Seen, StepFault, Versions};
 use lake_pages::{Page, PageQuery};
-use core_standing::law_of_present;
 use lake_values::{CommitId, CommitRecord, Note, NoteName};
 
 impl<K: Keeper> Lake<K> {
-    /// What an expression leads to: its name as a branch, else a tag, else the id of a commit, and from there its moves.
-    /// NoRepo, NoRef, NoParent.
+    /// What an expression leads to: its name as a branch, else a tag, else the id of a commit, and from there its
+    /// moves. NoRepo, NoRef, NoParent.
     pub fn resolve(&self, repo: &RepoName, e: &RefExpr) -> Result<Point, StepFault>
         ensures { Gives result (resolve_reply (state self.now) repo.now e.now) }
     {

@@ -1,8 +1,8 @@
 //! What a change has ready before it is kept.
 
+use core_changes::founding::NewRepository;
 use keeper::Put;
 use lake_base::RepoName;
-use core_changes::founding::NewRepository;
 use lake_model::Operation;
 use lake_values::Entry;
 

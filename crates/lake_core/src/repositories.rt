@@ -21,18 +21,16 @@ ghost use Rattle.lake_core.specs.Leaving.{Leaves};
 
 use crate::lake::Lake;
 use crate::ready::{Ready, ReadyRepository};
-use keeper::{Keeper, Put};
-use lake_base::{NoMemory, RefName, RepoName, TryCopy};
 use core_causes::test_create_repository;
 use core_changes::founding as change;
-use core_puts::{FirstCommit, first_commit, new_repository};
-use core_puts::{keep, place};
-use lake_model::{By, Operation, StepFault};
-use core_puts::create_repository_puts;
+use core_puts::{FirstCommit, create_repository_puts, first_commit, keep, new_repository, place};
 use core_standing::{law_of_present, law_of_repository};
 use core_state::LakeState;
-use std::alloc::Global;
+use keeper::{Keeper, Put};
+use lake_base::{NoMemory, RefName, RepoName, TryCopy};
 use lake_laws::causes::laws_of_causes;
+use lake_model::{By, Operation, StepFault};
+use std::alloc::Global;
 
 impl<K: Keeper> Lake<K> {
     /// Makes a repository at a date, in seconds since 1970, with its default branch at its first commit: the place of
@@ -72,8 +70,8 @@ impl<K: Keeper> Lake<K> {
     }
 }
 
-// A repository that nothing refuses, and that is to be made. It changes nothing that the lake says, and nothing at all where
-// a cause refuses it. Stopped, HistoryFull, Exists, NameClash, NoMemory.
+// A repository that nothing refuses, and that is to be made. It changes nothing that the lake says, and nothing at all
+// where a cause refuses it. Stopped, HistoryFull, Exists, NameClash, NoMemory.
 fn ready_repository(
     alloc: Global,
     lake: &mut LakeState,

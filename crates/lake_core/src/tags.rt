@@ -16,23 +16,22 @@ ghost use Rattle.lake_core.specs.Leaving.{Leaves};
 use crate::lake::Lake;
 use crate::ready::Ready;
 use commit_graph::RefExpr;
-use keeper::Keeper;
-use lake_base::{NoMemory, RefName, RepoName, TryCopy};
 use core_causes::{test_create_tag, test_delete_tag};
 use core_changes::lake as change;
 use core_changes::repository::Room;
-use core_puts::{keep, place};
-use lake_model::{By, Operation, StepFault};
-use core_puts::{create_tag_puts, delete_tag_puts};
+use core_puts::{create_tag_puts, delete_tag_puts, keep, place};
 use core_standing::{law_of_present, laws_of_names, laws_of_plain_names};
 use core_state::LakeState;
+use keeper::Keeper;
+use lake_base::{NoMemory, RefName, RepoName, TryCopy};
+use lake_laws::causes::laws_of_causes;
+use lake_model::{By, Operation, StepFault};
 use lake_values::CommitId;
 use std::alloc::Global;
-use lake_laws::causes::laws_of_causes;
 
 impl<K: Keeper> Lake<K> {
-    /// Makes a tag of the commit of an expression: the place of the entry, and the commit. Stopped, HistoryFull, NoRepo,
-    /// NoRef, NoParent, Exists, Expired.
+    /// Makes a tag of the commit of an expression: the place of the entry, and the commit. Stopped, HistoryFull,
+    /// NoRepo, NoRef, NoParent, Exists, Expired.
     pub fn create_tag(
         &mut self,
         by: By,

@@ -16,18 +16,17 @@ ghost use Rattle.lake_core.specs.Leaving.{Leaves};
 
 use crate::lake::Lake;
 use crate::ready::Ready;
-use keeper::Keeper;
-use lake_base::{NoMemory, RefName, RepoName, TryCopy};
 use core_causes::{test_change, test_write};
 use core_changes::lake as change;
-use core_puts::{keep, place};
-use lake_model::{By, Operation, StepFault};
-use core_puts::ticket_puts;
+use core_puts::{keep, place, ticket_puts};
 use core_standing::laws_of_tickets;
 use core_state::LakeState;
+use keeper::Keeper;
+use lake_base::{NoMemory, RefName, RepoName, TryCopy};
+use lake_laws::causes::laws_of_causes;
+use lake_model::{By, Operation, StepFault};
 use std::alloc::Global;
 use std::collections::BTreeMap;
-use lake_laws::causes::laws_of_causes;
 
 impl<K: Keeper> Lake<K> {
     /// Whether a number is on a ticket of the seat, so that the seat may drop it, or put an object of it. It takes no

@@ -1,5 +1,6 @@
 -- How rows are cut into ranges, range by range.
-use Rattle.std.proofs.Common.{◌≡◌, ℕ, zero, suc, ◌+◌, ◌-◌, ◌<◌, ◌≤◌, Bool, true, false, not, ◌&&◌, ◌||◌, eqb, List, [], ◌∷◌, length, get_or, take, drop, refl, sym, ap, subst, ◌∙◌, add-one, arith, inl, inr}
+use Rattle.std.proofs.Common.{◌≡◌, ℕ, zero, suc, ◌+◌, ◌-◌, ◌<◌, ◌≤◌, Bool, true, false, not, ◌&&◌, ◌||◌, eqb, List, [], ◌∷◌, length, get_or, take, drop, refl}
+use Rattle.std.proofs.Common.{sym, ap, subst, ◌∙◌, add-one, arith, inl, inr}
 use Rattle.std.specs.List.{list_all}
 use Rattle.std.proofs.lemmas.Bool.{cases_Bool, cases_lt, eqb-true, eqb-false, le-leb, lt-leb}
 use Rattle.std.proofs.lemmas.List.{length-drop, length-take, get_or-take, take-append-drop, take_all}
@@ -64,7 +65,8 @@ first_below cut rows = longest_below cut rows (length rows)
 -- ---- the ranges
 
 -- any number of ranges that is enough gives the same
-within_enough : (cut : Cut) (n m : ℕ) (rows : List (List ℕ × EntryValue)) → length rows ≤ n → length rows ≤ m → ranges_within n cut rows ≡ ranges_within m cut rows
+within_enough : (cut : Cut) (n m : ℕ) (rows : List (List ℕ × EntryValue)) → length rows ≤ n → length rows ≤ m
+    → ranges_within n cut rows ≡ ranges_within m cut rows
 within_enough cut zero zero rows a b = refl
 within_enough cut zero (suc m) [] a b = refl
 within_enough cut zero (suc m) (row ∷ rows) a b = absurd (omega arith)
@@ -81,13 +83,15 @@ pub ranges_none : (cut : Cut) → ranges cut [] ≡ []
 unfolding ranges
 ranges_none cut = refl
 
-pub ranges_cons : (cut : Cut) (row : List ℕ × EntryValue) (rows : List (List ℕ × EntryValue)) → ranges cut (row ∷ rows) ≡ take (first_len cut (row ∷ rows)) (row ∷ rows) ∷ ranges cut (drop (first_len cut (row ∷ rows)) (row ∷ rows))
+pub ranges_cons : (cut : Cut) (row : List ℕ × EntryValue) (rows : List (List ℕ × EntryValue))
+    → ranges cut (row ∷ rows) ≡ take (first_len cut (row ∷ rows)) (row ∷ rows) ∷ ranges cut (drop (first_len cut (row ∷ rows)) (row ∷ rows))
 unfolding ranges
 ranges_cons cut row rows =
     let some = first_some cut row rows in
     let shorter = length-drop (first_len cut (row ∷ rows)) (row ∷ rows) in
     ap (λ rest. take (first_len cut (row ∷ rows)) (row ∷ rows) ∷ rest)
-    (within_enough cut (length rows) (length (drop (first_len cut (row ∷ rows)) (row ∷ rows))) (drop (first_len cut (row ∷ rows)) (row ∷ rows)) (omega arith) (omega arith))
+    (within_enough cut (length rows) (length (drop (first_len cut (row ∷ rows)) (row ∷ rows))) (drop (first_len cut (row ∷ rows)) (row ∷ rows)) (omega arith)
+    (omega arith))
 
 within_few : (cut : Cut) (n : ℕ) (rows : List (List ℕ × EntryValue)) → length (ranges_within n cut rows) ≤ n
 within_few cut zero rows = omega arith
@@ -105,15 +109,18 @@ pub first_some_of : (cut : Cut) (rows : List (List ℕ × EntryValue)) → 0 < l
 first_some_of cut [] lt = absurd (omega arith)
 first_some_of cut (row ∷ rows) lt = first_some cut row rows
 
-pub ranges_of : (cut : Cut) (rows : List (List ℕ × EntryValue)) → 0 < length rows → ranges cut rows ≡ take (first_len cut rows) rows ∷ ranges cut (drop (first_len cut rows) rows)
+pub ranges_of : (cut : Cut) (rows : List (List ℕ × EntryValue)) → 0 < length rows
+    → ranges cut rows ≡ take (first_len cut rows) rows ∷ ranges cut (drop (first_len cut rows) rows)
 ranges_of cut [] lt = absurd (omega arith)
 ranges_of cut (row ∷ rows) lt = ranges_cons cut row rows
 
-pub first_can : (cut : Cut) (rows : List (List ℕ × EntryValue)) → 0 < length rows → (0 < first_len cut rows) × (first_len cut rows ≤ length rows) × (is_range cut (take (first_len cut rows) rows) ≡ true)
+pub first_can : (cut : Cut) (rows : List (List ℕ × EntryValue)) → 0 < length rows
+    → (0 < first_len cut rows) × (first_len cut rows ≤ length rows) × (is_range cut (take (first_len cut rows) rows) ≡ true)
 unfolding first_len
 first_can cut rows lt = (first_some_of cut rows lt, first_below cut rows, longest_can cut rows (length rows))
 
-pub first_longest : (cut : Cut) (rows : List (List ℕ × EntryValue)) (len : ℕ) → len ≤ length rows → is_range cut (take len rows) ≡ true → len ≤ first_len cut rows
+pub first_longest : (cut : Cut) (rows : List (List ℕ × EntryValue)) (len : ℕ) → len ≤ length rows → is_range cut (take len rows) ≡ true
+    → len ≤ first_len cut rows
 unfolding first_len
 first_longest cut rows len = longest_most cut rows (length rows) len
 
@@ -124,7 +131,8 @@ pub record IsFirst (cut : Cut) (rows front rest : List (List ℕ × EntryValue))
   pub shorter : length rest < length rows
   pub cons : ranges cut rows ≡ front ∷ ranges cut rest
 
-pub first_of : (cut : Cut) (rows front rest : List (List ℕ × EntryValue)) → 0 < length rows → front ≡ take (first_len cut rows) rows → rest ≡ drop (first_len cut rows) rows → IsFirst cut rows front rest
+pub first_of : (cut : Cut) (rows front rest : List (List ℕ × EntryValue)) → 0 < length rows → front ≡ take (first_len cut rows) rows
+    → rest ≡ drop (first_len cut rows) rows → IsFirst cut rows front rest
 first_of cut rows front rest lt front-is rest-is =
     let some = first_some_of cut rows lt in
     let below = first_below cut rows in
@@ -190,7 +198,8 @@ before_last rows n le =
     ap (λ k. take k (take (suc n) rows)) len ∙ take_take n (suc n) rows (omega arith)
 
 -- when a front can be one range
-front_can : (cut : Cut) (rows : List (List ℕ × EntryValue)) (n : ℕ) → suc n ≤ length rows → unbroken cut (take n rows) ≡ true → (1 < suc n → row_bytes (take (suc n) rows) ≤ cut.max_bytes)
+front_can : (cut : Cut) (rows : List (List ℕ × EntryValue)) (n : ℕ) → suc n ≤ length rows → unbroken cut (take n rows) ≡ true
+    → (1 < suc n → row_bytes (take (suc n) rows) ≤ cut.max_bytes)
     → is_range cut (take (suc n) rows) ≡ true
 front_can cut rows n le whole fits =
     both_true _ _ (ap (unbroken cut) (before_last rows n le) ∙ whole) (elim (cases_lt n 1) [
@@ -207,27 +216,34 @@ front_can cut rows n le whole fits =
     or_second false b h = h
 
 -- a break key before the last row
-broken_front : (cut : Cut) (rows : List (List ℕ × EntryValue)) (n len : ℕ) (row : List ℕ × EntryValue) → row ≡ get_or rows n row → is_break cut row.0 ≡ true → suc n < len → len ≤ length rows
+broken_front : (cut : Cut) (rows : List (List ℕ × EntryValue)) (n len : ℕ) (row : List ℕ × EntryValue) → row ≡ get_or rows n row → is_break cut row.0 ≡ true
+    → suc n < len → len ≤ length rows
     → is_range cut (take len rows) ≡ false
 broken_front cut rows n zero row is break lt le = absurd (omega arith)
 broken_front cut rows n (suc len) row is break lt le =
-    let here : not (is_break cut (get_or (take len rows) n row).0) ≡ false = ap (λ (r : List ℕ × EntryValue). not (is_break cut r.0)) (get_or-take len rows n row (omega arith) ∙ sym is) ∙ ap not break in
-    not_both _ _ (ap (unbroken cut) (before_last rows len le) ∙ list_all_at (λ row. not (is_break cut row.0)) (take len rows) n row (omega (arith, length-take len rows)) here)
+    let here : not (is_break cut (get_or (take len rows) n row).0) ≡ false =
+    ap (λ (r : List ℕ × EntryValue). not (is_break cut r.0)) (get_or-take len rows n row (omega arith) ∙ sym is) ∙ ap not break in
+    not_both _ _ (ap (unbroken cut) (before_last rows len le)
+    ∙ list_all_at (λ row. not (is_break cut row.0)) (take len rows) n row (omega (arith, length-take len rows)) here)
 
 -- rows that pass the limit
-heavy_front : (cut : Cut) (rows : List (List ℕ × EntryValue)) (n len : ℕ) → n ≤ len → len ≤ length rows → 1 < n → cut.max_bytes < row_bytes (take n rows) → is_range cut (take len rows) ≡ false
+heavy_front : (cut : Cut) (rows : List (List ℕ × EntryValue)) (n len : ℕ) → n ≤ len → len ≤ length rows → 1 < n → cut.max_bytes < row_bytes (take n rows)
+    → is_range cut (take len rows) ≡ false
 heavy_front cut rows n len le within some heavy =
-    nor_second _ _ (neither_true _ _ (lt-leb (length (take len rows)) 1 (omega (arith, length-take len rows))) (lt-leb (row_bytes (take len rows)) cut.max_bytes (omega (arith, more_bytes))))
+    nor_second _ _ (neither_true _ _ (lt-leb (length (take len rows)) 1 (omega (arith, length-take len rows)))
+    (lt-leb (row_bytes (take len rows)) cut.max_bytes (omega (arith, more_bytes))))
   where
     neither_true : (a b : Bool) → a ≡ false → b ≡ false → (a || b) ≡ false
     neither_true true b h k = absurd cc
     neither_true false b h k = k
 
     more_bytes : row_bytes (take n rows) ≤ row_bytes (take len rows)
-    more_bytes = subst (λ l. row_bytes l ≤ row_bytes (take len rows)) (take_take n len rows le) (sum_by-take-le (λ row. length (row_spelling row)) (take len rows) n)
+    more_bytes =
+        subst (λ l. row_bytes l ≤ row_bytes (take len rows)) (take_take n len rows le) (sum_by-take-le (λ row. length (row_spelling row)) (take len rows) n)
 
 -- a front that can be one range, where no longer one can, is the first
-first_is : (cut : Cut) (rows : List (List ℕ × EntryValue)) (n : ℕ) → n ≤ length rows → is_range cut (take n rows) ≡ true → ((len : ℕ) → n < len → len ≤ length rows → is_range cut (take len rows) ≡ false) → n ≡ first_len cut rows
+first_is : (cut : Cut) (rows : List (List ℕ × EntryValue)) (n : ℕ) → n ≤ length rows → is_range cut (take n rows) ≡ true
+    → ((len : ℕ) → n < len → len ≤ length rows → is_range cut (take len rows) ≡ false) → n ≡ first_len cut rows
 unfolding first_len
 first_is cut rows n le fits none =
     let most = longest_most cut rows (length rows) n le fits in
@@ -246,13 +262,15 @@ pub record IsNextRow (cut : Cut) (rows : List (List ℕ × EntryValue)) (n len :
   pub is : row ≡ get_or rows n row
   pub len_is : len ≡ length (row_spelling row)
 
-row_more : (cut : Cut) (rows : List (List ℕ × EntryValue)) (n len : ℕ) (row : List ℕ × EntryValue) → IsNextRow cut rows n len row → row_bytes (take (n + 1) rows) ≡ row_bytes (take n rows) + len
+row_more : (cut : Cut) (rows : List (List ℕ × EntryValue)) (n len : ℕ) (row : List ℕ × EntryValue) → IsNextRow cut rows n len row
+    → row_bytes (take (n + 1) rows) ≡ row_bytes (take n rows) + len
 row_more cut rows n len row next =
     sum_by_more (λ row. length (row_spelling row)) rows n row next.within
     ∙ ap (λ k. row_bytes (take n rows) + k) (ap (λ (r : List ℕ × EntryValue). length (row_spelling r)) (sym next.is) ∙ sym next.len_is)
 
 -- the rows and the next fit
-fit_more : (cut : Cut) (rows : List (List ℕ × EntryValue)) (n room len : ℕ) (row : List ℕ × EntryValue) → IsScanned cut rows n room → IsNextRow cut rows n len row → (0 < n → len ≤ room) → 1 < n + 1 → row_bytes (take (n + 1) rows) ≤ cut.max_bytes
+fit_more : (cut : Cut) (rows : List (List ℕ × EntryValue)) (n room len : ℕ) (row : List ℕ × EntryValue) → IsScanned cut rows n room
+    → IsNextRow cut rows n len row → (0 < n → len ≤ room) → 1 < n + 1 → row_bytes (take (n + 1) rows) ≤ cut.max_bytes
 fit_more cut rows n room len row scanned next space some =
     let all = row_more cut rows n len row next in
     let left = scanned.left in
@@ -260,7 +278,8 @@ fit_more cut rows n room len row scanned next space some =
     omega (arith, next.len_is)
 
 -- one more row
-pub scanned_more : (cut : Cut) (rows : List (List ℕ × EntryValue)) (n room len : ℕ) (row : List ℕ × EntryValue) → IsScanned cut rows n room → IsNextRow cut rows n len row → (0 < n → len ≤ room) → is_break cut row.0 ≡ false
+pub scanned_more : (cut : Cut) (rows : List (List ℕ × EntryValue)) (n room len : ℕ) (row : List ℕ × EntryValue) → IsScanned cut rows n room
+    → IsNextRow cut rows n len row → (0 < n → len ≤ room) → is_break cut row.0 ≡ false
     → IsScanned cut rows (n + 1) (room - len)
 scanned_more cut rows n room len row scanned next space whole = record {
   whole = list_all_more (λ row. not (is_break cut row.0)) rows n row next.within
@@ -270,21 +289,25 @@ scanned_more cut rows n room len row scanned next space whole = record {
 }
 
 -- the next row has no room
-pub scanned_full : (cut : Cut) (rows : List (List ℕ × EntryValue)) (n room len : ℕ) (row : List ℕ × EntryValue) → IsScanned cut rows n room → IsNextRow cut rows n len row → 0 < n → room < len → n ≡ first_len cut rows
+pub scanned_full : (cut : Cut) (rows : List (List ℕ × EntryValue)) (n room len : ℕ) (row : List ℕ × EntryValue) → IsScanned cut rows n room
+    → IsNextRow cut rows n len row → 0 < n → room < len → n ≡ first_len cut rows
 scanned_full cut rows zero room len row scanned next some over = absurd (omega arith)
 scanned_full cut rows (suc n) room len row scanned next some over =
     let within = next.within in
-    let before : unbroken cut (take n rows) ≡ true = sym (ap (unbroken cut) (take_take n (suc n) rows (omega arith))) ∙ unbroken_front cut (take (suc n) rows) n scanned.whole in
+    let before : unbroken cut (take n rows) ≡ true =
+    sym (ap (unbroken cut) (take_take n (suc n) rows (omega arith))) ∙ unbroken_front cut (take (suc n) rows) n scanned.whole in
     first_is cut rows (suc n) (omega arith) (front_can cut rows n (omega arith) before scanned.fits) (λ top lt le.
     heavy_front cut rows (suc n + 1) top (omega arith) le (omega arith) (omega (arith, scanned.left, row_more cut rows (suc n) len row next)))
 
 -- the next row is the last
-pub scanned_break : (cut : Cut) (rows : List (List ℕ × EntryValue)) (n room len : ℕ) (row : List ℕ × EntryValue) → IsScanned cut rows n room → IsNextRow cut rows n len row → (0 < n → len ≤ room) → is_break cut row.0 ≡ true → n + 1 ≡ first_len cut rows
+pub scanned_break : (cut : Cut) (rows : List (List ℕ × EntryValue)) (n room len : ℕ) (row : List ℕ × EntryValue) → IsScanned cut rows n room
+    → IsNextRow cut rows n len row → (0 < n → len ≤ room) → is_break cut row.0 ≡ true → n + 1 ≡ first_len cut rows
 scanned_break cut rows n room len row scanned next space break =
     let within = next.within in
     let one : n + 1 ≡ suc n = add-one n in
     one ∙ first_is cut rows (suc n) (omega arith)
-    (front_can cut rows n (omega arith) scanned.whole (λ some. subst (λ k. row_bytes (take k rows) ≤ cut.max_bytes) one (fit_more cut rows n room len row scanned next space (omega arith))))
+    (front_can cut rows n (omega arith) scanned.whole
+    (λ some. subst (λ k. row_bytes (take k rows) ≤ cut.max_bytes) one (fit_more cut rows n room len row scanned next space (omega arith))))
     (λ top lt le. broken_front cut rows n top row next.is break lt le)
 
 -- all rows
@@ -299,4 +322,5 @@ scanned_all cut rows n room scanned all = by_len (length rows) refl
     by_len (suc k) is =
         let whole : unbroken cut rows ≡ true = sym (ap (unbroken cut) every) ∙ scanned.whole in
         let same : row_bytes (take n rows) ≡ row_bytes (take (suc k) rows) = ap row_bytes (every ∙ sym (take_all (suc k) rows (omega arith))) in
-        first_is cut rows (suc k) (omega arith) (front_can cut rows k (omega arith) (unbroken_front cut rows k whole) (λ some. omega (arith, same, scanned.fits (omega arith)))) (λ len lt le. absurd (omega arith))
+        first_is cut rows (suc k) (omega arith) (front_can cut rows k (omega arith) (unbroken_front cut rows k whole)
+        (λ some. omega (arith, same, scanned.fits (omega arith)))) (λ len lt le. absurd (omega arith))

@@ -1,5 +1,6 @@
 -- A field that is read is the field that was written, and what was written is read again.
-use Rattle.std.proofs.Common.{◌≡◌, ℕ, ◌+◌, ◌^◌, ◌<◌, ◌≤◌, Bool, true, false, cond, eqb, ltb, ◌||◌, Some, None, List, ◌++◌, length, take, drop, Result, Ok, Err, refl, sym, ap, subst, ◌∙◌, append_assoc, arith, inl, inr}
+use Rattle.std.proofs.Common.{◌≡◌, ℕ, ◌+◌, ◌^◌, ◌<◌, ◌≤◌, Bool, true, false, cond, eqb, ltb, ◌||◌, Some, None, List, ◌++◌, length, take, drop, Result, Ok, Err}
+use Rattle.std.proofs.Common.{refl, sym, ap, subst, ◌∙◌, append_assoc, arith, inl, inr}
 use Rattle.std.specs.Int.{Width, w16, w32, w64, byte_len, from_be_bytes, to_be_bytes}
 use Rattle.std.specs.Str.{is_utf8}
 use Rattle.std.proofs.lemmas.Bool.{cases_lt, cases_Bool, eqb-true, eqb-false, ltb-false, le-ltb}
@@ -86,15 +87,20 @@ wide64 = record {
   below = λ bytes fits. omega (arith, fits 0, fits 1, fits 2, fits 3, fits 4, fits 5, fits 6, fits 7);
 }
 
-pub number_takes : (w : Width) (limit : ℕ) (wide : IsWide w limit) (bytes : List ℕ) (n : ℕ) (rest : List ℕ) → AreBytes bytes → read_number w bytes ≡ Ok (n, rest) → Takes bytes (to_be_bytes w n) rest × (n < limit)
+pub number_takes : (w : Width) (limit : ℕ) (wide : IsWide w limit) (bytes : List ℕ) (n : ℕ) (rest : List ℕ) → AreBytes bytes
+    → read_number w bytes ≡ Ok (n, rest) → Takes bytes (to_be_bytes w n) rest × (n < limit)
 number_takes w limit wide bytes n rest fits e =
-    let g = guard_ok (ltb (length bytes) (byte_len w)) (Short (length bytes)) (Ok (from_be_bytes w (take (byte_len w) bytes), drop (byte_len w) bytes)) (n, rest) e in
+    let g =
+    guard_ok (ltb (length bytes) (byte_len w)) (Short (length bytes)) (Ok (from_be_bytes w (take (byte_len w) bytes), drop (byte_len w) bytes)) (n, rest) e in
     let made = ok_is (from_be_bytes w (take (byte_len w) bytes), drop (byte_len w) bytes) (n, rest) g.1 in
     let long : byte_len w ≤ length bytes = ltb-false _ _ g.0 in
     let n-is : from_be_bytes w (take (byte_len w) bytes) ≡ n = ap (λ (p : ℕ × List ℕ). p.0) made in
     let rest-is : drop (byte_len w) bytes ≡ rest = ap (λ (p : ℕ × List ℕ). p.1) made in
-    let front : to_be_bytes w n ≡ take (byte_len w) bytes = rw (← n-is) (wide.back (take (byte_len w) bytes) (omega (arith, length-take (byte_len w) bytes)) (bytes-take (byte_len w) bytes fits)) in
-    (record { parts = rw (front, ← rest-is) (sym (take-append-drop (byte_len w) bytes)); rest_fits = rw (← rest-is) (bytes-drop (byte_len w) bytes fits) }, rw (← n-is) (wide.below (take (byte_len w) bytes) (bytes-take (byte_len w) bytes fits)))
+    let front : to_be_bytes w n ≡ take (byte_len w) bytes =
+    rw (← n-is) (wide.back (take (byte_len w) bytes) (omega (arith, length-take (byte_len w) bytes)) (bytes-take (byte_len w) bytes fits)) in (
+      record { parts = rw (front, ← rest-is) (sym (take-append-drop (byte_len w) bytes)); rest_fits = rw (← rest-is) (bytes-drop (byte_len w) bytes fits) },
+      rw (← n-is) (wide.below (take (byte_len w) bytes) (bytes-take (byte_len w) bytes fits)),
+    )
 
 pub number_again : (w : Width) (limit : ℕ) (wide : IsWide w limit) (n : ℕ) (rest : List ℕ) → n < limit → read_number w (to_be_bytes w n ++ rest) ≡ Ok (n, rest)
 number_again w limit wide n rest lt =
@@ -124,7 +130,8 @@ bytes_again n text rest len =
 
 -- ---- texts
 
-pub utf8_take : (left n : ℕ) (bytes text rest : List ℕ) → read_utf8 left n bytes ≡ Ok (text, rest) → (read_bytes n bytes ≡ Ok (text, rest)) × (is_utf8 text ≡ true)
+pub utf8_take : (left n : ℕ) (bytes text rest : List ℕ) → read_utf8 left n bytes ≡ Ok (text, rest)
+    → (read_bytes n bytes ≡ Ok (text, rest)) × (is_utf8 text ≡ true)
 utf8_take left n bytes text rest e =
     let g = guard_ok (ltb (length bytes) n) (Short left) (cond (is_utf8 (take n bytes)) (Ok (take n bytes, drop n bytes)) (Err (Bad left))) (text, rest) e in
     let t = test_ok (is_utf8 (take n bytes)) (Bad left) (Ok (take n bytes, drop n bytes)) (text, rest) g.1 in
@@ -145,7 +152,8 @@ record TextParts (w : Width) (least most : ℕ) (bytes text rest : List ℕ) : T
 
 text_parts : (w : Width) (least most : ℕ) (bytes text rest : List ℕ) → text_behind w least most bytes ≡ Ok (text, rest) → TextParts w least most bytes text rest
 text_parts w least most bytes text rest e =
-    let b = bind_ok (read_number w bytes) (λ n. cond (ltb n.0 least || ltb most n.0) (Err (Bad (length bytes))) (read_utf8 (length bytes) n.0 n.1)) (text, rest) e in
+    let b =
+    bind_ok (read_number w bytes) (λ n. cond (ltb n.0 least || ltb most n.0) (Err (Bad (length bytes))) (read_utf8 (length bytes) n.0 n.1)) (text, rest) e in
     let n = b.0 in
     let g = guard_ok (ltb n.0 least || ltb most n.0) (Bad (length bytes)) (read_utf8 (length bytes) n.0 n.1) (text, rest) b.2 in
     let two = neither (ltb n.0 least) (ltb most n.0) g.0 in
@@ -159,7 +167,8 @@ behind_limits w least most bytes text rest e =
     let len = (bytes_take p.count p.middle text rest p.text_read).2 in
     record { long = omega (arith, p.enough, len); short = omega (arith, p.few, len); utf8 = p.utf8 }
 
-behind_takes : (w : Width) (limit : ℕ) (wide : IsWide w limit) (least most : ℕ) (bytes text rest : List ℕ) → AreBytes bytes → text_behind w least most bytes ≡ Ok (text, rest) → Takes bytes (to_be_bytes w (length text) ++ text) rest
+behind_takes : (w : Width) (limit : ℕ) (wide : IsWide w limit) (least most : ℕ) (bytes text rest : List ℕ) → AreBytes bytes
+    → text_behind w least most bytes ≡ Ok (text, rest) → Takes bytes (to_be_bytes w (length text) ++ text) rest
 behind_takes w limit wide least most bytes text rest fits e =
     let p = text_parts w least most bytes text rest e in
     let len = (bytes_take p.count p.middle text rest p.text_read).2 in
@@ -167,24 +176,36 @@ behind_takes w limit wide least most bytes text rest fits e =
     let both = takes_then bytes (to_be_bytes w p.count) p.middle text rest t.0 (bytes_takes p.count p.middle text rest t.0.rest_fits p.text_read).0 in
     subst (λ (k : ℕ). Takes bytes (to_be_bytes w k ++ text) rest) (sym len) both
 
-behind_again : (w : Width) (limit : ℕ) (wide : IsWide w limit) (least most : ℕ) (text rest : List ℕ) → most < limit → IsText least most text → text_behind w least most ((to_be_bytes w (length text) ++ text) ++ rest) ≡ Ok (text, rest)
+behind_again : (w : Width) (limit : ℕ) (wide : IsWide w limit) (least most : ℕ) (text rest : List ℕ) → most < limit → IsText least most text
+    → text_behind w least most ((to_be_bytes w (length text) ++ text) ++ rest) ≡ Ok (text, rest)
 behind_again w limit wide least most text rest small is =
-    let regrouped : (to_be_bytes w (length text) ++ text) ++ rest ≡ to_be_bytes w (length text) ++ (text ++ rest) = append_assoc (to_be_bytes w (length text)) text rest in
+    let regrouped : (to_be_bytes w (length text) ++ text) ++ rest ≡ to_be_bytes w (length text) ++ (text ++ rest) =
+    append_assoc (to_be_bytes w (length text)) text rest in
     let enough : ltb (length text) least ≡ false = le-ltb _ _ is.long in
     let few : ltb most (length text) ≡ false = le-ltb _ _ is.short in
     let long : ltb (length (text ++ rest)) (length text) ≡ false = le-ltb _ _ (omega (arith, length-append text rest)) in
     ap (text_behind w least most) regrouped
-    ∙ rw (number_again w limit wide (length text) (text ++ rest) (omega (arith, is.short)), enough, few, long, take_at text rest (length text) refl, drop_at text rest (length text) refl, is.utf8) refl
+    ∙ rw (
+      number_again w limit wide (length text) (text ++ rest) (omega (arith, is.short)),
+      enough,
+      few,
+      long,
+      take_at text rest (length text) refl,
+      drop_at text rest (length text) refl,
+      is.utf8,
+    ) refl
 
 pub text_limits : (least most : ℕ) (bytes text rest : List ℕ) → read_text least most bytes ≡ Ok (text, rest) → IsText least most text
 unfolding read_text
 text_limits least most bytes text rest e = behind_limits w16 least most bytes text rest e
 
-pub text_takes : (least most : ℕ) (bytes text rest : List ℕ) → AreBytes bytes → read_text least most bytes ≡ Ok (text, rest) → Takes bytes (short_text text) rest
+pub text_takes : (least most : ℕ) (bytes text rest : List ℕ) → AreBytes bytes → read_text least most bytes ≡ Ok (text, rest)
+    → Takes bytes (short_text text) rest
 unfolding read_text
 text_takes least most bytes text rest fits e = behind_takes w16 (2 ^ 16) wide16 least most bytes text rest fits e
 
-pub text_again : (least most : ℕ) (text rest : List ℕ) → most < 2 ^ 16 → IsText least most text → read_text least most (short_text text ++ rest) ≡ Ok (text, rest)
+pub text_again : (least most : ℕ) (text rest : List ℕ) → most < 2 ^ 16 → IsText least most text
+    → read_text least most (short_text text ++ rest) ≡ Ok (text, rest)
 unfolding read_text
 text_again least most text rest small is = behind_again w16 (2 ^ 16) wide16 least most text rest small is
 
@@ -202,7 +223,8 @@ long_text_again most text rest small is = behind_again w32 (2 ^ 32) wide32 0 mos
 
 -- ---- paths
 
-no_fault : (empty long utf8 : Bool) → cond empty (Some Empty) (cond long (Some TooLong) (cond utf8 None (Some NotUtf8))) ≡ None → (empty ≡ false) × (long ≡ false) × (utf8 ≡ true)
+no_fault : (empty long utf8 : Bool) → cond empty (Some Empty) (cond long (Some TooLong) (cond utf8 None (Some NotUtf8))) ≡ None
+    → (empty ≡ false) × (long ≡ false) × (utf8 ≡ true)
 no_fault true long utf8 e = absurd cc
 no_fault false true utf8 e = absurd cc
 no_fault false false true e = (refl, refl, refl)

@@ -1,5 +1,6 @@
 -- Reading pairs one after the other, as a loop does, and what is read so.
-use Rattle.std.proofs.Common.{◌≡◌, ℕ, zero, suc, ◌-◌, ◌+◌, ◌≤◌, ◌<◌, T, true, cond, List, [], ◌∷◌, ◌++◌, length, Option, Some, None, Result, Ok, Err, refl, sym, ap, subst, ◌∙◌, append_assoc, arith}
+use Rattle.std.proofs.Common.{◌≡◌, ℕ, zero, suc, ◌-◌, ◌+◌, ◌≤◌, ◌<◌, T, true, cond, List, [], ◌∷◌, ◌++◌, length, Option, Some, None, Result, Ok, Err, refl, sym}
+use Rattle.std.proofs.Common.{ap, subst, ◌∙◌, append_assoc, arith}
 use Rattle.std.proofs.lemmas.List.{append-nil, length-append}
 use Rattle.std.specs.Option.{option_map}
 use Rattle.std.specs.List.{slice_get, AllByRecursion}
@@ -24,7 +25,8 @@ Read = Result (List (List ℕ × List ℕ) × List ℕ) FieldFault
 abbrev pub with_front : List (List ℕ × List ℕ) → Read → Read
 with_front front read = read >>= λ x. Ok (front ++ x.0, x.1)
 
-regroup : (front : List (List ℕ × List ℕ)) (p : List ℕ × List ℕ) (read : Read) → with_front front (read >>= λ x. Ok (p ∷ x.0, x.1)) ≡ with_front (front ++ p ∷ []) read
+regroup : (front : List (List ℕ × List ℕ)) (p : List ℕ × List ℕ) (read : Read)
+    → with_front front (read >>= λ x. Ok (p ∷ x.0, x.1)) ≡ with_front (front ++ p ∷ []) read
 regroup front p (Ok x) = ap (λ (ps : List (List ℕ × List ℕ)). Ok (ps, x.1)) (sym (append_assoc front (p ∷ []) x.0))
 regroup front p (Err f) = refl
 
@@ -40,15 +42,19 @@ got_last front p =
 last_push : (front : List (List ℕ × List ℕ)) (p : List ℕ × List ℕ) → last_key (front ++ p ∷ []) ≡ Some p.0
 last_push front p = ap (option_map (λ (pair : List ℕ × List ℕ). pair.0)) (got_last front p)
 
-pub goes_on : (front : List (List ℕ × List ℕ)) (count i : ℕ) (bytes : List ℕ) (p : List ℕ × List ℕ) (after : List ℕ) (total : Read) → i < count → read_pair (last_key front) bytes ≡ Ok (p, after)
-    → with_front front (read_pairs (count - i) (last_key front) bytes) ≡ total → with_front (front ++ p ∷ []) (read_pairs (count - (i + 1)) (last_key (front ++ p ∷ [])) after) ≡ total
+pub goes_on : (front : List (List ℕ × List ℕ)) (count i : ℕ) (bytes : List ℕ) (p : List ℕ × List ℕ) (after : List ℕ) (total : Read) → i < count
+    → read_pair (last_key front) bytes ≡ Ok (p, after)
+    → with_front front (read_pairs (count - i) (last_key front) bytes) ≡ total
+    → with_front (front ++ p ∷ []) (read_pairs (count - (i + 1)) (last_key (front ++ p ∷ [])) after) ≡ total
 unfolding read_pairs
 goes_on front count i bytes p after total lt h so_far =
     let k : count - i ≡ suc (count - (i + 1)) = omega arith in
-    let one : with_front front (read_pairs (count - i) (last_key front) bytes) ≡ with_front (front ++ p ∷ []) (read_pairs (count - (i + 1)) (Some p.0) after) = rw (k, h) (regroup front p (read_pairs (count - (i + 1)) (Some p.0) after)) in
+    let one : with_front front (read_pairs (count - i) (last_key front) bytes) ≡ with_front (front ++ p ∷ []) (read_pairs (count - (i + 1)) (Some p.0) after) =
+    rw (k, h) (regroup front p (read_pairs (count - (i + 1)) (Some p.0) after)) in
     ap (λ l. with_front (front ++ p ∷ []) (read_pairs (count - (i + 1)) l after)) (last_push front p) ∙ sym one ∙ so_far
 
-pub ends : (e : FieldFault) (front : List (List ℕ × List ℕ)) (count i : ℕ) (bytes : List ℕ) (total : Read) → i < count → Fails e (read_pair (last_key front) bytes)
+pub ends : (e : FieldFault) (front : List (List ℕ × List ℕ)) (count i : ℕ) (bytes : List ℕ) (total : Read) → i < count
+    → Fails e (read_pair (last_key front) bytes)
     → with_front front (read_pairs (count - i) (last_key front) bytes) ≡ total → Fails e total
 unfolding read_pairs
 ends NoMemory front count i bytes total lt h so_far = tt
@@ -61,11 +67,13 @@ ends (Bad left) front count i bytes total lt h so_far =
     let one : with_front front (read_pairs (count - i) (last_key front) bytes) ≡ Err (Bad left) = rw (k, h) refl in
     sym so_far ∙ one
 
-pub is_done : (front : List (List ℕ × List ℕ)) (count i : ℕ) (bytes : List ℕ) (total : Read) → count ≤ i → with_front front (read_pairs (count - i) (last_key front) bytes) ≡ total → total ≡ Ok (front, bytes)
+pub is_done : (front : List (List ℕ × List ℕ)) (count i : ℕ) (bytes : List ℕ) (total : Read) → count ≤ i
+    → with_front front (read_pairs (count - i) (last_key front) bytes) ≡ total → total ≡ Ok (front, bytes)
 unfolding read_pairs
 is_done front count i bytes total le so_far =
     let k : count - i ≡ 0 = omega arith in
-    let one : with_front front (read_pairs (count - i) (last_key front) bytes) ≡ Ok (front, bytes) = rw k (ap (λ (ps : List (List ℕ × List ℕ)). Ok (ps, bytes)) (append-nil front)) in
+    let one : with_front front (read_pairs (count - i) (last_key front) bytes) ≡ Ok (front, bytes) =
+    rw k (ap (λ (ps : List (List ℕ × List ℕ)). Ok (ps, bytes)) (append-nil front)) in
     sym so_far ∙ one
 
 -- ---- the limits of what is read
@@ -81,7 +89,8 @@ pub record PairParts (last : Option (List ℕ)) (bytes : List ℕ) (pair : List 
   pub next : is_next last pair.0 ≡ true
   pub value_read : read_text 0 1024 middle ≡ Ok (pair.1, rest)
 
-pub pair_parts : (last : Option (List ℕ)) (bytes : List ℕ) (pair : List ℕ × List ℕ) (rest : List ℕ) → read_pair last bytes ≡ Ok (pair, rest) → PairParts last bytes pair rest
+pub pair_parts : (last : Option (List ℕ)) (bytes : List ℕ) (pair : List ℕ × List ℕ) (rest : List ℕ) → read_pair last bytes ≡ Ok (pair, rest)
+    → PairParts last bytes pair rest
 unfolding read_pair read_key
 pair_parts last bytes pair rest e =
     let k = bind_ok (read_key last bytes) (λ key. read_text 0 1024 key.1 >>= λ value. Ok ((key.0, value.0), value.1)) (pair, rest) e in
@@ -104,7 +113,8 @@ pub record PairsRead (n : ℕ) (last : Option (List ℕ)) (pairs : List (List �
   pub follow : Follow last pairs
   pub ascend : HasAscendingKeys pairs
 
-follows : (last : Option (List ℕ)) (pair : List ℕ × List ℕ) (pairs : List (List ℕ × List ℕ)) → is_next last pair.0 ≡ true → T (below_all byte_order pair.0 pairs) → Follow last (pair ∷ pairs)
+follows : (last : Option (List ℕ)) (pair : List ℕ × List ℕ) (pairs : List (List ℕ × List ℕ)) → is_next last pair.0 ≡ true
+    → T (below_all byte_order pair.0 pairs) → Follow last (pair ∷ pairs)
 follows None pair pairs next h = tt
 follows (Some last) pair pairs next h =
     let lt : T (is_lt (byte_order last pair.0)) = subst T (sym next) tt in
@@ -113,7 +123,8 @@ follows (Some last) pair pairs next h =
 pub pairs_read : (n : ℕ) (last : Option (List ℕ)) (bytes : List ℕ) (x : List (List ℕ × List ℕ) × List ℕ) → read_pairs n last bytes ≡ Ok x → PairsRead n last x.0
 unfolding read_pairs
 pairs_read zero last bytes x e =
-    subst (λ (y : List (List ℕ × List ℕ) × List ℕ). PairsRead 0 last y.0) (ok_is ([], bytes) x e) (record { count = refl; each = tt; utf8 = tt; follow = none last; ascend = tt })
+    subst (λ (y : List (List ℕ × List ℕ) × List ℕ). PairsRead 0 last y.0) (ok_is ([], bytes) x e)
+    (record { count = refl; each = tt; utf8 = tt; follow = none last; ascend = tt })
   where
     none : (last : Option (List ℕ)) → Follow last []
     none None = tt

@@ -1,5 +1,6 @@
 -- One appended field after the other, and the room that is left.
-use Rattle.std.proofs.Common.{◌≡◌, ℕ, ◌+◌, ◌<◌, List, ◌∷◌, ◌++◌, length, get_or, take, drop, Vec, sym, ap, subst, ◌∙◌, append_assoc, add-one, drop-cons, refl, arith}
+use Rattle.std.proofs.Common.{◌≡◌, ℕ, ◌+◌, ◌<◌, List, ◌∷◌, ◌++◌, length, get_or, take, drop, Vec, sym, ap, subst, ◌∙◌, append_assoc, add-one, drop-cons, refl}
+use Rattle.std.proofs.Common.{arith}
 use Rattle.std.specs.List.{flat_map}
 use Rattle.std.proofs.lemmas.List.{length-append}
 use Rattle.std.proofs.lemmas.List.Concat.{flat_map-cons}
@@ -39,7 +40,8 @@ module _ {A : Type 0} where
     pub for_value : Appends a b (short_text key) → HasRoom b (2 + length value)
     pub for_others : Appends a b (short_text key) → Appends b c (short_text value) → HasRoom c (length (flat_map pair_spelling (drop (i + 1) pairs)))
 
-  pub pair_room : (a b c : Vec ℕ A) (pairs : List (List ℕ × List ℕ)) (i : ℕ) (pair : List ℕ × List ℕ) (key value : List ℕ) → i < length pairs → pair ≡ get_or pairs i pair → key ≡ pair.0 → value ≡ pair.1
+  pub pair_room : (a b c : Vec ℕ A) (pairs : List (List ℕ × List ℕ)) (i : ℕ) (pair : List ℕ × List ℕ) (key value : List ℕ) → i < length pairs
+      → pair ≡ get_or pairs i pair → key ≡ pair.0 → value ≡ pair.1
       → HasRoom a (length (flat_map pair_spelling (drop i pairs))) → PairRoom a b c pairs i key value
   pair_room a b c pairs i pair key value lt is key-is value-is room =
       let all = pairs_from pairs i pair lt is in
@@ -52,8 +54,10 @@ module _ {A : Type 0} where
       }
 
   -- one more pair
-  pub pair_more : (a b c d : Vec ℕ A) (head : List ℕ) (pairs : List (List ℕ × List ℕ)) (i : ℕ) (pair : List ℕ × List ℕ) (key value : List ℕ) → i < length pairs → pair ≡ get_or pairs i pair → key ≡ pair.0 → value ≡ pair.1
-      → Appends a b (head ++ flat_map pair_spelling (take i pairs)) → Appends b c (short_text key) → Appends c d (short_text value) → Appends a d (head ++ flat_map pair_spelling (take (i + 1) pairs))
+  pub pair_more : (a b c d : Vec ℕ A) (head : List ℕ) (pairs : List (List ℕ × List ℕ)) (i : ℕ) (pair : List ℕ × List ℕ) (key value : List ℕ) → i < length pairs
+      → pair ≡ get_or pairs i pair → key ≡ pair.0 → value ≡ pair.1
+      → Appends a b (head ++ flat_map pair_spelling (take i pairs)) → Appends b c (short_text key) → Appends c d (short_text value)
+      → Appends a d (head ++ flat_map pair_spelling (take (i + 1) pairs))
   pair_more a b c d head pairs i pair key value lt is key-is value-is so_far p q =
       let one = appends_then b c d (short_text key) (short_text value) p q in
       let all = appends_then a b d (head ++ flat_map pair_spelling (take i pairs)) (short_text key ++ short_text value) so_far one in

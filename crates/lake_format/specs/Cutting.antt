@@ -1,5 +1,6 @@
 -- How a key map is cut into ranges and segments, and the files of a tree.
-use Rattle.std.specs.Prelude.{◌-◌, ◌*◌, ◌%◌, ◌^◌, ◌==◌, ◌&&◌, ◌||◌, not, true, false, ℕ, zero, suc, Bool, List, [], ◌∷◌, length, map, take, drop, bit_xor, nat_le, Option, Some, None, if◌then◌else◌}
+use Rattle.std.specs.Prelude.{◌-◌, ◌*◌, ◌%◌, ◌^◌, ◌==◌, ◌&&◌, ◌||◌, not, true, false, ℕ, zero, suc, Bool, List, [], ◌∷◌, length, map, take, drop, bit_xor}
+use Rattle.std.specs.Prelude.{nat_le, Option, Some, None, if◌then◌else◌}
 use Rattle.std.specs.List.{filter, list_all, list_any, sum_by}
 use Rattle.std.specs.Cmp.Lexicographic.{pointwise}
 use Rattle.std.specs.FinMap.{entries}

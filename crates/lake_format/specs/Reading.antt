@@ -1,5 +1,6 @@
 -- Reading values from bytes, from the left, with the first fault that is met and its place.
-use Rattle.std.specs.Prelude.{◌≡◌, ◌-◌, ◌||◌, ℕ, zero, suc, Bool, true, List, [], ◌∷◌, length, take, drop, Option, Some, None, option_map, slice_get, Result, Ok, Err, nat_eq, nat_lt, codes, if◌then◌else◌}
+use Rattle.std.specs.Prelude.{◌≡◌, ◌-◌, ◌||◌, ℕ, zero, suc, Bool, true, List, [], ◌∷◌, length, take, drop, Option, Some, None, option_map, slice_get, Result}
+use Rattle.std.specs.Prelude.{Ok, Err, nat_eq, nat_lt, codes, if◌then◌else◌}
 use Rattle.std.specs.Int.{Width, w16, w32, w64, byte_len, from_be_bytes}
 use Rattle.std.specs.List.{starts_with}
 use Rattle.std.specs.Ordering.{is_lt}

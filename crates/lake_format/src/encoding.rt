@@ -14,10 +14,12 @@
 ghost use Rattle.std.specs.Prelude.{◌≡◌, ◌≢◌, ◌++◌, ◌+◌, ◌-◌, ◌≤◌, ℕ, List, length, drop, Ok, Err, OnOk, OnErr, IfOk};
 ghost use Rattle.std.specs.Int.{w64, to_be_bytes};
 ghost use Rattle.lake_values.specs.Entry.{EntryValue, IsPlace};
-ghost use Rattle.lake_format.specs.Spelling.{place_spelling, pairs_spelling, entry_spelling, row_spelling, own_address, IsOwn, IsSpelledPlace, IsEntry, IsRow, AreBytes};
+ghost use Rattle.lake_format.specs.Spelling.{place_spelling, pairs_spelling, entry_spelling, row_spelling, own_address};
+ghost use Rattle.lake_format.specs.Spelling.{IsOwn, IsSpelledPlace, IsEntry, IsRow, AreBytes};
 ghost use Rattle.lake_format.specs.Writing.{HasRoom, Appends};
 ghost use Rattle.lake_format.specs.declared.fields.FieldFault.TheVariants.{Short, Bad};
-ghost use Rattle.lake_format.specs.Reading.{ReadsAs, ReadsEntry, read_address, read_own, read_external, read_place, read_entry, entry_from};
+ghost use Rattle.lake_format.specs.Reading.{ReadsAs, ReadsEntry, read_address, read_own, read_external, read_place};
+ghost use Rattle.lake_format.specs.Reading.{read_entry, entry_from};
 
 use crate::fields::{
     EntryFault, FieldFault, pairs_len, read_digest, read_metadata, read_text, read_u64,

@@ -4,11 +4,14 @@
 //! the first from the left, and says where the innermost field begins that is short or bad: a number, a digest, a
 //! count, a text with its length, a key of metadata that isn't above the one before. A writer reserves room for
 //! the whole field first, so that a refused call leaves its buffer as it was.
-ghost use Rattle.std.specs.Prelude.{◌≡◌, ◌≢◌, ◌++◌, ◌+◌, ◌<◌, ◌≤◌, ◌^◌, length, None, OnOk, OnErr, IfErr, option_copied};
+ghost use Rattle.std.specs.Prelude.{◌≡◌, ◌≢◌, ◌++◌, ◌+◌, ◌<◌, ◌≤◌, ◌^◌, length, None, OnOk, OnErr, IfErr};
+ghost use Rattle.std.specs.Prelude.{option_copied};
 ghost use Rattle.std.specs.Int.{w16, w32, w64, to_be_bytes};
 ghost use Rattle.lake_format.specs.Spelling.{short_text, long_text, pairs_spelling, IsDigest, IsMetadata};
 ghost use Rattle.lake_format.specs.Writing.{HasRoom, Appends};
-ghost use Rattle.lake_format.specs.Reading.{ReadsAs, fault_place, entry_fault, read_number, read_bytes, read_utf8, read_text, read_long_text, read_path, is_next, last_key, read_key, read_pair, read_pairs, read_metadata};
+ghost use Rattle.lake_format.specs.Reading.{ReadsAs, fault_place, entry_fault, read_number, read_bytes, read_utf8};
+ghost use Rattle.lake_format.specs.Reading.{read_text, read_long_text, read_path, is_next, last_key, read_key};
+ghost use Rattle.lake_format.specs.Reading.{read_pair, read_pairs, read_metadata};
 ghost use Rattle.lake_format.specs.declared.fields.FieldFault.TheVariants.{NoMemory as field_no_memory};
 ghost use Rattle.lake_format.specs.declared.fields.EntryFault.TheVariants.{NoMemory as entry_no_memory};
 

@@ -12,7 +12,8 @@ use Rattle.commit_graph.specs.Expressions.{RefExprValue}
 use Rattle.lake_model.specs.declared.fault.StepFault.TheVariants.{NoRef}
 use Rattle.lake_model.specs.declared.history.By.{By}
 use Rattle.lake_model.specs.declared.history.CopySource.{CopySource}
-use Rattle.lake_model.specs.declared.history.Operation.TheVariants.{BranchCreate, BranchDelete, Copy, Reset, Seal, Stage, TagCreate, TagDelete, TicketDrop, TicketTake}
+use Rattle.lake_model.specs.declared.history.Operation.TheVariants.{BranchCreate, BranchDelete, Copy, Reset, Seal, Stage, TagCreate, TagDelete, TicketDrop}
+use Rattle.lake_model.specs.declared.history.Operation.TheVariants.{TicketTake}
 use Rattle.lake_model.specs.declared.history.SealFor.{SealFor}
 use Rattle.lake_model.specs.declared.history.SealFor.TheVariants as why
 use Rattle.lake_model.specs.State.{State}
@@ -21,7 +22,8 @@ use Rattle.lake_model.specs.History.{Allows, accepted_entry}
 use Rattle.lake_model.specs.Readings.{expression_map}
 use Rattle.lake_model.specs.Refusals.{causes_of_change, first_cause}
 use Rattle.lake_model.specs.Soundness.{IsSound}
-use Rattle.lake_model.specs.Steps.{copied_entry, copy_causes, copy_source, create_branch_causes, create_tag_causes, delete_branch_causes, delete_tag_causes, in_it, seal_causes, source_fault, stage_causes, target_in, write_causes}
+use Rattle.lake_model.specs.Steps.{copied_entry, copy_causes, copy_source, create_branch_causes, create_tag_causes, delete_branch_causes, delete_tag_causes}
+use Rattle.lake_model.specs.Steps.{in_it, seal_causes, source_fault, stage_causes, target_in, write_causes}
 use Rattle.lake_model.specs.Uncommitted.{HasTicket, IsSealable, copied_map, put_number}
 use Rattle.lake_model.specs.Versions.{VersionsGiven}
 use Rattle.lake_laws.proofs.CauseLemmas.{no_cause, allowed, or_none, test_holds}

@@ -5,7 +5,8 @@ use Rattle.std.specs.Option.{IsSome, is_some, option_map, unwrap_or}
 use Rattle.std.specs.Ordering.{is_lt, nat_cmp, ordering_then}
 use Rattle.std.specs.FinMap.{get}
 use Rattle.lake_base.specs.declared.digest.Digest.{Digest}
-use Rattle.lake_values.specs.Ancestry.{Graph, IsAncestor, IsBase, IsCommon, IsGraph, Reaches, base, comes_first, commit_of, generation, id_order, parents, parents_in}
+use Rattle.lake_values.specs.Ancestry.{Graph, IsAncestor, IsBase, IsCommon, IsGraph, Reaches, base, comes_first, commit_of, generation, id_order, parents}
+use Rattle.lake_values.specs.Ancestry.{parents_in}
 use Rattle.lake_values.specs.Commit.{CommitRecordValue}
 use Rattle.lake_values.proofs.AncestryOrderLemmas.{base_is, base_none, base_some, no_base}
 use Rattle.lake_model.specs.declared.history.HistoryEntry.{HistoryEntry}

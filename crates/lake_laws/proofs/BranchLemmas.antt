@@ -14,7 +14,8 @@ use Rattle.lake_model.specs.declared.history.EntryKind.{EntryKind}
 use Rattle.lake_model.specs.declared.history.EntryKind.TheVariants.{Accepted, Faulted}
 use Rattle.lake_model.specs.declared.history.HistoryEntry.{HistoryEntry}
 use Rattle.lake_model.specs.declared.history.Operation.{Operation}
-use Rattle.lake_model.specs.declared.history.Operation.TheVariants.{RepoCreate, BranchCreate, BranchDelete, Stage, Copy, Reset, Seal, Commit, Merge, Pick, Expire}
+use Rattle.lake_model.specs.declared.history.Operation.TheVariants.{RepoCreate, BranchCreate, BranchDelete, Stage, Copy, Reset, Seal, Commit, Merge, Pick}
+use Rattle.lake_model.specs.declared.history.Operation.TheVariants.{Expire}
 use Rattle.lake_model.specs.State.{Branch, Repository, State, branch_of}
 use Rattle.lake_model.specs.Branches.{clean_branch}
 use Rattle.lake_model.specs.Uncommitted.{with_staged, reset_branch, sealed_branch}
@@ -81,7 +82,8 @@ module _ (branch : List ℕ) (x : Digest × ChangesValue) where
   content_by cut repo (BranchCreate a b commit) r none tie =
       elsewhere r _ (get_inserted_elsewhere r.branches b (clean_branch commit) branch (untied _ _ none tie))
   content_by cut repo (BranchDelete a b) r none tie = λ now_has.
-      map_removed content (ties branch b) x (get r.branches branch) (ap (option_map content) (sym (get-remove nat_list_cmp_total r.branches b branch)) ∙ now_has)
+      map_removed content (ties branch b) x (get r.branches branch)
+      (ap (option_map content) (sym (get-remove nat_list_cmp_total r.branches b branch)) ∙ now_has)
   content_by cut repo (Stage a b path change) r none tie = λ now_has.
       sym (seen_again content b (with_staged path change) r.branches branch (λ y. refl)) ∙ now_has
   content_by cut repo (Copy a b path from from_path entry) r none tie = λ now_has.

@@ -167,7 +167,8 @@ module _ (graph : Graph) (id : Digest) (commit : CommitRecordValue) (absent : co
       omega (arith, same, due_stays ids (λ p within. there p (Contains-later q p ids within)))
 
   -- a commit whose parents were there, and whose generation was due, is so still
-  due_of : (q : Digest) (d : CommitRecordValue) → commit_of more q ≡ Some d → AreThere graph d.parents → d.generation ≡ due_generation graph d.parents → IsDue more q
+  due_of : (q : Digest) (d : CommitRecordValue) → commit_of more q ≡ Some d → AreThere graph d.parents → d.generation ≡ due_generation graph d.parents
+      → IsDue more q
   due_of q d is there due =
       let same : d.parents ≡ parents more q = parents_some more q d (sym is) in
       record {
@@ -216,7 +217,8 @@ module _ (cut : Cut) (r : Repository) (id : Digest) (commit : CommitRecordValue)
   ]
 
   -- commits with one that may be added, with its map, are sound
-  pub sound_commits : HasSoundCommits cut r → IsAddable r.commits id commit → id ≡ commit_id commit → commit.meta_range ≡ tree_id cut map → HasSoundCommits cut with
+  pub sound_commits : HasSoundCommits cut r → IsAddable r.commits id commit → id ≡ commit_id commit → commit.meta_range ≡ tree_id cut map
+      → HasSoundCommits cut with
   sound_commits sound may name tree = record {
     graph = graph_more r.commits id commit sound.graph may;
     ids = λ q c is. elim (new_or_old q c is) [
@@ -241,7 +243,8 @@ module _ (cut : Cut) (r : Repository) (id : Digest) (commit : CommitRecordValue)
   live_new live = (ap is_some (insert_here r.commits id.0 commit), live)
 
   -- a sound repository with a commit that may be added is sound
-  pub sound_with_commit : IsSoundRepository cut r → IsAddable r.commits id commit → id ≡ commit_id commit → commit.meta_range ≡ tree_id cut map → IsSoundRepository cut with
+  pub sound_with_commit : IsSoundRepository cut r → IsAddable r.commits id commit → id ≡ commit_id commit → commit.meta_range ≡ tree_id cut map
+      → IsSoundRepository cut with
   sound_with_commit sound may name tree =
       let commits = sound_commits (commits_of cut r sound) may name tree in
       record {

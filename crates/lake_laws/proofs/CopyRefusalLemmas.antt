@@ -43,7 +43,8 @@ plain_target r e plain =
     let unmoved = no_moves e.moves (and_both (is_unmoved e.moves) (is_some (get r.branches e.name)) parts.1).0 in
     let b = of_some (get r.branches e.name) (plain_there r e plain) in (
       b.0.head,
-      ap (λ (o : Option Branch). result_ok (moved_target r e (option_or (option_map (λ x. x.head) o) (option_or (get r.tags e.name) (commit_named r e.name))))) b.1
+      ap (λ (o : Option Branch). result_ok (moved_target r e (option_or (option_map (λ x. x.head) o) (option_or (get r.tags e.name) (commit_named r e.name)))))
+          b.1
           ∙ ap (λ moves. result_ok (parent_fault (moves_target r.commits 0 b.0.head moves))) unmoved,
     )
 

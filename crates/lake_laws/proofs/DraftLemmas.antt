@@ -19,11 +19,13 @@ use Rattle.lake_model.specs.Commits.{Draft, IsAdmissible, record_of, with_commit
 use Rattle.lake_model.specs.Soundness.{IsSoundRepository}
 use Rattle.lake_laws.proofs.ChangeLemmas.{insert_cases, changed_cases, nothing_stands}
 use Rattle.lake_laws.proofs.LookupLemmas.{of_some, some_is, insert_here, changed_keeps}
-use Rattle.lake_laws.proofs.CommitLemmas.{HasSoundCommits, AreThere, IsAddable, IsSoundBranch, branch_sound, sound_branches, sound_commits, sound_with_commit, live_still, live_new}
+use Rattle.lake_laws.proofs.CommitLemmas.{HasSoundCommits, AreThere, IsAddable, IsSoundBranch, branch_sound, sound_branches, sound_commits, sound_with_commit}
+use Rattle.lake_laws.proofs.CommitLemmas.{live_still, live_new}
 
 -- ---- a new head
 
-module _ (cut : Cut) (r : Repository) (id : Digest) (commit : CommitRecordValue) (map : KeyMapValue) (branch : List ℕ) (sound : IsSoundRepository cut r) (live : is_expired r id ≡ false) where
+module _ (cut : Cut) (r : Repository) (id : Digest) (commit : CommitRecordValue) (map : KeyMapValue) (branch : List ℕ) (sound : IsSoundRepository cut r)
+    (live : is_expired r id ≡ false) where
   abbrev with : Repository
   with = with_commit id commit map r
 
@@ -45,7 +47,8 @@ module _ (cut : Cut) (r : Repository) (id : Digest) (commit : CommitRecordValue)
       (changed_keeps r.branches branch (with_head id) r.default_branch sound.default) branch_still
 
 -- an admissible draft, whose parents are commits of the repository, may become the head of a branch
-pub sound_with_draft : (state : State) (r : Repository) (branch : List ℕ) (draft : Draft) → IsSoundRepository state.cut r → AreThere r.commits draft.parents → IsAdmissible state r draft
+pub sound_with_draft : (state : State) (r : Repository) (branch : List ℕ) (draft : Draft) → IsSoundRepository state.cut r → AreThere r.commits draft.parents
+    → IsAdmissible state r draft
     → IsSoundRepository state.cut (with_draft state.cut branch draft r)
 sound_with_draft state r branch draft sound whole admissible =
     let commit : CommitRecordValue = record_of state.cut r.commits draft in
@@ -53,7 +56,8 @@ sound_with_draft state r branch draft sound whole admissible =
     (record { whole = whole; counted = refl; same = admissible.same_record }) refl refl
 
 -- so may what is drafted of the repository and of the branch
-pub sound_draft_on : (state : State) (branch : List ℕ) (draft : Repository → Branch → Draft) (r : Repository) (b : Branch) → get r.branches branch ≡ Some b → IsSoundRepository state.cut r
+pub sound_draft_on : (state : State) (branch : List ℕ) (draft : Repository → Branch → Draft) (r : Repository) (b : Branch) → get r.branches branch ≡ Some b
+    → IsSoundRepository state.cut r
     → AreThere r.commits (draft r b).parents → IsAdmissible state r (draft r b) → IsSoundRepository state.cut (draft_on state.cut branch draft r)
 sound_draft_on state branch draft r b is sound whole admissible =
     subst (λ o. IsSoundRepository state.cut (option_map_or (λ x. with_draft state.cut branch (draft r x) r) o r)) (sym is)
@@ -105,7 +109,8 @@ module _ (cut : Cut) (date : ℕ) (branch : List ℕ) (id : Digest) (commit : Co
   only_branch plain name b is = elim (insert_cases empty branch (clean_branch id) name b is) [
     | inl put ↦ record {
       plain = subst (λ n. is_like_id n ≡ false) (sym put.0) plain;
-      live = subst (λ (x : Branch). HasLiveCommit first x.head) (sym put.1) (live_new cut (bare_repository date branch) id commit map (not_there (Unit {0}) id.0));
+      live =
+          subst (λ (x : Branch). HasLiveCommit first x.head) (sym put.1) (live_new cut (bare_repository date branch) id commit map (not_there (Unit {0}) id.0));
     }
     | inr stood ↦ absurd (nothing_stands name b stood)
   ]
@@ -134,4 +139,5 @@ pub sound_new : (cut : Cut) (date : ℕ) (branch : List ℕ) → is_like_id bran
 sound_new cut date branch plain =
     let commit : CommitRecordValue = record_of cut empty (first_draft date) in
     sound_first cut date branch (commit_id commit) commit empty plain
-    (record { whole = λ q within. absurd (Contains-nothing q within); counted = refl; same = λ old is. absurd (nothing_stands (commit_id commit).0 old is) }) refl refl
+    (record { whole = λ q within. absurd (Contains-nothing q within); counted = refl; same = λ old is. absurd (nothing_stands (commit_id commit).0 old is) })
+    refl refl

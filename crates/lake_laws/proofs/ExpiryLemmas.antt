@@ -20,12 +20,14 @@ use Rattle.lake_laws.proofs.CommitLemmas.{sound_expired}
 -- ---- what is kept
 
 -- the rules keep each head
-head_kept : (graph : Graph) (heads : List (List ℕ × Digest)) (tags : List Digest) (rules : Option RulesValue) (now : ℕ) (id : Digest) → IsHead heads id → IsKeptBy graph heads tags rules now id
+head_kept : (graph : Graph) (heads : List (List ℕ × Digest)) (tags : List Digest) (rules : Option RulesValue) (now : ℕ) (id : Digest) → IsHead heads id
+    → IsKeptBy graph heads tags rules now id
 head_kept graph heads tags None now id head = tt
 head_kept graph heads tags (Some rules) now id head = inl head
 
 -- and each tagged commit
-tag_kept : (graph : Graph) (heads : List (List ℕ × Digest)) (tags : List Digest) (rules : Option RulesValue) (now : ℕ) (id : Digest) → Contains tags id → IsKeptBy graph heads tags rules now id
+tag_kept : (graph : Graph) (heads : List (List ℕ × Digest)) (tags : List Digest) (rules : Option RulesValue) (now : ℕ) (id : Digest) → Contains tags id
+    → IsKeptBy graph heads tags rules now id
 tag_kept graph heads tags None now id tagged = tt
 tag_kept graph heads tags (Some rules) now id tagged = inr (inl tagged)
 
@@ -34,7 +36,8 @@ module _ (r : Repository) (now : ℕ) (id : Digest) (unkept : IsKeptIn r now id 
   unkept_head : (name : List ℕ) (b : Branch) → get r.branches name ≡ Some b → b.head ≡ id → ⊥
   unkept_head name b is same =
       let within = Contains-map (λ (e : List ℕ × Branch). (e.0, e.1.head)) (entries r.branches) (name, b) (get_entries r.branches name b is) in
-      unkept (head_kept r.commits (heads_of r) (tagged_of r) r.notes.retention now id (name, subst (λ (h : Digest). Contains (heads_of r) (name, h)) same within))
+      unkept
+      (head_kept r.commits (heads_of r) (tagged_of r) r.notes.retention now id (name, subst (λ (h : Digest). Contains (heads_of r) (name, h)) same within))
 
   -- and no tag names it
   unkept_tag : (name : List ℕ) (other : Digest) → get r.tags name ≡ Some other → other ≡ id → ⊥
@@ -58,7 +61,8 @@ abbrev pub AreSoundAsNamed : State → State → Type 0
 AreSoundAsNamed state new = (name : List ℕ) (r : Repository) → get new.repositories name ≡ Some r → IsSoundAsNamed state name r
 
 -- so is each after one commit expired that could
-one_expired : (state new : State) (now : ℕ) (one : RepositoryCommit) → AreSoundAsNamed state new → IsExpirable state now one → AreSoundAsNamed state (in_repository one.repo (with_expired one.commit) new)
+one_expired : (state new : State) (now : ℕ) (one : RepositoryCommit) → AreSoundAsNamed state new → IsExpirable state now one
+    → AreSoundAsNamed state (in_repository one.repo (with_expired one.commit) new)
 one_expired state new now one each may name r is = elim (changed_cases one.repo (with_expired one.commit) new.repositories name r is) [
   | inl stood ↦ each name r stood
   | inr changed ↦
@@ -79,7 +83,8 @@ one_expired state new now one each may name r is = elim (changed_cases one.repo 
 ]
 
 -- and after several
-all_expired : (state new : State) (now : ℕ) (commits : List RepositoryCommit) → AreSoundAsNamed state new → ((one : RepositoryCommit) → Contains commits one → IsExpirable state now one)
+all_expired : (state new : State) (now : ℕ) (commits : List RepositoryCommit) → AreSoundAsNamed state new
+    → ((one : RepositoryCommit) → Contains commits one → IsExpirable state now one)
     → AreSoundAsNamed state (after_expire commits new)
 all_expired state new now [] each may = each
 all_expired state new now (one ∷ commits) each may =
@@ -87,8 +92,10 @@ all_expired state new now (one ∷ commits) each may =
     (one_expired state new now one each (may one (Contains-first one commits))) (λ other within. may other (Contains-later one other commits within))
 
 -- each repository is sound after commits expired
-pub sound_after_expire : (state : State) (now : ℕ) (commits : List RepositoryCommit) → ((name : List ℕ) (r : Repository) → get state.repositories name ≡ Some r → IsSoundRepository state.cut r)
-    → MayExpire state now commits → (name : List ℕ) (r : Repository) → get (after_expire commits state).repositories name ≡ Some r → IsSoundRepository state.cut r
+pub sound_after_expire : (state : State) (now : ℕ) (commits : List RepositoryCommit)
+    → ((name : List ℕ) (r : Repository) → get state.repositories name ≡ Some r → IsSoundRepository state.cut r)
+    → MayExpire state now commits → (name : List ℕ) (r : Repository) → get (after_expire commits state).repositories name ≡ Some r
+    → IsSoundRepository state.cut r
 sound_after_expire state now commits sound may name r is =
     (all_expired state state now commits
     (λ name r is. record { sound = sound name r is; old = r; stands = is; branches = refl; tags = refl; commits = refl })

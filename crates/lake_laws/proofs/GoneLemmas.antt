@@ -75,7 +75,8 @@ AreNamed state map = (number : ℕ) → IsInMap map number → IsNamed state num
 named_not_gone : (state : State) (map : KeyMapValue) (path : List ℕ) → IsSound state → AreNamed state map → is_gone state (get map path) ≡ false
 named_not_gone state map path sound named = by (get map path) refl
   where
-    of : (entry : EntryValue) → get map path ≡ Some entry → (o : Option ℕ) → own_number entry.place ≡ o → option_map_or (contains_key state.gone) o false ≡ false
+    of : (entry : EntryValue) → get map path ≡ Some entry → (o : Option ℕ) → own_number entry.place ≡ o
+        → option_map_or (contains_key state.gone) o false ≡ false
     of entry stands None none = refl
     of entry stands (Some number) names =
         false_from_ne_true (contains_key state.gone number)
@@ -95,7 +96,8 @@ map_there r id number = by (get r.maps id.0)
 
 -- ---- what is read
 
-then_parts : {X Y : Type 0} (result : Result X StepFault) (f : X → Result Y StepFault) (y : Y) → (result then f) ≡ Ok y → (x : X) × (result ≡ Ok x) × (f x ≡ Ok y)
+then_parts : {X Y : Type 0} (result : Result X StepFault) (f : X → Result Y StepFault) (y : Y) → (result then f) ≡ Ok y
+    → (x : X) × (result ≡ Ok x) × (f x ≡ Ok y)
 then_parts (Ok x) f y is = (x, refl, is)
 then_parts (Err fault) f y is = absurd cc
 

@@ -42,9 +42,11 @@ module _ (id : Digest) (commit : CommitRecordValue) (map : KeyMapValue) where
       let made = record_of state.cut r.commits draft in
       let new = commit_id made in
       let old : ties id.0 new.0 ≡ true → commit_of r.commits new ≡ Some commit = λ tie. tied_stands r.commits id.0 new.0 tie ∙ has.0 in (
-        get-insert nat_list_cmp_total r.commits new.0 made id.0 ∙ put_same (ties id.0 new.0) commit made (get r.commits id.0) has.0 (λ tie. may.same_record commit (old tie)),
+        get-insert nat_list_cmp_total r.commits new.0 made id.0
+            ∙ put_same (ties id.0 new.0) commit made (get r.commits id.0) has.0 (λ tie. may.same_record commit (old tie)),
         ap (λ o. unwrap_or o empty) (get-insert nat_list_cmp_total r.maps new.0 draft.objects id.0)
-            ∙ put_same_map (ties id.0 new.0) draft.objects (get r.maps id.0) (λ tie. sym (may.same_map commit (old tie)) ∙ ap (λ o. unwrap_or o empty) (tied_stands r.maps id.0 new.0 tie))
+            ∙ put_same_map (ties id.0 new.0) draft.objects (get r.maps id.0)
+            (λ tie. sym (may.same_map commit (old tie)) ∙ ap (λ o. unwrap_or o empty) (tied_stands r.maps id.0 new.0 tie))
             ∙ has.1,
       )
 
@@ -114,4 +116,5 @@ module _ (tag : List ℕ) (id : Digest) where
   tagged-replay q [] state legal stays has = has
   tagged-replay q (entry ∷ entries) state legal stays has =
       tagged-replay q entries (after state entry) legal.1 stays.1
-      (HasRepository-after state entry q HasTag legal.0 (λ operation kind. tagged_by state entry.by.seat q operation (λ deletes. stays.0 (kind ∙ ap Accepted deletes))) has)
+      (HasRepository-after state entry q HasTag legal.0
+      (λ operation kind. tagged_by state entry.by.seat q operation (λ deletes. stays.0 (kind ∙ ap Accepted deletes))) has)

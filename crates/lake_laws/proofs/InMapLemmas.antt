@@ -23,7 +23,8 @@ use Rattle.lake_laws.proofs.ChangeLemmas.{insert_cases, nothing_stands, stood}
 
 module _ (number : ℕ) where
   -- what changes with one more put is that change's, or was put
-  pub put_inserted : (changes : ChangesValue) (path : List ℕ) (change : Change) → IsPut (insert changes path change) number → (put_number change ≡ Some number) ⊎ IsPut changes number
+  pub put_inserted : (changes : ChangesValue) (path : List ℕ) (change : Change) → IsPut (insert changes path change) number
+      → (put_number change ≡ Some number) ⊎ IsPut changes number
   put_inserted changes path change put =
       elim (insert_cases changes path change put.path put.change put.stands) [
         | inl new ↦ inl (ap put_number (sym new.1) ∙ put.names)
@@ -70,7 +71,8 @@ module _ (number : ℕ) where
         | inr had ↦ inr (record { path = within.path; entry = within.entry; stands = had; names = within.names })
       ]
 
-  of_side : (strategy : Strategy) (source dest : Option EntryValue) (side : Side) (e : EntryValue) → side_value strategy source dest side ≡ Some e → (source ≡ Some e) ⊎ (dest ≡ Some e)
+  of_side : (strategy : Strategy) (source dest : Option EntryValue) (side : Side) (e : EntryValue) → side_value strategy source dest side ≡ Some e
+      → (source ≡ Some e) ⊎ (dest ≡ Some e)
   of_side strategy source dest Source e h = inl h
   of_side strategy source dest Destination e h = inr h
   of_side Refuse source dest Neither e h = inr h
@@ -78,10 +80,12 @@ module _ (number : ℕ) where
   of_side DestWins source dest Neither e h = inr h
 
   -- what a merged map has the source has, or the destination: nothing comes of the base alone
-  pub in_merged : (strategy : Strategy) (base source dest : KeyMapValue) → IsInMap (merged_map strategy base source dest) number → IsInMap source number ⊎ IsInMap dest number
+  pub in_merged : (strategy : Strategy) (base source dest : KeyMapValue) → IsInMap (merged_map strategy base source dest) number
+      → IsInMap source number ⊎ IsInMap dest number
   in_merged strategy base source dest within =
       let path = within.path in
-      elim (of_side strategy (get source path) (get dest path) (side_of (get base path) (get source path) (get dest path)) within.entry (sym (get_merged strategy base source dest path) ∙ within.stands)) [
+      elim (of_side strategy (get source path) (get dest path)
+      (side_of (get base path) (get source path) (get dest path)) within.entry (sym (get_merged strategy base source dest path) ∙ within.stands)) [
         | inl here ↦ inl (record { path = path; entry = within.entry; stands = here; names = within.names })
         | inr here ↦ inr (record { path = path; entry = within.entry; stands = here; names = within.names })
       ]

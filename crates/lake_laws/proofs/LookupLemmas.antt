@@ -106,7 +106,8 @@ get_entries {X = X} map name x is = among (entries map) (sym (get-entries map na
     among : (es : List (List ℕ × X)) → find byte_order name es ≡ Some x → Contains es (name, x)
     among [] e = absurd cc
     among (e ∷ es) now =
-        elim (eq_by_cmp byte_order name e.0) as (λ b. eq_by_cmp byte_order name e.0 ≡ b → cond b (Some e.1) (find byte_order name es) ≡ Some x → Contains (e ∷ es) (name, x)) [
+        elim (eq_by_cmp byte_order name e.0) as (λ b. eq_by_cmp byte_order name e.0 ≡ b → cond b (Some e.1) (find byte_order name es) ≡ Some x
+        → Contains (e ∷ es) (name, x)) [
           | true ↦ λ tie is. subst (Contains (e ∷ es)) (first_one e tie is) (Contains-first e es)
           | false ↦ λ apart is. Contains-later e (name, x) es (among es is)
         ] refl now

@@ -28,7 +28,8 @@ abbrev pub HasLiveHeadsEverywhere : State → Type 0
 HasLiveHeadsEverywhere state = (name : List ℕ) (r : Repository) → get state.repositories name ≡ Some r → HasLiveHeads r
 
 -- what holds of the repository of a name holds of each that stands there
-pub in_same : (state : State) (repo : List ℕ) (P : Repository → Type 0) (r : Repository) → get state.repositories repo ≡ Some r → HasRepository state repo P → P r
+pub in_same : (state : State) (repo : List ℕ) (P : Repository → Type 0) (r : Repository) → get state.repositories repo ≡ Some r
+    → HasRepository state repo P → P r
 in_same state repo P r there has = let same : has.0 ≡ r = cc (has.1, there) in subst P same has.2
 
 module _ (state : State) (number : ℕ) where
@@ -37,13 +38,16 @@ module _ (state : State) (number : ℕ) where
   pub named_by : (name : List ℕ) (r : Repository) → get state.repositories name ≡ Some r → Names r number → IsNamed state number
   named_by name r there names = inl (record { name = name; repository = r; stands = there; names = names })
 
-  pub named_by_branch : (name : List ℕ) (r : Repository) → get state.repositories name ≡ Some r → (branch : List ℕ) (b : Branch) → get r.branches branch ≡ Some b → Puts b number → IsNamed state number
+  pub named_by_branch : (name : List ℕ) (r : Repository) → get state.repositories name ≡ Some r → (branch : List ℕ) (b : Branch)
+      → get r.branches branch ≡ Some b → Puts b number → IsNamed state number
   named_by_branch name r there branch b at puts = named_by name r there (inr (record { name = branch; branch = b; stands = at; names = puts }))
 
-  pub named_by_commit : (name : List ℕ) (r : Repository) → get state.repositories name ≡ Some r → (id : Digest) → HasLiveCommit r id → IsInMap (map_of r id) number → IsNamed state number
+  pub named_by_commit : (name : List ℕ) (r : Repository) → get state.repositories name ≡ Some r → (id : Digest) → HasLiveCommit r id
+      → IsInMap (map_of r id) number → IsNamed state number
   named_by_commit name r there id live within = named_by name r there (inl (record { id = id; live = live; names = within }))
 
-  module _ (heads : HasLiveHeadsEverywhere state) (name : List ℕ) (r : Repository) (there : get state.repositories name ≡ Some r) (branch : List ℕ) (b : Branch) (at : get r.branches branch ≡ Some b) where
+  module _ (heads : HasLiveHeadsEverywhere state) (name : List ℕ) (r : Repository) (there : get state.repositories name ≡ Some r) (branch : List ℕ) (b : Branch)
+      (at : get r.branches branch ≡ Some b) where
     pub named_by_head : IsInMap (head_map r b) number → IsNamed state number
     named_by_head within = named_by_commit name r there b.head (heads name r there branch b at) within
 
@@ -62,7 +66,8 @@ module _ (state : State) (number : ℕ) where
         ]
 
     -- what is merged into a branch comes of the source or of the head
-    pub named_by_merge : (sides : MergeSides) (id : Digest) → HasLiveCommit r id → sides.source ≡ map_of r id → IsInMap (merged_into r b sides) number → IsNamed state number
+    pub named_by_merge : (sides : MergeSides) (id : Digest) → HasLiveCommit r id → sides.source ≡ map_of r id → IsInMap (merged_into r b sides) number
+        → IsNamed state number
     named_by_merge sides id live is within =
         elim (in_merged number sides.strategy sides.base sides.source (head_map r b) within) [
           | inl of_source ↦ named_by_commit name r there id live (subst (λ m. IsInMap m number) is of_source)
@@ -72,7 +77,8 @@ module _ (state : State) (number : ℕ) where
   -- ---- what is named after a part of the state was changed
 
   -- where a repository was changed: it was named, or the change of that repository names it
-  pub named_in_repository : (repo : List ℕ) (change : Repository → Repository) → IsNamed (in_repository repo change state) number → IsNamed state number ⊎ HasRepository state repo (λ r. Names (change r) number)
+  pub named_in_repository : (repo : List ℕ) (change : Repository → Repository) → IsNamed (in_repository repo change state) number
+      → IsNamed state number ⊎ HasRepository state repo (λ r. Names (change r) number)
   named_in_repository repo change (inr ticket) = inl (inr ticket)
   named_in_repository repo change (inl n) =
       elim (changed_cases repo change state.repositories n.name n.repository n.stands) [
@@ -81,7 +87,8 @@ module _ (state : State) (number : ℕ) where
       ]
 
   -- where that change names no more, nothing else is named
-  pub named_fewer : (repo : List ℕ) (change : Repository → Repository) → ((r : Repository) → Names (change r) number → Names r number) → IsNamed (in_repository repo change state) number → IsNamed state number
+  pub named_fewer : (repo : List ℕ) (change : Repository → Repository) → ((r : Repository) → Names (change r) number → Names r number)
+      → IsNamed (in_repository repo change state) number → IsNamed state number
   named_fewer repo change fewer named =
       elim (named_in_repository repo change named) [
         | inl before ↦ before
@@ -89,7 +96,8 @@ module _ (state : State) (number : ℕ) where
       ]
 
   -- where a branch was changed: it was named, or the change of that branch puts it
-  pub named_in_branch : (repo branch : List ℕ) (change : Branch → Branch) → IsNamed (in_branch repo branch change state) number → IsNamed state number ⊎ HasBranch state repo branch (λ r b. Puts (change b) number)
+  pub named_in_branch : (repo branch : List ℕ) (change : Branch → Branch) → IsNamed (in_branch repo branch change state) number
+      → IsNamed state number ⊎ HasBranch state repo branch (λ r b. Puts (change b) number)
   named_in_branch repo branch change named =
       elim (named_in_repository repo (λ r. record r { branches = changed_at branch change r.branches }) named) [
         | inl before ↦ inl before
@@ -100,7 +108,8 @@ module _ (state : State) (number : ℕ) where
       ]
 
   -- where that change puts no more, nothing else is named
-  pub named_branch_fewer : (repo branch : List ℕ) (change : Branch → Branch) → ((b : Branch) → Puts (change b) number → Puts b number) → IsNamed (in_branch repo branch change state) number → IsNamed state number
+  pub named_branch_fewer : (repo branch : List ℕ) (change : Branch → Branch) → ((b : Branch) → Puts (change b) number → Puts b number)
+      → IsNamed (in_branch repo branch change state) number → IsNamed state number
   named_branch_fewer repo branch change fewer named =
       elim (named_in_branch repo branch change named) [
         | inl before ↦ before
@@ -108,7 +117,8 @@ module _ (state : State) (number : ℕ) where
       ]
 
   -- where a change was staged: it was named, or the change puts it
-  pub named_with_staged : (repo branch path : List ℕ) (change : Change) → IsNamed (in_branch repo branch (with_staged path change) state) number → IsNamed state number ⊎ (put_number change ≡ Some number)
+  pub named_with_staged : (repo branch path : List ℕ) (change : Change) → IsNamed (in_branch repo branch (with_staged path change) state) number
+      → IsNamed state number ⊎ (put_number change ≡ Some number)
   named_with_staged repo branch path change named =
       elim (named_in_branch repo branch (with_staged path change) named) [
         | inl before ↦ inl before
@@ -130,7 +140,8 @@ module _ (state : State) (number : ℕ) where
         | inr now ↦ by now.0 now.1 (get now.0.branches branch) refl now.2
       ]
     where
-      by : (r : Repository) → get state.repositories repo ≡ Some r → (o : Option Branch) → get r.branches branch ≡ o → Names (option_map_or (λ b. with_draft state.cut branch (draft r b) r) o r) number
+      by : (r : Repository) → get state.repositories repo ≡ Some r → (o : Option Branch) → get r.branches branch ≡ o
+          → Names (option_map_or (λ b. with_draft state.cut branch (draft r b) r) o r) number
           → IsNamed state number ⊎ HasBranch state repo branch (λ r b. IsInMap (draft r b).objects number)
       by r there None at names = inl (named_by repo r there names)
       by r there (Some b) at names =
@@ -140,11 +151,14 @@ module _ (state : State) (number : ℕ) where
           ]
 
 -- where an own object's entry is copied, the source names its number
-module _ (state : State) (number : ℕ) (heads : HasLiveHeadsEverywhere state) (repo : List ℕ) (r : Repository) (there : get state.repositories repo ≡ Some r) where
-  pub named_by_copied : (from : CopySource) (path : List ℕ) (entry : EntryValue) → option_and_then (λ (map : KeyMapValue). get map path) (copied_map r from) ≡ Some entry → own_number entry.place ≡ Some number → IsNamed state number
+module _ (state : State) (number : ℕ) (heads : HasLiveHeadsEverywhere state) (repo : List ℕ) (r : Repository)
+    (there : get state.repositories repo ≡ Some r) where
+  pub named_by_copied : (from : CopySource) (path : List ℕ) (entry : EntryValue)
+      → option_and_then (λ (map : KeyMapValue). get map path) (copied_map r from) ≡ Some entry → own_number entry.place ≡ Some number → IsNamed state number
   named_by_copied (source.Branch branch) path entry copied own = by (get r.branches branch) refl copied
     where
-      by : (o : Option Branch) → get r.branches branch ≡ o → option_and_then (λ (map : KeyMapValue). get map path) (option_map (now_map r) o) ≡ Some entry → IsNamed state number
+      by : (o : Option Branch) → get r.branches branch ≡ o → option_and_then (λ (map : KeyMapValue). get map path) (option_map (now_map r) o) ≡ Some entry
+          → IsNamed state number
       by None at is = absurd cc
       by (Some b) at is = named_by_now state number heads repo r there branch b at (record { path = path; entry = entry; stands = is; names = own })
   named_by_copied (source.Commit id) path entry copied own = by (is_some (commit_of r.commits id)) (is_expired r id) refl refl copied

@@ -71,7 +71,8 @@ module _ (r : Repository) (number : ℕ) where
   names_without_branch branch names =
       elim (names_with_branches (remove r.branches branch) names) [
         | inl committed ↦ inl committed
-        | inr putting ↦ inr (record { name = putting.0; branch = putting.1; stands = remove_stood r.branches branch putting.0 putting.1 putting.2; names = putting.3 })
+        | inr putting ↦
+            inr (record { name = putting.0; branch = putting.1; stands = remove_stood r.branches branch putting.0 putting.1 putting.2; names = putting.3 })
       ]
 
   -- tags and settings name nothing
@@ -84,7 +85,10 @@ module _ (r : Repository) (number : ℕ) where
   unexpired false was h = h
 
   live_before : (id old : Digest) → HasLiveCommit (with_expired id r) old → HasLiveCommit r old
-  live_before id old live = (live.0, unexpired (eq_by_cmp byte_order old.0 id.0) (get r.expired old.0) (ap is_some (sym (get-insert nat_list_cmp_total r.expired id.0 tt old.0)) ∙ live.1))
+  live_before id old live = (
+    live.0,
+    unexpired (eq_by_cmp byte_order old.0 id.0) (get r.expired old.0) (ap is_some (sym (get-insert nat_list_cmp_total r.expired id.0 tt old.0)) ∙ live.1),
+  )
 
   -- with one more commit expired it names no more
   pub names_expired : (id : Digest) → Names (with_expired id r) number → Names r number
@@ -92,18 +96,21 @@ module _ (r : Repository) (number : ℕ) where
   names_expired id (inr u) = inr (record { name = u.name; branch = u.branch; stands = u.stands; names = u.names })
 
   -- what one more commit names is in its map, or was committed
-  pub committed_with : (id : Digest) (commit : CommitRecordValue) (map : KeyMapValue) → IsCommitted (with_commit id commit map r) number → IsInMap map number ⊎ IsCommitted r number
+  pub committed_with : (id : Digest) (commit : CommitRecordValue) (map : KeyMapValue) → IsCommitted (with_commit id commit map r) number
+      → IsInMap map number ⊎ IsCommitted r number
   committed_with id commit map c =
       by (eq_by_cmp byte_order c.id.0 id.0)
       (ap is_some (sym (get-insert nat_list_cmp_total r.commits id.0 commit c.id.0)) ∙ c.live.0)
       (subst (λ (o : Option KeyMapValue). IsInMap (unwrap_or o empty) number) (get-insert nat_list_cmp_total r.maps id.0 map c.id.0) c.names)
     where
-      by : (b : Bool) → IsSome (cond b (Some commit) (commit_of r.commits c.id)) → IsInMap (unwrap_or (cond b (Some map) (get r.maps c.id.0)) empty) number → IsInMap map number ⊎ IsCommitted r number
+      by : (b : Bool) → IsSome (cond b (Some commit) (commit_of r.commits c.id)) → IsInMap (unwrap_or (cond b (Some map) (get r.maps c.id.0)) empty) number
+          → IsInMap map number ⊎ IsCommitted r number
       by true there names = inl names
       by false there names = inr (record { id = c.id; live = (there, c.live.1); names = names })
 
   -- what it names with a draft as a branch's head is in the draft's map, or it named it
-  pub names_with_draft : (cut : Cut) (branch : List ℕ) (draft : Draft) → Names (with_draft cut branch draft r) number → IsInMap draft.objects number ⊎ Names r number
+  pub names_with_draft : (cut : Cut) (branch : List ℕ) (draft : Draft) → Names (with_draft cut branch draft r) number
+      → IsInMap draft.objects number ⊎ Names r number
   names_with_draft cut branch draft (inl c) =
       let commit = record_of cut r.commits draft in
       elim (committed_with (commit_id commit) commit draft.objects (record { id = c.id; live = c.live; names = c.names })) [
@@ -111,7 +118,8 @@ module _ (r : Repository) (number : ℕ) where
         | inr old ↦ inr (inl old)
       ]
   names_with_draft cut branch draft (inr u) =
-      elim (names_in_branch branch (with_head (commit_id (record_of cut r.commits draft))) (inr (record { name = u.name; branch = u.branch; stands = u.stands; names = u.names }))) [
+      elim (names_in_branch branch (with_head (commit_id (record_of cut r.commits draft)))
+      (inr (record { name = u.name; branch = u.branch; stands = u.stands; names = u.names }))) [
         | inl stood ↦ inr stood
         | inr was ↦ elim was.2 [
           | inl sealed ↦ absurd (put_nothing number sealed)

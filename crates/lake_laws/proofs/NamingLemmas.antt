@@ -13,7 +13,8 @@ use Rattle.lake_model.specs.declared.history.EntryKind.{EntryKind}
 use Rattle.lake_model.specs.declared.history.EntryKind.TheVariants.{Accepted, Faulted}
 use Rattle.lake_model.specs.declared.history.HistoryEntry.{HistoryEntry}
 use Rattle.lake_model.specs.declared.history.Operation.{Operation}
-use Rattle.lake_model.specs.declared.history.Operation.TheVariants.{RepoCreate, BranchCreate, BranchDelete, TagCreate, TagDelete, TicketTake, TicketDrop, Stage, Copy, Reset, Seal, Commit, Merge, Pick, NoteSet, Expire, Condemn}
+use Rattle.lake_model.specs.declared.history.Operation.TheVariants.{RepoCreate, BranchCreate, BranchDelete, TagCreate, TagDelete, TicketTake, TicketDrop, Stage}
+use Rattle.lake_model.specs.declared.history.Operation.TheVariants.{Copy, Reset, Seal, Commit, Merge, Pick, NoteSet, Expire, Condemn}
 use Rattle.lake_model.specs.declared.history.RepositoryCommit.{RepositoryCommit}
 use Rattle.lake_model.specs.State.{Branch, State, HasLiveCommit}
 use Rattle.lake_model.specs.Commits.{after_repository_create, commit_draft, merge_draft, merge_sides, pick_draft, pick_sides}
@@ -23,11 +24,13 @@ use Rattle.lake_model.specs.NoteChanges.{notes_after}
 use Rattle.lake_model.specs.Parts.{in_branch, in_repository}
 use Rattle.lake_model.specs.Removal.{after_expire, with_expired, with_gone}
 use Rattle.lake_model.specs.Soundness.{IsSound, fresh}
-use Rattle.lake_model.specs.Uncommitted.{HasTicket, after_stage, after_ticket_drop, after_ticket_take, put_number, reset_branch, sealed_branch, with_staged, without_ticket}
+use Rattle.lake_model.specs.Uncommitted.{HasTicket, after_stage, after_ticket_drop, after_ticket_take, put_number, reset_branch, sealed_branch, with_staged}
+use Rattle.lake_model.specs.Uncommitted.{without_ticket}
 use Rattle.lake_laws.proofs.ChangeLemmas.{insert_cases, no_number, nothing_stands, number_cases, number_stood}
 use Rattle.lake_laws.proofs.InMapLemmas.{put_nothing, put_over, put_reset}
 use Rattle.lake_laws.proofs.NamesLemmas.{Names, Puts, names_expired, names_with_clean, names_without, names_without_branch, new_names}
-use Rattle.lake_laws.proofs.NamedLemmas.{HasLiveHeadsEverywhere, in_same, named_branch_fewer, named_by, named_by_copied, named_by_merge, named_by_sealed_map, named_fewer, named_with_draft, named_with_staged}
+use Rattle.lake_laws.proofs.NamedLemmas.{HasLiveHeadsEverywhere, in_same, named_branch_fewer, named_by, named_by_copied, named_by_merge, named_by_sealed_map}
+use Rattle.lake_laws.proofs.NamedLemmas.{named_fewer, named_with_draft, named_with_staged}
 
 -- heads of a sound lake are live
 pub live_heads : (state : State) → IsSound state → HasLiveHeadsEverywhere state
@@ -39,7 +42,8 @@ live_heads state sound name r there = (sound.repositories name r there).heads
 abbrev IsTaken : State → State → ℕ → Type 0
 IsTaken state now number = (number ≡ state.next_number) × (now.next_number ≡ state.next_number + 1)
 
-named_repository_create : (state : State) (repo branch : List ℕ) (date number : ℕ) → IsNamed (after_repository_create repo branch date state) number → IsNamed state number
+named_repository_create : (state : State) (repo branch : List ℕ) (date number : ℕ) → IsNamed (after_repository_create repo branch date state) number
+    → IsNamed state number
 named_repository_create state repo branch date number (inr ticket) = inr ticket
 named_repository_create state repo branch date number (inl n) =
     elim (insert_cases state.repositories repo _ n.name n.repository n.stands) [
@@ -47,7 +51,8 @@ named_repository_create state repo branch date number (inl n) =
       | inr stood ↦ named_by state number n.name n.repository stood n.names
     ]
 
-named_ticket_take : (state : State) (seat taken number : ℕ) → taken ≡ state.next_number → IsNamed (after_ticket_take seat taken state) number → IsNamed state number ⊎ IsTaken state (after_ticket_take seat taken state) number
+named_ticket_take : (state : State) (seat taken number : ℕ) → taken ≡ state.next_number → IsNamed (after_ticket_take seat taken state) number
+    → IsNamed state number ⊎ IsTaken state (after_ticket_take seat taken state) number
 named_ticket_take state seat taken number next (inl n) = inl (inl n)
 named_ticket_take state seat taken number next (inr ticket) =
     elim (number_cases state.tickets taken seat number ticket) [
@@ -60,7 +65,8 @@ named_ticket_drop state dropped number (inl n) = inl n
 named_ticket_drop state dropped number (inr ticket) = inr (number_stood state.tickets dropped number ticket)
 
 module _ (state : State) (seat : ℕ) (repo branch path : List ℕ) (change : Change) (number : ℕ) where
-  named_staged_by : (o : Option ℕ) → put_number change ≡ o → IfSome o (HasTicket state seat) → IsNamed (in_branch repo branch (with_staged path change) (without_ticket o state)) number → IsNamed state number
+  named_staged_by : (o : Option ℕ) → put_number change ≡ o → IfSome o (HasTicket state seat)
+      → IsNamed (in_branch repo branch (with_staged path change) (without_ticket o state)) number → IsNamed state number
   named_staged_by None e ticket named =
       elim (named_with_staged state number repo branch path change named) [
         | inl before ↦ before
@@ -90,12 +96,16 @@ named_expire state (one ∷ commits) number named =
     (named_expire (in_repository one.repo (with_expired one.commit) state) commits number named)
 
 -- what is named after an operation was named, or is the number that it gives out
-named_operation : (state : State) (seat : ℕ) (operation : Operation) (number : ℕ) → HasLiveHeadsEverywhere state → IsPossible state seat operation → IsNamed (after_operation seat operation state) number
+named_operation : (state : State) (seat : ℕ) (operation : Operation) (number : ℕ) → HasLiveHeadsEverywhere state → IsPossible state seat operation
+    → IsNamed (after_operation seat operation state) number
     → IsNamed state number ⊎ IsTaken state (after_operation seat operation state) number
 named_operation state seat (RepoCreate repo branch date) number heads may named = inl (named_repository_create state repo branch date number named)
-named_operation state seat (BranchCreate repo branch commit) number heads may named = inl (named_fewer state number repo _ (λ r. names_with_clean r number branch commit) named)
-named_operation state seat (BranchDelete repo branch) number heads may named = inl (named_fewer state number repo _ (λ r. names_without_branch r number branch) named)
-named_operation state seat (TagCreate repo tag commit) number heads may named = inl (named_fewer state number repo _ (λ r. names_without r number (insert r.tags tag commit) r.notes) named)
+named_operation state seat (BranchCreate repo branch commit) number heads may named =
+    inl (named_fewer state number repo _ (λ r. names_with_clean r number branch commit) named)
+named_operation state seat (BranchDelete repo branch) number heads may named =
+    inl (named_fewer state number repo _ (λ r. names_without_branch r number branch) named)
+named_operation state seat (TagCreate repo tag commit) number heads may named =
+    inl (named_fewer state number repo _ (λ r. names_without r number (insert r.tags tag commit) r.notes) named)
 named_operation state seat (TagDelete repo tag) number heads may named = inl (named_fewer state number repo _ (λ r. names_without r number _ r.notes) named)
 named_operation state seat (TicketTake repo branch taken) number heads may named = named_ticket_take state seat taken number may.1 named
 named_operation state seat (TicketDrop dropped) number heads may named = inl (named_ticket_drop state dropped number named)
@@ -105,8 +115,10 @@ named_operation state seat (Copy repo branch path from from_path entry) number h
       | inl before ↦ inl before
       | inr own ↦ inl (named_by_copied state number heads repo may.0 may.1 from from_path entry may.2.2.1 own)
     ]
-named_operation state seat (Reset repo branch what) number heads may named = inl (named_branch_fewer state number repo branch (reset_branch what) (fewer_reset what number) named)
-named_operation state seat (Seal repo branch why) number heads may named = inl (named_branch_fewer state number repo branch sealed_branch (fewer_seal number) named)
+named_operation state seat (Reset repo branch what) number heads may named =
+    inl (named_branch_fewer state number repo branch (reset_branch what) (fewer_reset what number) named)
+named_operation state seat (Seal repo branch why) number heads may named =
+    inl (named_branch_fewer state number repo branch sealed_branch (fewer_seal number) named)
 named_operation state seat (Commit repo branch about) number heads may named =
     elim (named_with_draft state number repo branch (λ r b. commit_draft r b about) named) [
       | inl before ↦ inl before
@@ -126,11 +138,13 @@ named_operation state seat (Pick repo branch base id strategy about) number head
           let live = in_same state repo (λ r. HasLiveCommit r id) new.0 new.1 (may.0, may.1, may.2.2.live) in
           inl (named_by_merge state number heads repo new.0 new.1 branch new.2.0 new.2.1 (pick_sides new.0 base id strategy) id live refl new.2.2)
     ]
-named_operation state seat (NoteSet repo name value) number heads may named = inl (named_fewer state number repo _ (λ r. names_without r number r.tags (notes_after name value r.notes)) named)
+named_operation state seat (NoteSet repo name value) number heads may named =
+    inl (named_fewer state number repo _ (λ r. names_without r number r.tags (notes_after name value r.notes)) named)
 named_operation state seat (Expire now commits) number heads may named = inl (named_expire state commits number named)
 named_operation state seat (Condemn numbers) number heads may named = inl named
 
-named_kind : (state : State) (seat : ℕ) (kind : EntryKind) (number : ℕ) → HasLiveHeadsEverywhere state → IsPossible state seat (operation_of kind) → IsNamed (after_kind seat kind state) number
+named_kind : (state : State) (seat : ℕ) (kind : EntryKind) (number : ℕ) → HasLiveHeadsEverywhere state → IsPossible state seat (operation_of kind)
+    → IsNamed (after_kind seat kind state) number
     → IsNamed state number ⊎ IsTaken state (after_kind seat kind state) number
 named_kind state seat (Accepted operation) number heads may named = named_operation state seat operation number heads may named
 named_kind state seat (Faulted operation) number heads may named = inl named
@@ -158,13 +172,15 @@ pub left_expire : (commits : List RepositoryCommit) (state : State) → AreLeft 
 left_expire [] state = (refl, refl)
 left_expire (one ∷ commits) state = left_expire commits (in_repository one.repo (with_expired one.commit) state)
 
-next_operation : (state : State) (seat : ℕ) (operation : Operation) → IsPossible state seat operation → state.next_number ≤ (after_operation seat operation state).next_number
+next_operation : (state : State) (seat : ℕ) (operation : Operation) → IsPossible state seat operation
+    → state.next_number ≤ (after_operation seat operation state).next_number
 next_operation state seat (TicketTake repo branch number) may = let next : number ≡ state.next_number = may.1 in omega arith
 next_operation state seat (Stage repo branch path change) may = let left = (left_without (put_number change) state).0 in omega arith
 next_operation state seat (Expire now commits) may = let left = (left_expire commits state).0 in omega arith
 next_operation state seat _ may = omega arith
 
-next_kind : (state : State) (seat : ℕ) (kind : EntryKind) → IsPossible state seat (operation_of kind) → state.next_number ≤ (after_kind seat kind state).next_number
+next_kind : (state : State) (seat : ℕ) (kind : EntryKind) → IsPossible state seat (operation_of kind)
+    → state.next_number ≤ (after_kind seat kind state).next_number
 next_kind state seat (Accepted operation) may = next_operation state seat operation may
 next_kind state seat (Faulted operation) may = omega arith
 
@@ -172,7 +188,8 @@ next_kind state seat (Faulted operation) may = omega arith
 pub next_after : (state : State) (entry : HistoryEntry) → Allows state entry → state.next_number ≤ (after state entry).next_number
 next_after state entry may = next_kind state entry.by.seat entry.kind may.possible
 
-gone_with : (numbers : List ℕ) (gone : FinMap nat_cmp (Unit {0})) (number : ℕ) → IsSome (get (with_gone numbers gone) number) → IsSome (get gone number) ⊎ Contains numbers number
+gone_with : (numbers : List ℕ) (gone : FinMap nat_cmp (Unit {0})) (number : ℕ) → IsSome (get (with_gone numbers gone) number)
+    → IsSome (get gone number) ⊎ Contains numbers number
 gone_with [] gone number is = inl is
 gone_with (first ∷ numbers) gone number is =
     elim (gone_with numbers (insert gone first tt) number is) [
@@ -184,24 +201,28 @@ gone_with (first ∷ numbers) gone number is =
     ]
 
 -- a number that is gone after an operation was gone, or is garbage
-gone_operation : (state : State) (seat : ℕ) (operation : Operation) (number : ℕ) → IsPossible state seat operation → IsSome (get (after_operation seat operation state).gone number)
+gone_operation : (state : State) (seat : ℕ) (operation : Operation) (number : ℕ) → IsPossible state seat operation
+    → IsSome (get (after_operation seat operation state).gone number)
     → IsSome (get state.gone number) ⊎ IsGarbage state number
 gone_operation state seat (Condemn numbers) number may gone =
     elim (gone_with numbers state.gone number gone) [
       | inl was ↦ inl was
       | inr listed ↦ inr (may.garbage number listed)
     ]
-gone_operation state seat (Stage repo branch path change) number may gone = inl (subst (λ g. IsSome (get g number)) (left_without (put_number change) state).1 gone)
+gone_operation state seat (Stage repo branch path change) number may gone =
+    inl (subst (λ g. IsSome (get g number)) (left_without (put_number change) state).1 gone)
 gone_operation state seat (Expire now commits) number may gone = inl (subst (λ g. IsSome (get g number)) (left_expire commits state).1 gone)
 gone_operation state seat _ number may gone = inl gone
 
-gone_kind : (state : State) (seat : ℕ) (kind : EntryKind) (number : ℕ) → IsPossible state seat (operation_of kind) → IsSome (get (after_kind seat kind state).gone number)
+gone_kind : (state : State) (seat : ℕ) (kind : EntryKind) (number : ℕ) → IsPossible state seat (operation_of kind)
+    → IsSome (get (after_kind seat kind state).gone number)
     → IsSome (get state.gone number) ⊎ IsGarbage state number
 gone_kind state seat (Accepted operation) number may gone = gone_operation state seat operation number may gone
 gone_kind state seat (Faulted operation) number may gone = inl gone
 
 -- in a sound lake a number that is gone after an entry is garbage before it
-garbage_before : (state : State) (entry : HistoryEntry) (number : ℕ) → IsSound state → Allows state entry → IsSome (get (after state entry).gone number) → IsGarbage state number
+garbage_before : (state : State) (entry : HistoryEntry) (number : ℕ) → IsSound state → Allows state entry → IsSome (get (after state entry).gone number)
+    → IsGarbage state number
 garbage_before state entry number sound may gone =
     elim (gone_kind state entry.by.seat entry.kind number may.possible gone) [
       | inl was ↦ record { given_out = sound.gone number was; unnamed = sound.apart number was }
@@ -211,7 +232,8 @@ garbage_before state entry number sound may gone =
 -- ---- garbage
 
 -- where heads are live, garbage is garbage after an entry
-garbage_with_heads : (state : State) (entry : HistoryEntry) (number : ℕ) → HasLiveHeadsEverywhere state → Allows state entry → IsGarbage state number → IsGarbage (after state entry) number
+garbage_with_heads : (state : State) (entry : HistoryEntry) (number : ℕ) → HasLiveHeadsEverywhere state → Allows state entry → IsGarbage state number
+    → IsGarbage (after state entry) number
 garbage_with_heads state entry number heads may garbage = record {
   given_out = let rises = next_after state entry may in let given_out = garbage.given_out in omega arith;
   unnamed = λ named. elim (named_with_heads state entry number heads may named) [
@@ -221,7 +243,8 @@ garbage_with_heads state entry number heads may garbage = record {
 }
 
 -- and so it is in a sound lake
-pub garbage_after : (state : State) (entry : HistoryEntry) (number : ℕ) → IsSound state → Allows state entry → IsGarbage state number → IsGarbage (after state entry) number
+pub garbage_after : (state : State) (entry : HistoryEntry) (number : ℕ) → IsSound state → Allows state entry → IsGarbage state number
+    → IsGarbage (after state entry) number
 garbage_after state entry number sound = garbage_with_heads state entry number (live_heads state sound)
 
 -- ---- what soundness says of numbers

@@ -11,7 +11,8 @@ use Rattle.lake_model.specs.declared.history.EntryKind.{EntryKind}
 use Rattle.lake_model.specs.declared.history.EntryKind.TheVariants.{Accepted, Faulted}
 use Rattle.lake_model.specs.declared.history.HistoryEntry.{HistoryEntry}
 use Rattle.lake_model.specs.declared.history.Operation.{Operation}
-use Rattle.lake_model.specs.declared.history.Operation.TheVariants.{RepoCreate, BranchCreate, BranchDelete, TagCreate, TagDelete, Stage, Copy, Reset, Seal, Commit, Merge, Pick, NoteSet, Expire}
+use Rattle.lake_model.specs.declared.history.Operation.TheVariants.{RepoCreate, BranchCreate, BranchDelete, TagCreate, TagDelete, Stage, Copy, Reset, Seal}
+use Rattle.lake_model.specs.declared.history.Operation.TheVariants.{Commit, Merge, Pick, NoteSet, Expire}
 use Rattle.lake_model.specs.declared.history.RepositoryCommit.{RepositoryCommit}
 use Rattle.lake_model.specs.State.{Branch, Repository, State, HasRepository}
 use Rattle.lake_model.specs.Parts.{changed_at, in_repository}

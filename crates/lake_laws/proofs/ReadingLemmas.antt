@@ -79,7 +79,8 @@ module _ (state : State) (branch : List ℕ) (r : Repository) (b : Branch) (abou
       → now_map new x ≡ now_map r x
   other_reads x may there =
       let commit = some_value (commit_of r.commits x.head) there in
-      ap (λ map. apply x.staged (apply x.sealed map)) (mapped_with_draft x.head commit.0 (map_of r x.head) state branch r (commit_draft r b about) may (commit.1, refl)).1
+      ap (λ map. apply x.staged (apply x.sealed map))
+      (mapped_with_draft x.head commit.0 (map_of r x.head) state branch r (commit_draft r b about) may (commit.1, refl)).1
 
   -- a branch reads as before, the one with the new head and any other
   branch_reads : (q : List ℕ) (x : Branch) → IsAdmissible state r (commit_draft r b about) → IsSoundRepository state.cut r
@@ -95,7 +96,8 @@ module _ (state : State) (branch : List ℕ) (r : Repository) (b : Branch) (abou
       → get r.branches branch ≡ Some b → now_in q new ≡ now_in q r
   draft_reads q may sound stands =
       ap (option_map (now_map new)) (get_changed_at branch (with_head new_id) r.branches q)
-      ∙ (elim (get r.branches q) as (λ o. get r.branches q ≡ o → option_map (now_map new) (option_map (changed_if (ties q branch) (with_head new_id)) o) ≡ option_map (now_map r) o) [
+      ∙ (elim (get r.branches q) as (λ o. get r.branches q ≡ o
+      → option_map (now_map new) (option_map (changed_if (ties q branch) (with_head new_id)) o) ≡ option_map (now_map r) o) [
         | None ↦ λ is. refl
         | Some x ↦ λ is. ap Some (branch_reads q x may sound stands is (ties q branch) refl)
       ]) refl
@@ -118,4 +120,5 @@ pub now_of-commit : (state : State) (seat : ℕ) (repo branch : List ℕ) (about
     → now_of (after_operation seat (Commit repo branch about) state) r b ≡ now_of state r b
 now_of-commit state seat repo branch about r b sound may =
     ap (option_and_then (now_in b)) (get_after state seat (Commit repo branch about) r)
-    ∙ read_again b (changed_by state.cut (Commit repo branch about) r) (get state.repositories r) (λ x is. commit_reads state repo branch about r b x sound may is)
+    ∙ read_again b (changed_by state.cut (Commit repo branch about) r) (get state.repositories r)
+    (λ x is. commit_reads state repo branch about r b x sound may is)

@@ -86,7 +86,8 @@ same_kind state seat (Accepted operation) stays q =
     let is : get (after_kind seat (Accepted operation) state).repositories q ≡ option_map change stood =
     get_after state seat operation q ∙ ap (λ o. option_or o (option_map change stood)) (none_made state.cut q operation (stays operation refl)) in
     subst (SameRepository stood) (sym is) (same_map change stood (λ r.
-    kept_if (HaveSameReferences r) (touches operation q) (change_of state.cut operation q) r (λ tie. same_by state.cut q operation r (stays operation refl)) (HaveSameReferences-itself r)))
+    kept_if (HaveSameReferences r) (touches operation q) (change_of state.cut operation q) r (λ tie. same_by state.cut q operation r (stays operation refl))
+    (HaveSameReferences-itself r)))
 same_kind state seat (Faulted operation) stays q = SameRepository-itself (get state.repositories q)
 
 abbrev AnyVersions : VersionsGiven → Type 0
@@ -96,7 +97,8 @@ ReferencesTell : Tells AnyVersions (λ given. given.references) SameReferences
 ReferencesTell = record {
   itself = λ state q. SameRepository-itself (get state.repositories q);
   joined =
-      λ first second third one other q. SameRepository-joined (get first.repositories q) (get second.repositories q) (get third.repositories q) (one q) (other q);
+      λ first second third one other q. SameRepository-joined (get first.repositories q) (get second.repositories q) (get third.repositories q) (one q)
+      (other q);
   fit = λ given entry any. tt;
   rises = λ given entry any. references_rise entry.kind given;
   kept = λ state given entry may any level.

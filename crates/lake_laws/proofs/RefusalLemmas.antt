@@ -20,7 +20,8 @@ use Rattle.lake_model.specs.History.{Allows}
 use Rattle.lake_model.specs.NoteChanges.{IsNoteChange, note_at}
 use Rattle.lake_model.specs.Refusals.{cause_if, first_cause}
 use Rattle.lake_model.specs.Resolving.{expression_target, moved_target, name_target}
-use Rattle.lake_model.specs.Steps.{create_branch_causes, create_tag_causes, delete_branch_causes, delete_tag_causes, expired_fault, holds_in, in_it, is_expected, move_fault, seal_causes, set_note_causes, stage_causes, target_in, write_causes}
+use Rattle.lake_model.specs.Steps.{create_branch_causes, create_tag_causes, delete_branch_causes, delete_tag_causes, expired_fault, holds_in, in_it}
+use Rattle.lake_model.specs.Steps.{is_expected, move_fault, seal_causes, set_note_causes, stage_causes, target_in, write_causes}
 use Rattle.lake_model.specs.Uncommitted.{IsSealable}
 use Rattle.lake_model.specs.Versions.{VersionsGiven, branch_version}
 use Rattle.lake_laws.proofs.CauseLemmas.{cause_fails, cause_not, none_holds, not_full, not_stopped}
@@ -32,7 +33,8 @@ name_leads : (r : Repository) (e : RefExprValue) (id : Digest) (o : Option Diges
 name_leads r e id None is = absurd cc
 name_leads r e id (Some at) is = refl
 
-module _ (state : State) (repo : List ℕ) (r : Repository) (is : get state.repositories repo ≡ Some r) (e : RefExprValue) (id : Digest) (leads : target_in r e ≡ Some id) where
+module _ (state : State) (repo : List ℕ) (r : Repository) (is : get state.repositories repo ≡ Some r) (e : RefExprValue) (id : Digest)
+    (leads : target_in r e ≡ Some id) where
   -- so the name is no cause
   pub reference_none : cause_if (holds_in state repo (λ x. is_none (name_target x e.name))) NoRef ≡ None
   reference_none =

@@ -10,7 +10,8 @@ use Rattle.lake_model.specs.declared.history.HistoryEntry.{HistoryEntry}
 use Rattle.lake_model.specs.declared.history.EntryKind.{EntryKind}
 use Rattle.lake_model.specs.declared.history.EntryKind.TheVariants.{Accepted, Faulted}
 use Rattle.lake_model.specs.declared.history.Operation.{Operation}
-use Rattle.lake_model.specs.declared.history.Operation.TheVariants.{RepoCreate, BranchCreate, BranchDelete, TagCreate, TagDelete, Stage, Copy, Reset, Seal, Commit, Merge, Pick, NoteSet, Expire}
+use Rattle.lake_model.specs.declared.history.Operation.TheVariants.{RepoCreate, BranchCreate, BranchDelete, TagCreate, TagDelete, Stage, Copy, Reset, Seal}
+use Rattle.lake_model.specs.declared.history.Operation.TheVariants.{Commit, Merge, Pick, NoteSet, Expire}
 use Rattle.lake_model.specs.declared.history.RepositoryCommit.{RepositoryCommit}
 use Rattle.lake_model.specs.State.{Branch, Repository, State, HasRepository, HasLiveCommit}
 use Rattle.lake_model.specs.Parts.{changed_at, in_repository}
@@ -35,27 +36,32 @@ AreSound cut repositories = (name : List ℕ) (r : Repository) → get repositor
 
 -- a change that keeps the repository of a name sound keeps each so
 repository_changed : (cut : Cut) (repositories : ByteMap Repository) (repo : List ℕ) (change : Repository → Repository) → AreSound cut repositories
-    → ((r : Repository) → get repositories repo ≡ Some r → IsSoundRepository cut r → IsSoundRepository cut (change r)) → AreSound cut (changed_at repo change repositories)
+    → ((r : Repository) → get repositories repo ≡ Some r → IsSoundRepository cut r → IsSoundRepository cut (change r))
+    → AreSound cut (changed_at repo change repositories)
 repository_changed cut repositories repo change sound step name r is = elim (changed_cases repo change repositories name r is) [
   | inl stood ↦ sound name r stood
   | inr new ↦ subst (IsSoundRepository cut) (sym new.3) (step new.0 new.1 (sound repo new.0 new.1))
 ]
 
 -- so does one that does so for a repository with P, where it has P
-changed_with : (state : State) (repo : List ℕ) (P : Repository → Type 0) (change : Repository → Repository) → AreSound state.cut state.repositories → HasRepository state repo P
-    → ((r : Repository) → IsSoundRepository state.cut r → P r → IsSoundRepository state.cut (change r)) → AreSound state.cut (changed_at repo change state.repositories)
+changed_with : (state : State) (repo : List ℕ) (P : Repository → Type 0) (change : Repository → Repository) → AreSound state.cut state.repositories
+    → HasRepository state repo P
+    → ((r : Repository) → IsSoundRepository state.cut r → P r → IsSoundRepository state.cut (change r))
+    → AreSound state.cut (changed_at repo change state.repositories)
 changed_with state repo P change sound has step =
     repository_changed state.cut state.repositories repo change sound
     (λ r is s. step r s (subst P (one_value (get state.repositories repo) has.0 r has.1 is) has.2))
 
 -- so does a change of a branch that leaves the head
-branch_changed : (cut : Cut) (repositories : ByteMap Repository) (repo branch : List ℕ) (change : Branch → Branch) → ((b : Branch) → (change b).head ≡ b.head) → AreSound cut repositories
+branch_changed : (cut : Cut) (repositories : ByteMap Repository) (repo branch : List ℕ) (change : Branch → Branch) → ((b : Branch) → (change b).head ≡ b.head)
+    → AreSound cut repositories
     → AreSound cut (changed_at repo (λ r. record r { branches = changed_at branch change r.branches }) repositories)
 branch_changed cut repositories repo branch change stays sound =
     repository_changed cut repositories repo (λ r. record r { branches = changed_at branch change r.branches }) sound
     (λ r is s. sound_branches cut r s (changed_at branch change r.branches) (changed_keeps r.branches branch change r.default_branch s.default) (each r s))
   where
-    each : (r : Repository) → IsSoundRepository cut r → (name : List ℕ) (b : Branch) → get (changed_at branch change r.branches) name ≡ Some b → IsSoundBranch r name b
+    each : (r : Repository) → IsSoundRepository cut r → (name : List ℕ) (b : Branch) → get (changed_at branch change r.branches) name ≡ Some b
+        → IsSoundBranch r name b
     each r s name b is = elim (changed_cases branch change r.branches name b is) [
       | inl stood ↦ branch_sound cut r s name b stood
       | inr new ↦
@@ -67,7 +73,8 @@ branch_changed cut repositories repo branch change stays sound =
 
 module _ (cut : Cut) (r : Repository) (sound : IsSoundRepository cut r) where
   -- a branch begins
-  branch_created : (branch : List ℕ) (id : Digest) → MayBegin branch id r → IsSoundRepository cut (record r { branches = insert r.branches branch (clean_branch id) })
+  branch_created : (branch : List ℕ) (id : Digest) → MayBegin branch id r
+      → IsSoundRepository cut (record r { branches = insert r.branches branch (clean_branch id) })
   branch_created branch id may =
       sound_branches cut r sound (insert r.branches branch (clean_branch id)) (insert_keeps r.branches branch (clean_branch id) r.default_branch sound.default)
       (λ name b is. elim (insert_cases r.branches branch (clean_branch id) name b is) [
@@ -137,7 +144,8 @@ sound-after_operation state seat (Commit repo branch about) sound may =
     sound_draft_on state branch (λ r b. commit_draft r b about) r w.0 w.1 s (one_there r w.0.head (s.heads branch w.0 w.1).0) w.2.head.admissible)
 sound-after_operation state seat (Merge repo branch source strategy about) sound may =
     changed_with state repo _ _ sound may (λ r s w.
-    sound_draft_on state branch (merge_draft source strategy about) r w.0 w.1 s (both_there r w.0.head source (s.heads branch w.0 w.1).0 w.2.live.0) w.2.head.admissible)
+    sound_draft_on state branch (merge_draft source strategy about) r w.0 w.1 s (both_there r w.0.head source (s.heads branch w.0 w.1).0 w.2.live.0)
+    w.2.head.admissible)
 sound-after_operation state seat (Pick repo branch base source strategy about) sound may =
     changed_with state repo _ _ sound may (λ r s w.
     sound_draft_on state branch (pick_draft base source strategy about) r w.0 w.1 s (one_there r w.0.head (s.heads branch w.0 w.1).0) w.2.head.admissible)
@@ -153,7 +161,8 @@ sound-after_kind state seat (Accepted operation) sound may = sound-after_operati
 sound-after_kind state seat (Faulted operation) sound may = sound
 
 -- each repository after an entry is sound
-pub repositories_after : (state : State) (entry : HistoryEntry) → IsSound state → Allows state entry → (name : List ℕ) (r : Repository) → get (after state entry).repositories name ≡ Some r
+pub repositories_after : (state : State) (entry : HistoryEntry) → IsSound state → Allows state entry → (name : List ℕ) (r : Repository)
+    → get (after state entry).repositories name ≡ Some r
     → IsSoundRepository state.cut r
 repositories_after state entry sound allows = sound-after_kind state entry.by.seat entry.kind sound.repositories allows.possible
 

@@ -31,7 +31,8 @@ module _ (branch : List ℕ) (r : Repository) where
   sealed_there : (name : List ℕ) → is_some (get (with_sealed branch r).branches name) ≡ is_some (get r.branches name)
   sealed_there name = told_again is_some sealed_branch (λ b. refl) branch r.branches name
 
-  sealed_map_at : (map : KeyMapValue) (name : List ℕ) → option_map_or (now_map r) (get (with_sealed branch r).branches name) map ≡ option_map_or (now_map r) (get r.branches name) map
+  sealed_map_at : (map : KeyMapValue) (name : List ℕ)
+      → option_map_or (now_map r) (get (with_sealed branch r).branches name) map ≡ option_map_or (now_map r) (get r.branches name) map
   sealed_map_at map name = told_again (λ found. option_map_or (now_map r) found map) sealed_branch (sealed_reads r) branch r.branches name
 
   -- an expression leads to the same commit and to the same map, and is a plain branch as before
@@ -45,7 +46,8 @@ module _ (branch : List ℕ) (r : Repository) where
   sealed_map_of e = λ i. sealed_target e i then λ id. Ok (if sealed_plain e i then sealed_map_at (map_of r id) e.name i else map_of r id)
 
   pub sealed_point : (state : State) (e : RefExprValue)
-      → (expression_target (with_sealed branch r) e then λ id. Ok (point_of state (with_sealed branch r) e id)) ≡ (expression_target r e then λ id. Ok (point_of state r e id))
+      → (expression_target (with_sealed branch r) e then λ id. Ok (point_of state (with_sealed branch r) e id))
+      ≡ (expression_target r e then λ id. Ok (point_of state r e id))
   sealed_point state e = λ i. sealed_target e i then λ id. Ok (record (point_of state r e id) { plain_branch = sealed_plain e i })
 
   pub sealed_name : (tags : Bool) (name : List ℕ) → name_in (with_sealed branch r) tags name ≡ name_in r tags name
@@ -59,9 +61,13 @@ module _ (branch : List ℕ) (r : Repository) where
 -- ---- the repositories
 module _ (state : State) (seal : SealValue) where
   -- what a repository with a sealed branch answers as before is answered as before
-  pub sealed_reply : {X : Type 0} (repo : List ℕ) (answer : Repository → Result X StepFault) → ((r : Repository) → answer (with_sealed seal.branch r) ≡ answer r)
+  pub sealed_reply : {X : Type 0} (repo : List ℕ) (answer : Repository → Result X StepFault)
+      → ((r : Repository) → answer (with_sealed seal.branch r) ≡ answer r)
       → in_repository_of (sealed_state state seal) repo answer ≡ in_repository_of state repo answer
-  sealed_reply repo answer again = told_again (λ found. option_map_or answer found (Err NoRepo)) (with_sealed seal.branch) again seal.repo state.repositories repo
+  sealed_reply repo answer again =
+      told_again (λ found. option_map_or answer found (Err NoRepo)) (with_sealed seal.branch) again seal.repo state.repositories repo
 
-  pub sealed_repositories : (after : List ℕ) → map repository_info (above after (sealed_state state seal).repositories) ≡ map repository_info (above after state.repositories)
-  sealed_repositories after = told_list_again repository_info (λ key. is_lt (byte_order after key)) (with_sealed seal.branch) (λ q r. refl) seal.repo state.repositories
+  pub sealed_repositories : (after : List ℕ)
+      → map repository_info (above after (sealed_state state seal).repositories) ≡ map repository_info (above after state.repositories)
+  sealed_repositories after =
+      told_list_again repository_info (λ key. is_lt (byte_order after key)) (with_sealed seal.branch) (λ q r. refl) seal.repo state.repositories

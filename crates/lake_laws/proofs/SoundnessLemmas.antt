@@ -32,7 +32,8 @@ IsSound-replay state [] sound legal = sound
 IsSound-replay state (entry ∷ entries) sound legal = IsSound-replay (after state entry) entries (IsSound-after state entry sound legal.0) legal.1
 
 -- garbage stays garbage while legal entries follow
-pub garbage_replay : (state : State) (entries : List HistoryEntry) (number : ℕ) → IsSound state → IsLegal state entries → IsGarbage state number → IsGarbage (replay state entries) number
+pub garbage_replay : (state : State) (entries : List HistoryEntry) (number : ℕ) → IsSound state → IsLegal state entries → IsGarbage state number
+    → IsGarbage (replay state entries) number
 garbage_replay state [] number sound legal garbage = garbage
 garbage_replay state (entry ∷ entries) number sound legal garbage =
     garbage_replay (after state entry) entries number (IsSound-after state entry sound legal.0) legal.1 (garbage_after state entry number sound legal.0 garbage)

@@ -61,7 +61,8 @@ module _ (state : State) (r : Repository) (draft : Draft) (none : IsClashOrNone 
       → is_expired r (commit_id (record_of state.cut r.commits draft)) ≡ false → MayBecomeHead state branch r b draft
   becomes_head branch b prepared live = record { allowed = prepared.allowed; admissible = admissible branch b prepared live }
 
-module _ (state : State) (repo branch : List ℕ) (rule : SwapRule) (r : Repository) (b : Branch) (is : get state.repositories repo ≡ Some r) (has : get r.branches branch ≡ Some b) where
+module _ (state : State) (repo branch : List ℕ) (rule : SwapRule) (r : Repository) (b : Branch) (is : get state.repositories repo ≡ Some r)
+    (has : get r.branches branch ≡ Some b) where
   -- the new commit
   pub new_commit_is : new_commit state repo branch rule ≡ Some (record_of state.cut r.commits (rule.draft r b))
   new_commit_is =

@@ -57,7 +57,8 @@ expired_none state repo branch rule r b is has source may =
     answered state repo
     (λ x. option_or (option_and_then (expired_fault x) rule.source)
     (option_and_then (λ commit. expired_fault x (commit_id commit)) (new_commit state repo branch rule))) r None is
-    (neither _ _ source (ap (option_and_then (λ (commit : CommitRecordValue). expired_fault r (commit_id commit))) (new_commit_is state repo branch rule r b is has)
+    (neither _ _ source
+    (ap (option_and_then (λ (commit : CommitRecordValue). expired_fault r (commit_id commit))) (new_commit_is state repo branch rule r b is has)
     ∙ cause_fails _ (Expired (commit_id (record_of state.cut r.commits (rule.draft r b)))) may.live))
 
 module _ (state : State) (entry : HistoryEntry) (may : Allows state entry) (given : VersionsGiven) (repo branch : List ℕ) where
@@ -86,7 +87,8 @@ module _ (state : State) (entry : HistoryEntry) (may : Allows state entry) (give
       (cause_fails (is_expired at.0 source) (Expired source) at.2.2.live.1) at.2.2.head.admissible) refl
   swap_none (kind.Pick base source strategy) about at =
       none_holds
-      (swap_causes state given repo branch (branch_version given repo branch) (settings_version given repo) (swap_rule (kind.Pick base source strategy) about) None)
+      (swap_causes state given repo branch (branch_version given repo branch) (settings_version given repo)
+      (swap_rule (kind.Pick base source strategy) about) None)
       (not_stopped state entry may) (not_full state entry may)
       (repository_none state repo at.0 at.1) (branch_none state repo branch at.0 at.2.0 at.1 at.2.1) refl refl refl refl refl (cause_not _ _ current) refl
       (expired_none state repo branch (swap_rule (kind.Pick base source strategy) about) at.0 at.2.0 at.1 at.2.1

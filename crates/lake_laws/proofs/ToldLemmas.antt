@@ -11,15 +11,19 @@ use Rattle.lake_values.specs.declared.settings.NoteName.{NoteName}
 use Rattle.lake_format.specs.Spelling.{commit_id}
 use Rattle.commit_graph.specs.Expressions.{RefExprValue}
 use Rattle.lake_model.specs.declared.fault.StepFault.{StepFault}
-use Rattle.lake_model.specs.declared.fault.StepFault.TheVariants.{Stopped, HistoryFull, NoRepo, NoRef, NoParent, NoNote, Exists, DefaultBranch, Protected, Changed, NoPath, Expired, NameClash, StoreFault, NoMemory}
+use Rattle.lake_model.specs.declared.fault.StepFault.TheVariants.{Stopped, HistoryFull, NoRepo, NoRef, NoParent, NoNote, Exists, DefaultBranch, Protected}
+use Rattle.lake_model.specs.declared.fault.StepFault.TheVariants.{Changed, NoPath, Expired, NameClash, StoreFault, NoMemory}
 use Rattle.lake_model.specs.declared.history.SealFor.{SealFor}
 use Rattle.lake_model.specs.declared.history.SealFor.TheVariants as seal
 use Rattle.lake_model.specs.State.{Repository, State, branch_of, is_expired}
 use Rattle.lake_model.specs.Branches.{protected_by}
 use Rattle.lake_model.specs.NoteChanges.{note_at}
 use Rattle.lake_model.specs.Resolving.{expression_target, is_plain_branch, name_target}
-use Rattle.lake_model.specs.Refusals.{Causes, Clash, IsRefusal, first_of, first_cause, cause_if, causes_of_change, clash_fault, protection_of, with_branch, with_current_version}
-use Rattle.lake_model.specs.Steps.{SwapRule, copied_entry, copy_causes, create_branch_causes, create_repository_causes, create_tag_causes, delete_branch_causes, delete_tag_causes, expire_causes, expired_fault, holds_in, in_it, is_current, is_expected, move_fault, new_commit, seal_causes, set_note_causes, source_fault, stage_causes, swap_causes, swap_expired, target_in, write_causes}
+use Rattle.lake_model.specs.Refusals.{Causes, Clash, IsRefusal, first_of, first_cause, cause_if, causes_of_change, clash_fault, protection_of, with_branch}
+use Rattle.lake_model.specs.Refusals.{with_current_version}
+use Rattle.lake_model.specs.Steps.{SwapRule, copied_entry, copy_causes, create_branch_causes, create_repository_causes, create_tag_causes, delete_branch_causes}
+use Rattle.lake_model.specs.Steps.{delete_tag_causes, expire_causes, expired_fault, holds_in, in_it, is_current, is_expected, move_fault, new_commit}
+use Rattle.lake_model.specs.Steps.{seal_causes, set_note_causes, source_fault, stage_causes, swap_causes, swap_expired, target_in, write_causes}
 use Rattle.lake_model.specs.Versions.{VersionsGiven, branch_version, settings_version}
 
 -- a cause, where it holds, is a refusal

@@ -19,14 +19,16 @@ told_where tell x y there again true is = again ∙ sym (ap tell (is refl))
 told_where tell x y there again false is = refl
 
 -- of what stands under a name the same is told as before
-pub told_again : {X Y : Type 0} (tell : Option X → Y) (change : X → X) → ((x : X) → tell (Some (change x)) ≡ tell (Some x)) → (name : List ℕ) (m : ByteMap X) (q : List ℕ)
+pub told_again : {X Y : Type 0} (tell : Option X → Y) (change : X → X) → ((x : X) → tell (Some (change x)) ≡ tell (Some x))
+    → (name : List ℕ) (m : ByteMap X) (q : List ℕ)
     → tell (get (changed_at name change m) q) ≡ tell (get m q)
 told_again {X = X} tell change again name m q =
     elim (get m name) as (λ (o : Option X). get m name ≡ o → tell (get (option_map_or (λ x. insert m name (change x)) o m) q) ≡ tell (get m q)) [
       | None ↦ λ was. refl
       | Some x ↦ λ was.
           ap tell (get-insert nat_list_cmp_total m name (change x) q)
-          ∙ told_where tell x (change x) (get m q) (again x) (eq_by_cmp byte_order q name) (λ tie. sym (get_tied nat_list_cmp_total m q name (tied _ tie)) ∙ was)
+          ∙ told_where tell x (change x) (get m q) (again x) (eq_by_cmp byte_order q name)
+          (λ tie. sym (get_tied nat_list_cmp_total m q name (tied _ tie)) ∙ was)
     ] refl
 
 -- ---- the whole list
@@ -39,13 +41,15 @@ module _ {X Y : Type 0} (tell : List ℕ × X → Y) (test : List ℕ → Bool) 
   abbrev told_with : Bool → List ℕ × X → List (List ℕ × X) → List Y
   told_with passes e es = map tell (cond passes (e ∷ filter (λ f. test f.0) es) (filter (λ f. test f.0) es))
 
-  told_first : (e f : List ℕ × X) (es fs : List (List ℕ × X)) → tell e ≡ tell f → test e.0 ≡ test f.0 → told_list es ≡ told_list fs → told_list (e ∷ es) ≡ told_list (f ∷ fs)
+  told_first : (e f : List ℕ × X) (es fs : List (List ℕ × X)) → tell e ≡ tell f → test e.0 ≡ test f.0 → told_list es ≡ told_list fs
+      → told_list (e ∷ es) ≡ told_list (f ∷ fs)
   told_first e f es fs one keys rest =
       ap (λ passes. told_with passes e es) keys
       ∙ elim (test f.0) as (λ passes. told_with passes e es ≡ told_with passes f fs) [ true ↦ λ i. one i ∷ rest i | false ↦ rest ]
 
   -- a value is put at a key that has one of which the same is told
-  told_put : (k : List ℕ) (x y : X) → ((q : List ℕ) → tell (q, y) ≡ tell (q, x)) → (es : List (List ℕ × X)) → HasAscendingKeys es → find byte_order k es ≡ Some x
+  told_put : (k : List ℕ) (x y : X) → ((q : List ℕ) → tell (q, y) ≡ tell (q, x)) → (es : List (List ℕ × X)) → HasAscendingKeys es
+      → find byte_order k es ≡ Some x
       → told_list (put byte_order k y es) ≡ told_list es
   told_put k x y again [] sorted is = absurd cc
   told_put k x y again (e ∷ es) sorted is =
@@ -60,7 +64,8 @@ module _ {X Y : Type 0} (tell : List ℕ × X → Y) (test : List ℕ → Bool) 
   pub told_list_again : (change : X → X) → ((q : List ℕ) (x : X) → tell (q, change x) ≡ tell (q, x)) → (name : List ℕ) (m : ByteMap X)
       → told_list (entries (changed_at name change m)) ≡ told_list (entries m)
   told_list_again change again name m =
-      elim (get m name) as (λ (o : Option X). get m name ≡ o → told_list (entries (option_map_or (λ x. insert m name (change x)) o m)) ≡ told_list (entries m)) [
+      elim (get m name) as (λ (o : Option X). get m name ≡ o
+      → told_list (entries (option_map_or (λ x. insert m name (change x)) o m)) ≡ told_list (entries m)) [
         | None ↦ λ was. refl
         | Some x ↦ λ was.
             ap told_list (entries-insert nat_list_cmp_total m name (change x))

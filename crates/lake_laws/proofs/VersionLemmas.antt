@@ -9,7 +9,9 @@ use Rattle.lake_model.specs.declared.history.EntryKind.{EntryKind}
 use Rattle.lake_model.specs.declared.history.EntryKind.TheVariants.{Accepted, Faulted}
 use Rattle.lake_model.specs.declared.history.HistoryEntry.{HistoryEntry}
 use Rattle.lake_model.specs.declared.history.Operation.{Operation}
-use Rattle.lake_model.specs.Versions.{VersionsGiven, VersionHolder, Branch, Settings, Nobody, AreBelowNext, branch_version, settings_version, version_holder, with_branch_version, with_version, versions_after_operation, versions_after_kind, versions_after, moves_references, fresh_versions}
+use Rattle.lake_model.specs.Versions.{VersionsGiven, VersionHolder, Branch, Settings, Nobody, AreBelowNext, branch_version, settings_version, version_holder}
+use Rattle.lake_model.specs.Versions.{with_branch_version, with_version, versions_after_operation, versions_after_kind, versions_after, moves_references}
+use Rattle.lake_model.specs.Versions.{fresh_versions}
 use Rattle.lake_laws.proofs.PartsLemmas.{ties, tied_stands}
 
 -- whether a holder is this branch
@@ -44,7 +46,8 @@ branch_version_given : (versions : VersionsGiven) (a b repo branch : List ℕ)
 branch_version_given versions a b repo branch =
     let in_a = get versions.branches a in
     let in_repo = get versions.branches repo in
-    ap (λ o. unwrap_or (option_and_then (λ (map : ByteMap ℕ). get map branch) o) 0) (get-insert nat_list_cmp_total versions.branches a (insert (unwrap_or in_a empty) b versions.next) repo)
+    ap (λ o. unwrap_or (option_and_then (λ (map : ByteMap ℕ). get map branch) o) 0)
+    (get-insert nat_list_cmp_total versions.branches a (insert (unwrap_or in_a empty) b versions.next) repo)
     ∙ ap (λ o. unwrap_or o 0) (inserted_in branch b versions.next in_a in_repo (ties repo a) (tied_stands versions.branches repo a))
     ∙ or_zero (ties repo a && ties branch b) versions.next (option_and_then (λ map. get map branch) in_repo)
 
@@ -60,7 +63,8 @@ pub settings_version_with : (holder : VersionHolder) (versions : VersionsGiven) 
     → settings_version (with_version holder versions) repo ≡ cond (is_settings holder repo) versions.next (settings_version versions repo)
 settings_version_with (Branch a b) versions repo = refl
 settings_version_with (Settings a) versions repo =
-    ap (λ o. unwrap_or o 0) (get-insert nat_list_cmp_total versions.settings a versions.next repo) ∙ or_zero (ties repo a) versions.next (get versions.settings repo)
+    ap (λ o. unwrap_or o 0) (get-insert nat_list_cmp_total versions.settings a versions.next repo)
+    ∙ or_zero (ties repo a) versions.next (get versions.settings repo)
 settings_version_with Nobody versions repo = refl
 
 -- a version that is below the next one, or is it
@@ -108,7 +112,8 @@ no_versions = record { next = 1; branches = empty; settings = empty; references 
 AreBelowNext-none : AreBelowNext no_versions
 AreBelowNext-none = record {
   branches = λ repo branch.
-      let none : branch_version no_versions repo branch ≡ 0 = ap (λ o. unwrap_or (option_and_then (λ (map : ByteMap ℕ). get map branch) o) 0) (get-empty byte_order repo) in
+      let none : branch_version no_versions repo branch ≡ 0 =
+      ap (λ o. unwrap_or (option_and_then (λ (map : ByteMap ℕ). get map branch) o) 0) (get-empty byte_order repo) in
       omega arith;
   settings = λ repo. let none : settings_version no_versions repo ≡ 0 = ap (λ o. unwrap_or o 0) (get-empty byte_order repo) in omega arith;
 }
@@ -137,7 +142,8 @@ given_not false old new next below is level = refl
 pub branch_version_rises : (kind : EntryKind) (given : VersionsGiven) (repo branch : List ℕ) → AreBelowNext given
     → branch_version given repo branch ≤ branch_version (versions_after_kind kind given) repo branch
 branch_version_rises (Accepted operation) given repo branch below =
-    given_rises (is_branch (version_holder operation) repo branch) _ _ given.next (below.branches repo branch) (branch_version_with (version_holder operation) given repo branch)
+    given_rises (is_branch (version_holder operation) repo branch) _ _ given.next (below.branches repo branch)
+    (branch_version_with (version_holder operation) given repo branch)
 branch_version_rises (Faulted operation) given repo branch below = omega arith
 
 -- where it stays, the operation gave it none
@@ -145,7 +151,8 @@ pub is_branch-not : (operation : Operation) (given : VersionsGiven) (repo branch
     → branch_version given repo branch ≡ branch_version (versions_after_operation operation given) repo branch
     → is_branch (version_holder operation) repo branch ≡ false
 is_branch-not operation given repo branch below level =
-    given_not (is_branch (version_holder operation) repo branch) _ _ given.next (below.branches repo branch) (branch_version_with (version_holder operation) given repo branch) level
+    given_not (is_branch (version_holder operation) repo branch) _ _ given.next (below.branches repo branch)
+    (branch_version_with (version_holder operation) given repo branch) level
 
 -- the version of settings never falls
 pub settings_version_rises : (kind : EntryKind) (given : VersionsGiven) (repo : List ℕ) → AreBelowNext given
@@ -159,7 +166,8 @@ pub is_settings-not : (operation : Operation) (given : VersionsGiven) (repo : Li
     → settings_version given repo ≡ settings_version (versions_after_operation operation given) repo
     → is_settings (version_holder operation) repo ≡ false
 is_settings-not operation given repo below level =
-    given_not (is_settings (version_holder operation) repo) _ _ given.next (below.settings repo) (settings_version_with (version_holder operation) given repo) level
+    given_not (is_settings (version_holder operation) repo) _ _ given.next (below.settings repo)
+    (settings_version_with (version_holder operation) given repo) level
 
 moved_rises : (test : Bool) (old : ℕ) → old ≤ cond test (old + 1) old
 moved_rises true old = omega arith

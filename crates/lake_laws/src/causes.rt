@@ -7,7 +7,9 @@ ghost use Rattle.lake_model.specs.declared.fault.StepFault.{StepFault};
 ghost use Rattle.lake_model.specs.declared.history.SealFor.{SealFor};
 ghost use Rattle.lake_model.specs.State.{State};
 ghost use Rattle.lake_model.specs.Refusals.{Clash, IsRefusal, causes_of_change, first_cause};
-ghost use Rattle.lake_model.specs.Steps.{SwapRule, copy_causes, create_branch_causes, create_repository_causes, create_tag_causes, delete_branch_causes, delete_tag_causes, expire_causes, seal_causes, set_note_causes, stage_causes, swap_causes, write_causes};
+ghost use Rattle.lake_model.specs.Steps.{SwapRule, copy_causes, create_branch_causes, create_repository_causes};
+ghost use Rattle.lake_model.specs.Steps.{create_tag_causes, delete_branch_causes, delete_tag_causes, expire_causes};
+ghost use Rattle.lake_model.specs.Steps.{seal_causes, set_note_causes, stage_causes, swap_causes, write_causes};
 ghost use Rattle.lake_model.specs.Versions.{VersionsGiven};
 
 /// The first cause of a step is a refusal.

@@ -13,11 +13,14 @@ ghost use Rattle.lake_laws.specs.Tags.{DeletesNot};
 /// After a legal history a commit has the record and the map that it had before, and a tag that no entry deleted the
 /// commit. In a sound lake two commits have the merge base that they had before.
 pub fn law_of_identity()
-    ensures commits { (state : State) (entries : List HistoryEntry) (repo : List ℕ) (r : Repository) (id : Digest) (commit : CommitRecordValue)
+    ensures commits { (state : State) (entries : List HistoryEntry) (repo : List ℕ) (r : Repository) (id : Digest)
+        (commit : CommitRecordValue)
         → IsLegal state entries → get state.repositories repo ≡ Some r → commit_of r.commits id ≡ Some commit
-        → HasRepository (replay state entries) repo (λ s. (commit_of s.commits id ≡ Some commit) × (map_of s id ≡ map_of r id)) }
+        → HasRepository (replay state entries) repo
+        (λ s. (commit_of s.commits id ≡ Some commit) × (map_of s id ≡ map_of r id)) }
     ensures tags { (state : State) (entries : List HistoryEntry) (repo tag : List ℕ) (r : Repository) (id : Digest)
-        → IsLegal state entries → get state.repositories repo ≡ Some r → get r.tags tag ≡ Some id → DeletesNot repo tag entries
+        → IsLegal state entries → get state.repositories repo ≡ Some r → get r.tags tag ≡ Some id
+        → DeletesNot repo tag entries
         → HasRepository (replay state entries) repo (λ s. get s.tags tag ≡ Some id) }
     ensures bases { (state : State) (entries : List HistoryEntry) (repo : List ℕ) (r : Repository) (a b : Digest)
         → IsSound state → IsLegal state entries → get state.repositories repo ≡ Some r → HasCommit r a → HasCommit r b

@@ -10,13 +10,18 @@ ghost use Rattle.lake_values.specs.declared.settings.NoteName.{NoteName};
 ghost use Rattle.commit_graph.specs.Expressions.{RefExprValue};
 ghost use Rattle.lake_model.specs.declared.history.By.{By};
 ghost use Rattle.lake_model.specs.declared.history.CopySource.{CopySource};
-ghost use Rattle.lake_model.specs.declared.history.Operation.TheVariants.{BranchCreate, BranchDelete, Copy, NoteSet, Reset, Seal, Stage, TagCreate, TagDelete, TicketDrop, TicketTake};
+ghost use Rattle.lake_model.specs.declared.history.Operation.TheVariants.{BranchCreate, BranchDelete, Copy, NoteSet};
+ghost use Rattle.lake_model.specs.declared.history.Operation.TheVariants.{Reset, Seal, Stage, TagCreate, TagDelete};
+ghost use Rattle.lake_model.specs.declared.history.Operation.TheVariants.{TicketDrop, TicketTake};
 ghost use Rattle.lake_model.specs.declared.history.SealFor.{SealFor};
 ghost use Rattle.lake_model.specs.declared.reply.SwapKind.{SwapKind};
 ghost use Rattle.lake_model.specs.State.{State};
 ghost use Rattle.lake_model.specs.History.{Allows, accepted_entry};
 ghost use Rattle.lake_model.specs.Refusals.{causes_of_change, first_cause};
-ghost use Rattle.lake_model.specs.Steps.{IsSwapClash, copy_causes, copy_source, create_branch_causes, create_tag_causes, delete_branch_causes, delete_tag_causes, in_it, is_expected, seal_causes, set_note_causes, stage_causes, swap_causes, swap_operation, swap_rule, target_in, write_causes};
+ghost use Rattle.lake_model.specs.Steps.{IsSwapClash, copy_causes, copy_source, create_branch_causes};
+ghost use Rattle.lake_model.specs.Steps.{create_tag_causes, delete_branch_causes, delete_tag_causes, in_it};
+ghost use Rattle.lake_model.specs.Steps.{is_expected, seal_causes, set_note_causes, stage_causes, swap_causes};
+ghost use Rattle.lake_model.specs.Steps.{swap_operation, swap_rule, target_in, write_causes};
 ghost use Rattle.lake_model.specs.Versions.{VersionsGiven, branch_version, settings_version};
 
 /// An entry that may come next has no cause against it: of tickets, and of what is written to a branch by its version

@@ -10,6 +10,8 @@ ghost use Rattle.lake_model.specs.Soundness.{IsSound, fresh};
 pub fn law_of_soundness()
     ensures fresh { (cut : Cut) → IsSound (fresh cut) }
     ensures empty { (cut : Cut) → (fresh cut).entries ≡ 0 }
-    ensures after { (state : State) (entry : HistoryEntry) → IsSound state → Allows state entry → IsSound (after state entry) }
-    ensures replay { (state : State) (entries : List HistoryEntry) → IsSound state → IsLegal state entries → IsSound (replay state entries) }
+    ensures after { (state : State) (entry : HistoryEntry) → IsSound state → Allows state entry
+        → IsSound (after state entry) }
+    ensures replay { (state : State) (entries : List HistoryEntry) → IsSound state → IsLegal state entries
+        → IsSound (replay state entries) }
 {}

@@ -4,12 +4,14 @@ ghost use Rattle.lake_base.specs.Names.{is_like_id};
 ghost use Rattle.lake_base.specs.declared.digest.Digest.{Digest};
 ghost use Rattle.commit_graph.specs.Expressions.{RefExprValue};
 ghost use Rattle.lake_model.specs.declared.history.By.{By};
-ghost use Rattle.lake_model.specs.declared.history.Operation.TheVariants.{BranchCreate, BranchDelete, TagCreate, TagDelete};
+ghost use Rattle.lake_model.specs.declared.history.Operation.TheVariants.{BranchCreate, BranchDelete, TagCreate};
+ghost use Rattle.lake_model.specs.declared.history.Operation.TheVariants.{TagDelete};
 ghost use Rattle.lake_model.specs.State.{State};
 ghost use Rattle.lake_model.specs.History.{Allows, accepted_entry};
 ghost use Rattle.lake_model.specs.Soundness.{IsSound};
 ghost use Rattle.lake_model.specs.Refusals.{first_cause};
-ghost use Rattle.lake_model.specs.Steps.{create_branch_causes, create_tag_causes, delete_branch_causes, delete_tag_causes, in_it, target_in};
+ghost use Rattle.lake_model.specs.Steps.{create_branch_causes, create_tag_causes, delete_branch_causes};
+ghost use Rattle.lake_model.specs.Steps.{delete_tag_causes, in_it, target_in};
 
 /// Where no cause holds: in a sound lake a branch and a tag may be made, under a name that is like no id, at the
 /// commit of an expression; and a branch and a tag may go.

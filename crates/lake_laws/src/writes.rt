@@ -13,7 +13,8 @@ ghost use Rattle.lake_model.specs.Uncommitted.{HasTicket, put_number};
 ghost use Rattle.lake_model.specs.History.{Allows, accepted_entry};
 ghost use Rattle.lake_model.specs.Soundness.{IsSound};
 ghost use Rattle.lake_model.specs.Refusals.{first_cause};
-ghost use Rattle.lake_model.specs.Steps.{copied_entry, copy_causes, copy_source, in_it, seal_causes, stage_causes, write_causes};
+ghost use Rattle.lake_model.specs.Steps.{copied_entry, copy_causes, copy_source, in_it, seal_causes, stage_causes};
+ghost use Rattle.lake_model.specs.Steps.{write_causes};
 ghost use Rattle.lake_model.specs.Versions.{VersionsGiven};
 
 /// Where no cause holds, a change may be staged whose number, where it puts one, is on a ticket of the seat; in a

@@ -5,10 +5,13 @@ use Rattle.lake_model.specs.declared.history.HistoryEntry.{HistoryEntry}
 use Rattle.lake_model.specs.declared.history.EntryKind.{EntryKind}
 use Rattle.lake_model.specs.declared.history.EntryKind.TheVariants.{Accepted, Faulted}
 use Rattle.lake_model.specs.declared.history.Operation.{Operation}
-use Rattle.lake_model.specs.declared.history.Operation.TheVariants.{RepoCreate, BranchCreate, BranchDelete, TagCreate, TagDelete, TicketTake, TicketDrop, Stage, Copy, Reset, Seal, Commit, Merge, Pick, NoteSet, Expire, Condemn}
+use Rattle.lake_model.specs.declared.history.Operation.TheVariants.{RepoCreate, BranchCreate, BranchDelete, TagCreate, TagDelete, TicketTake, TicketDrop, Stage}
+use Rattle.lake_model.specs.declared.history.Operation.TheVariants.{Copy, Reset, Seal, Commit, Merge, Pick, NoteSet, Expire, Condemn}
 use Rattle.lake_model.specs.State.{State}
-use Rattle.lake_model.specs.Branches.{MayCreateBranch, after_branch_create, MayDeleteBranch, after_branch_delete, MayCreateTag, after_tag_create, MayDeleteTag, after_tag_delete}
-use Rattle.lake_model.specs.Uncommitted.{MayTakeTicket, after_ticket_take, MayDropTicket, after_ticket_drop, MayStage, after_stage, MayCopy, after_copy, MayReset, after_reset, MaySeal, after_seal}
+use Rattle.lake_model.specs.Branches.{MayCreateBranch, after_branch_create, MayDeleteBranch, after_branch_delete, MayCreateTag, after_tag_create, MayDeleteTag}
+use Rattle.lake_model.specs.Branches.{after_tag_delete}
+use Rattle.lake_model.specs.Uncommitted.{MayTakeTicket, after_ticket_take, MayDropTicket, after_ticket_drop, MayStage, after_stage, MayCopy, after_copy}
+use Rattle.lake_model.specs.Uncommitted.{MayReset, after_reset, MaySeal, after_seal}
 use Rattle.lake_model.specs.Commits.{MayCreateRepository, after_repository_create, MayCommit, after_commit, MayMerge, after_merge, MayPick, after_pick}
 use Rattle.lake_model.specs.NoteChanges.{MaySetNote, after_note_set}
 use Rattle.lake_model.specs.Removal.{MayExpire, after_expire, MayCondemn, after_condemn}

@@ -1,5 +1,6 @@
 -- What each reading of the one-thread lake answers.
-use Rattle.std.specs.Prelude.{ℕ, Bool, true, false, List, [], ◌∷◌, length, map, take, nat_lt, Option, Some, None, option_map, option_and_then, is_some, Result, Ok, Err, if◌then◌else◌}
+use Rattle.std.specs.Prelude.{ℕ, Bool, true, false, List, [], ◌∷◌, length, map, take, nat_lt, Option, Some, None, option_map, option_and_then, is_some, Result}
+use Rattle.std.specs.Prelude.{Ok, Err, if◌then◌else◌}
 use Rattle.std.specs.FinMap.{entries, get, contains_key}
 use Rattle.std.specs.List.{filter}
 use Rattle.std.specs.Option.{option_map_or}

@@ -1,5 +1,6 @@
 -- Why a step is refused: each cause by its name, and the one order in which they are asked.
-use Rattle.std.specs.Prelude.{◌≡◌, ◌⊎◌, ℕ, nat_lt, Bool, List, [], ◌∷◌, Option, Some, None, option_and_then, option_map, is_some, not, Result, Ok, Err, IsOk, if◌then◌else◌}
+use Rattle.std.specs.Prelude.{◌≡◌, ◌⊎◌, ℕ, nat_lt, Bool, List, [], ◌∷◌, Option, Some, None, option_and_then, option_map, is_some, not, Result, Ok, Err, IsOk}
+use Rattle.std.specs.Prelude.{if◌then◌else◌}
 use Rattle.std.specs.FinMap.{get, contains_key}
 use Rattle.std.specs.List.{Contains}
 use Rattle.lake_base.specs.declared.digest.Digest.{Digest}

@@ -1,6 +1,7 @@
 -- What each change of the one-thread lake answers: the first cause that holds, in the one order, or the place of its new
 -- entry and what it gives. A lake is taken with its versions.
-use Rattle.std.specs.Prelude.{◌≡◌, ◌+◌, ◌==◌, ◌&&◌, ℕ, Bool, true, false, not, List, Option, Some, None, option_map, option_and_then, is_none, is_some, Result, Ok, Err, if◌then◌else◌}
+use Rattle.std.specs.Prelude.{◌≡◌, ◌+◌, ◌==◌, ◌&&◌, ℕ, Bool, true, false, not, List, Option, Some, None, option_map, option_and_then, is_none, is_some, Result}
+use Rattle.std.specs.Prelude.{Ok, Err, if◌then◌else◌}
 use Rattle.std.specs.FinMap.{contains_key, get}
 use Rattle.std.specs.Option.{option_map_or, option_or}
 use Rattle.std.specs.Result.{result_err, result_ok}
@@ -26,7 +27,8 @@ use Rattle.lake_model.specs.declared.reply.Versions.{Versions}
 use Rattle.lake_model.specs.State.{Branch, Repository, State, branch_of, is_expired}
 use Rattle.lake_model.specs.Commits.{Draft, bare_repository, commit_draft, first_draft, merge_draft, pick_draft, record_of}
 use Rattle.lake_model.specs.NoteChanges.{note_at}
-use Rattle.lake_model.specs.Refusals.{Causes, first_cause, unless_refused, cause_if, causes_of_change, with_repository, with_branch, with_protection, with_current_version, Clash, GivesOrFails, IsClashOrNone, clash_fault}
+use Rattle.lake_model.specs.Refusals.{Causes, first_cause, unless_refused, cause_if, causes_of_change, with_repository, with_branch, with_protection}
+use Rattle.lake_model.specs.Refusals.{with_current_version, Clash, GivesOrFails, IsClashOrNone, clash_fault}
 use Rattle.lake_model.specs.Resolving.{name_target, expression_target, is_plain_branch}
 use Rattle.lake_model.specs.Readings.{expression_map}
 use Rattle.lake_model.specs.Versions.{VersionsGiven, branch_version, settings_version}

@@ -7,7 +7,8 @@ use Rattle.lake_model.specs.declared.history.HistoryEntry.{HistoryEntry}
 use Rattle.lake_model.specs.declared.history.EntryKind.{EntryKind}
 use Rattle.lake_model.specs.declared.history.EntryKind.TheVariants.{Accepted, Faulted}
 use Rattle.lake_model.specs.declared.history.Operation.{Operation}
-use Rattle.lake_model.specs.declared.history.Operation.TheVariants.{RepoCreate, BranchCreate, BranchDelete, TagCreate, TagDelete, Reset, Seal, Commit, Merge, Pick, NoteSet, Expire}
+use Rattle.lake_model.specs.declared.history.Operation.TheVariants.{RepoCreate, BranchCreate, BranchDelete, TagCreate, TagDelete, Reset, Seal, Commit, Merge}
+use Rattle.lake_model.specs.declared.history.Operation.TheVariants.{Pick, NoteSet, Expire}
 
 -- the versions given so far
 pub record VersionsGiven : Type 0 where

@@ -1,4 +1,5 @@
-//! The entries of a history: each accepted change of the lake, as it was made, and the fault of the store that ended it.
+//! The entries of a history: each accepted change of the lake, as it was made, and the fault of the store that ended
+//! it.
 
 use lake_base::{Path, RefName, RepoName, Sequence};
 use lake_values::{About, Change, CommitId, Entry, Note, NoteName, ResetWhat, Strategy};

@@ -1,5 +1,6 @@
 -- From the empty name on, all items are listed where no key is empty.
-use Rattle.std.proofs.Common.{◌≡◌, ℕ, Bool, true, false, cond, Option, Some, None, option_map, List, [], ◌∷◌, ◌++◌, length, map, drop, refl, sym, ap, ◌∙◌, nat_eq, subst}
+use Rattle.std.proofs.Common.{◌≡◌, ℕ, Bool, true, false, cond, Option, Some, None, option_map, List, [], ◌∷◌, ◌++◌, length, map, drop, refl, sym, ap, ◌∙◌}
+use Rattle.std.proofs.Common.{nat_eq, subst}
 use Rattle.std.specs.List.{starts_with, Contains}
 use Rattle.std.specs.Ordering.{is_lt, eq_by_cmp}
 use Rattle.std.specs.declared.cmp.Ordering.TheVariants.{Less}
@@ -38,7 +39,8 @@ behind_some (p ∷ prefix) front some empty = cc
 -- the name of a key's item isn't empty where the key isn't
 name_some : (prefix delimiter key : List ℕ) (entry : EntryValue) → (key ≡ [] → ⊥) → item_name (item_of prefix delimiter key entry) ≡ [] → ⊥
 name_some prefix [] key entry some empty = some empty
-name_some prefix (byte ∷ bytes) key entry some empty = by (front_through (byte ∷ bytes) (drop (length prefix) key)) (front_some byte bytes (drop (length prefix) key)) empty
+name_some prefix (byte ∷ bytes) key entry some empty =
+    by (front_through (byte ∷ bytes) (drop (length prefix) key)) (front_some byte bytes (drop (length prefix) key)) empty
   where
     by : (o : Option (List ℕ)) → ((front : List ℕ) → o ≡ Some front → front ≡ [] → ⊥)
         → item_name (item_from (option_map (λ front. prefix ++ front) o) key entry) ≡ [] → ⊥
@@ -67,10 +69,12 @@ path_some : (key : List ℕ) → path_fault key ≡ None → key ≡ [] → ⊥
 path_some [] path empty = cc
 path_some (x ∷ xs) path empty = cc
 
-pub all_above_empty : (query : PageQuery) (objects : KeyMapValue) → query.after ≡ [] → HasPathKeys (entries objects) → items_above query objects ≡ map (λ i. i.1) (items_of query (entries objects))
+pub all_above_empty : (query : PageQuery) (objects : KeyMapValue) → query.after ≡ [] → HasPathKeys (entries objects)
+    → items_above query objects ≡ map (λ i. i.1) (items_of query (entries objects))
 all_above_empty query objects empty paths =
     ap (λ after. map (λ i. i.1) (items_after after (items_of query (entries objects)))) empty
-    ∙ ap (map (λ i. i.1)) (above_empty (items_of query (entries objects)) (named query.prefix query.delimiter (entries objects)) (λ i has. by i ((listed_is query objects i).0 has)))
+    ∙ ap (map (λ i. i.1))
+    (above_empty (items_of query (entries objects)) (named query.prefix query.delimiter (entries objects)) (λ i has. by i ((listed_is query objects i).0 has)))
   where
     by : (i : Item) → IsItem query objects i → item_name i ≡ [] → ⊥
     by i is e = name_some query.prefix query.delimiter is.key is.entry

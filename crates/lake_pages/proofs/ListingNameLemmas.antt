@@ -1,5 +1,6 @@
 -- The least bytes above a name, and above all that begin with it.
-use Rattle.std.proofs.Common.{◌≡◌, ℕ, ◌+◌, ◌-◌, ◌/◌, ◌%◌, ◌<◌, ◌&&◌, ◌⊎◌, inl, inr, Bool, true, false, cond, not, eqb, ltb, List, [], ◌∷◌, ◌++◌, length, get_or, set, nat_eq, refl, sym, ap, subst, ◌∙◌, eq-eqb, arith}
+use Rattle.std.proofs.Common.{◌≡◌, ℕ, ◌+◌, ◌-◌, ◌/◌, ◌%◌, ◌<◌, ◌&&◌, ◌⊎◌, inl, inr, Bool, true, false, cond, not, eqb, ltb, List, [], ◌∷◌, ◌++◌, length, get_or}
+use Rattle.std.proofs.Common.{set, nat_eq, refl, sym, ap, subst, ◌∙◌, eq-eqb, arith}
 use Rattle.std.specs.List.{starts_with}
 use Rattle.std.specs.Ordering.{nat_cmp, is_gt, is_lt, ordering_then}
 use Rattle.std.specs.declared.cmp.Ordering.TheVariants.{Less, Equal, Greater}
@@ -25,7 +26,8 @@ cmp_less : (x y : ℕ) → x < y → nat_cmp x y ≡ Less
 cmp_less x y lt = ap (λ c. cond c Less (cond (eqb x y) Equal Greater)) (lt-ltb x y lt)
 
 cmp_greater : (x y : ℕ) → y < x → nat_cmp x y ≡ Greater
-cmp_greater x y lt = ap (λ c. cond c Less (cond (eqb x y) Equal Greater)) (le-ltb x y (omega arith)) ∙ ap (λ c. cond c Equal Greater) (ne_eqb x y (λ e. omega arith))
+cmp_greater x y lt =
+    ap (λ c. cond c Less (cond (eqb x y) Equal Greater)) (le-ltb x y (omega arith)) ∙ ap (λ c. cond c Equal Greater) (ne_eqb x y (λ e. omega arith))
 
 apart : (x y : ℕ) → x < y → nat_eq x y ≡ false
 apart x y lt = ne_eqb x y (λ e. omega arith)
@@ -43,7 +45,8 @@ never_below_none (y ∷ k) = refl
 one_more : (x y : ℕ) (k : List ℕ) → x < y → is_lt (ordering_then (nat_cmp y (x + 1)) (byte_order k [])) ≡ false
 one_more x y k lt =
     elim (cases_eq y (x + 1)) [
-      | inl e ↦ ap (λ n. is_lt (ordering_then (nat_cmp n (x + 1)) (byte_order k []))) e ∙ ap (λ o. is_lt (ordering_then o (byte_order k []))) (same_number (x + 1)) ∙ never_below_none k
+      | inl e ↦ ap (λ n. is_lt (ordering_then (nat_cmp n (x + 1)) (byte_order k []))) e
+          ∙ ap (λ o. is_lt (ordering_then o (byte_order k []))) (same_number (x + 1)) ∙ never_below_none k
       | inr ne ↦ ap (λ o. is_lt (ordering_then o (byte_order k []))) (cmp_greater y (x + 1) (omega arith))
     ]
 
@@ -59,7 +62,8 @@ raised_end x [] (y ∷ k) le =
 raised_end x (z ∷ xs) (y ∷ k) le =
     elim (cases_order x y) [
       | inl lt ↦
-          ap (λ o. is_lt (ordering_then o (byte_order k (last_byte_plus_one z xs)))) (cmp_greater y x lt) ∙ sym (ap (λ b. b && starts_with nat_eq k (z ∷ xs)) (apart x y lt))
+          ap (λ o. is_lt (ordering_then o (byte_order k (last_byte_plus_one z xs)))) (cmp_greater y x lt)
+          ∙ sym (ap (λ b. b && starts_with nat_eq k (z ∷ xs)) (apart x y lt))
       | inr (inl e) ↦
           let one : nat_cmp y x ≡ Equal = ap (nat_cmp y) e ∙ same_number y in
           let other : nat_cmp x y ≡ Equal = ap (nat_cmp x) (sym e) ∙ same_number x in
@@ -86,13 +90,16 @@ below_zero (x ∷ name) [] = refl
 below_zero (x ∷ name) (y ∷ k) =
     elim (cases_order x y) [
       | inl lt ↦
-          ap (λ o. is_lt (ordering_then o (byte_order k (name ++ 0 ∷ [])))) (cmp_greater y x lt) ∙ sym (ap (λ o. not (is_lt (ordering_then o (byte_order name k)))) (cmp_less x y lt))
+          ap (λ o. is_lt (ordering_then o (byte_order k (name ++ 0 ∷ [])))) (cmp_greater y x lt)
+          ∙ sym (ap (λ o. not (is_lt (ordering_then o (byte_order name k)))) (cmp_less x y lt))
       | inr (inl e) ↦
           let one : nat_cmp y x ≡ Equal = ap (nat_cmp y) e ∙ same_number y in
           let other : nat_cmp x y ≡ Equal = ap (nat_cmp x) (sym e) ∙ same_number x in
-          ap (λ o. is_lt (ordering_then o (byte_order k (name ++ 0 ∷ [])))) one ∙ below_zero name k ∙ sym (ap (λ o. not (is_lt (ordering_then o (byte_order name k)))) other)
+          ap (λ o. is_lt (ordering_then o (byte_order k (name ++ 0 ∷ [])))) one ∙ below_zero name k
+          ∙ sym (ap (λ o. not (is_lt (ordering_then o (byte_order name k)))) other)
       | inr (inr lt) ↦
-          ap (λ o. is_lt (ordering_then o (byte_order k (name ++ 0 ∷ [])))) (cmp_less y x lt) ∙ sym (ap (λ o. not (is_lt (ordering_then o (byte_order name k)))) (cmp_greater x y lt))
+          ap (λ o. is_lt (ordering_then o (byte_order k (name ++ 0 ∷ [])))) (cmp_less y x lt)
+          ∙ sym (ap (λ o. not (is_lt (ordering_then o (byte_order name k)))) (cmp_greater x y lt))
     ]
 
 -- ---- the last byte of a text
@@ -114,7 +121,8 @@ char_end : (c : ℕ) → HasLowEnd (encode c)
 unfolding encode
 char_end c = by (ltb c 128) (ltb c 2048) (ltb c 65536) refl
   where
-    by : (p q r : Bool) → ltb c 128 ≡ p → HasLowEnd (cond p (c ∷ []) (cond q ((192 + c / 64) ∷ (128 + c % 64) ∷ []) (cond r ((224 + c / 4096) ∷ (128 + (c / 64) % 64) ∷ (128 + c % 64) ∷ []) ((240 + c / 262144) ∷ (128 + (c / 4096) % 64) ∷ (128 + (c / 64) % 64) ∷ (128 + c % 64) ∷ []))))
+    by : (p q r : Bool) → ltb c 128 ≡ p → HasLowEnd (cond p (c ∷ []) (cond q ((192 + c / 64) ∷ (128 + c % 64) ∷ []) (cond r ((224 + c / 4096)
+        ∷ (128 + (c / 64) % 64) ∷ (128 + c % 64) ∷ []) ((240 + c / 262144) ∷ (128 + (c / 4096) % 64) ∷ (128 + (c / 64) % 64) ∷ (128 + c % 64) ∷ []))))
     by true q r e = one_byte c (omega (arith, ltb-true c 128 e))
     by false true r e = longer _ _ (one_byte _ (omega arith))
     by false false true e = longer _ _ (longer _ _ (one_byte _ (omega arith)))
@@ -146,7 +154,8 @@ pub low_end : (bytes : List ℕ) → is_utf8 bytes ≡ true → 0 < length bytes
 low_end bytes utf8 some =
     let h = text_end bytes utf8 some in
     let place : length bytes - 1 ≡ length h.front = omega (arith, ap length h.whole, length-append h.front (h.last ∷ [])) in
-    let is : get_or bytes (length bytes - 1) 0 ≡ h.last = ap (λ i. get_or bytes i 0) place ∙ ap (λ l. get_or l (length h.front) 0) h.whole ∙ at_end h.front h.last in
+    let is : get_or bytes (length bytes - 1) 0 ≡ h.last =
+    ap (λ i. get_or bytes i 0) place ∙ ap (λ l. get_or l (length h.front) 0) h.whole ∙ at_end h.front h.last in
     subst (λ n. n < 255) (sym is) h.low
 
 raised_set : (x : ℕ) (xs : List ℕ) → set (x ∷ xs) (length xs) (get_or (x ∷ xs) (length xs) 0 + 1) ≡ last_byte_plus_one x xs

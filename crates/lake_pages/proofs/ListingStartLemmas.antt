@@ -1,5 +1,6 @@
 -- Where a page starts: no key below has an item above `after`, and each key from there on has one.
-use Rattle.std.proofs.Common.{◌≡◌, ℕ, ◌<◌, Bool, true, false, cond, not, List, [], ◌++◌, ◌∷◌, length, drop, Option, Some, None, nat_eq, refl, sym, ap, subst, ◌∙◌, append_assoc}
+use Rattle.std.proofs.Common.{◌≡◌, ℕ, ◌<◌, Bool, true, false, cond, not, List, [], ◌++◌, ◌∷◌, length, drop, Option, Some, None, nat_eq, refl, sym, ap, subst}
+use Rattle.std.proofs.Common.{◌∙◌, append_assoc}
 use Rattle.std.specs.List.{starts_with}
 use Rattle.std.specs.Ordering.{is_gt, is_lt}
 use Rattle.std.specs.declared.cmp.Ordering.{Ordering}
@@ -11,7 +12,8 @@ use Rattle.lake_base.specs.Maps.{byte_order}
 use Rattle.lake_pages.specs.declared.listing.PageQuery.{PageQuery}
 use Rattle.lake_values.proofs.CursorLemmas.{lt_is}
 use Rattle.lake_pages.proofs.ListingNameLemmas.{below_end, below_zero}
-use Rattle.lake_pages.proofs.ListingPrefixLemmas.{NotAbove, begins_parts, begins_from, not_above, between, Common, common_is, common_of, common_some, name_rest, not_both, and_then, otherwise, lifted, below_not_above, reaches}
+use Rattle.lake_pages.proofs.ListingPrefixLemmas.{NotAbove, begins_parts, begins_from, not_above, between, Common, common_is, common_of, common_some, name_rest}
+use Rattle.lake_pages.proofs.ListingPrefixLemmas.{not_both, and_then, otherwise, lifted, below_not_above, reaches}
 use Rattle.lake_base.proofs.MapsLemmas.{turned}
 
 -- ---- tests of the order
@@ -71,7 +73,8 @@ module _ (prefix delimiter : List ℕ) where
 
 -- what a start promises
 pub record IsStart (query : PageQuery) (start : List ℕ) : Type 0 where
-  pub passed : (key : List ℕ) (entry : EntryValue) → is_lt (byte_order key start) ≡ true → starts_with nat_eq key query.prefix ≡ true → is_lt (byte_order query.after (item_name (item_of query.prefix query.delimiter key entry))) ≡ false
+  pub passed : (key : List ℕ) (entry : EntryValue) → is_lt (byte_order key start) ≡ true → starts_with nat_eq key query.prefix ≡ true
+      → is_lt (byte_order query.after (item_name (item_of query.prefix query.delimiter key entry))) ≡ false
   pub due : (key : List ℕ) (entry : EntryValue) → is_lt (byte_order key start) ≡ false → IsDue query key entry
 
 module _ (query : PageQuery) where
@@ -85,7 +88,8 @@ module _ (query : PageQuery) where
     };
   }
 
-  low_name : (key : List ℕ) (entry : EntryValue) → starts_with nat_eq key query.prefix ≡ true → NotAbove key query.after → is_lt (byte_order query.after (item_name (item_of query.prefix query.delimiter key entry))) ≡ false
+  low_name : (key : List ℕ) (entry : EntryValue) → starts_with nat_eq key query.prefix ≡ true → NotAbove key query.after
+      → is_lt (byte_order query.after (item_name (item_of query.prefix query.delimiter key entry))) ≡ false
   low_name key entry u le = never_less _ query.after (and_then _ key query.after (name_low query.prefix query.delimiter key entry u) le)
 
   -- `after` is above all items
@@ -98,13 +102,15 @@ module _ (query : PageQuery) where
         record {
           from = and_then query.prefix query.after key from ge;
           later = λ u.
-              let r = between query.prefix (drop (length query.prefix) key) query.after from (subst (NotAbove query.after) (begins_parts key query.prefix u) ge) in
+              let r =
+              between query.prefix (drop (length query.prefix) key) query.after from (subst (NotAbove query.after) (begins_parts key query.prefix u) ge) in
               absurd (cc (sym (ap (λ l. starts_with nat_eq l query.prefix) r.1 ∙ begins_from query.prefix r.0) ∙ other));
         };
   }
 
   -- `after` is the name of an object, or would be
-  from_object : starts_with nat_eq query.after query.prefix ≡ true → common_prefix query.prefix query.delimiter query.after ≡ None → IsStart query (query.after ++ 0 ∷ [])
+  from_object : starts_with nat_eq query.after query.prefix ≡ true → common_prefix query.prefix query.delimiter query.after ≡ None
+      → IsStart query (query.after ++ 0 ∷ [])
   from_object begins none = record {
     passed = λ key entry lt u. low_name key entry u (not_less query.after key (turn _ (sym (below_zero query.after key) ∙ lt)));
     due = λ key entry never.
@@ -121,7 +127,8 @@ module _ (query : PageQuery) where
   some_is x y e = cc
 
   -- `after` is at a common prefix, or among the keys that have it
-  module _ (begins : starts_with nat_eq query.after query.prefix ≡ true) (text : List ℕ) (is : common_prefix query.prefix query.delimiter query.after ≡ Some text) where
+  module _ (begins : starts_with nat_eq query.after query.prefix ≡ true) (text : List ℕ)
+      (is : common_prefix query.prefix query.delimiter query.after ≡ Some text) where
     common : Common query.prefix query.delimiter query.after text
     common = common_is query.prefix query.delimiter query.after text begins is
 
@@ -134,7 +141,8 @@ module _ (query : PageQuery) where
     named : (key : List ℕ) (entry : EntryValue) → starts_with nat_eq key text ≡ true → item_name (item_of query.prefix query.delimiter key entry) ≡ text
     named key entry b = ap (λ o. item_name (item_from o key entry)) (common_of query.prefix query.delimiter query.after text key common b).1
 
-    passed : (key : List ℕ) (entry : EntryValue) → is_lt (byte_order key (name_end text)) ≡ true → starts_with nat_eq key query.prefix ≡ true → is_lt (byte_order query.after (item_name (item_of query.prefix query.delimiter key entry))) ≡ false
+    passed : (key : List ℕ) (entry : EntryValue) → is_lt (byte_order key (name_end text)) ≡ true → starts_with nat_eq key query.prefix ≡ true
+        → is_lt (byte_order query.after (item_name (item_of query.prefix query.delimiter key entry))) ≡ false
     passed key entry lt u = by (is_gt (byte_order text key)) refl
       where
         by : (b : Bool) → is_gt (byte_order text key) ≡ b → is_lt (byte_order query.after (item_name (item_of query.prefix query.delimiter key entry))) ≡ false
@@ -155,12 +163,14 @@ module _ (query : PageQuery) where
             later = λ u. lifted query.prefix query.delimiter query.after key entry u lt (λ text' s d after_is.
                 let two : Some text' ≡ Some text = sym (ap (common_prefix query.prefix query.delimiter) after_is ∙ d.again s) ∙ is in
                 let same : text' ≡ text = some_is text' text two in
-                let begins_key : starts_with nat_eq key text ≡ true = ap (λ l. starts_with nat_eq l text) (d.whole ∙ ap (λ l. l ++ d.rest) same) ∙ begins_from text d.rest in
+                let begins_key : starts_with nat_eq key text ≡ true =
+                ap (λ l. starts_with nat_eq l text) (d.whole ∙ ap (λ l. l ++ d.rest) same) ∙ begins_from text d.rest in
                 cc (sym begins_key ∙ other));
           };
     }
 
-  start_by : (b c : Bool) (o : Option (List ℕ)) → starts_with nat_eq query.after query.prefix ≡ b → is_lt (byte_order query.after query.prefix) ≡ c → common_prefix query.prefix query.delimiter query.after ≡ o → IsStart query (cond b (item_end o query.after) (cond c query.prefix query.after))
+  start_by : (b c : Bool) (o : Option (List ℕ)) → starts_with nat_eq query.after query.prefix ≡ b → is_lt (byte_order query.after query.prefix) ≡ c
+      → common_prefix query.prefix query.delimiter query.after ≡ o → IsStart query (cond b (item_end o query.after) (cond c query.prefix query.after))
   start_by false true o begins low is = from_prefix low
   start_by false false o begins low is = from_after begins low
   start_by true c None begins low is = from_object begins is

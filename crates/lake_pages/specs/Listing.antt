@@ -1,5 +1,6 @@
 -- Listings: the items of a key map under a prefix and a delimiter, and their pages.
-use Rattle.std.specs.Prelude.{◌≡◌, true, ℕ, zero, suc, Bool, List, [], ◌∷◌, ◌++◌, length, map, take, drop, filter, Option, Some, None, option_map, nat_eq, nat_lt, if◌then◌else◌}
+use Rattle.std.specs.Prelude.{◌≡◌, true, ℕ, zero, suc, Bool, List, [], ◌∷◌, ◌++◌, length, map, take, drop, filter, Option, Some, None, option_map, nat_eq}
+use Rattle.std.specs.Prelude.{nat_lt, if◌then◌else◌}
 use Rattle.std.specs.List.{starts_with}
 use Rattle.std.specs.Ordering.{is_lt}
 use Rattle.std.specs.FinMap.{empty, insert, get, entries}

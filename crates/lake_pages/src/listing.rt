@@ -7,7 +7,8 @@
 //! A page is a walk over a cursor. The first page of one item of these keys seeks the byte 0, the least bytes above
 //! an empty `after`, takes `a/1`, lists `a/` and seeks `a0`, the least bytes above all that begin with `a/`. There
 //! it takes `b`, so that an item is left. The page after `a/` seeks `a0` at once.
-ghost use Rattle.std.specs.Prelude.{◌≡◌, ◌<◌, ◌≤◌, ◌↔◌, ℕ, true, [], ◌∷◌, length, map, take, Some, None, IfOk, IfSome, MatchOption, option_copied, nat_eq, nat_lt};
+ghost use Rattle.std.specs.Prelude.{◌≡◌, ◌<◌, ◌≤◌, ◌↔◌, ℕ, true, [], ◌∷◌, length, map, take, Some, None, IfOk, IfSome};
+ghost use Rattle.std.specs.Prelude.{MatchOption, option_copied, nat_eq, nat_lt};
 ghost use Rattle.std.specs.List.{starts_with, Contains};
 ghost use Rattle.std.specs.FinMap.{entries};
 ghost use Rattle.std.specs.declared.cmp.Ordering.TheVariants.{Less};
@@ -16,7 +17,8 @@ ghost use Rattle.lake_base.specs.Maps.{IsAscending, byte_order};
 ghost use Rattle.lake_values.specs.KeyMap.{KeyMapValue, HasPathKeys};
 ghost use Rattle.lake_pages.specs.declared.listing.PageQuery.{PageQuery as Query};
 ghost use Rattle.lake_pages.specs.declared.listing.Item.{Item as Line};
-ghost use Rattle.lake_pages.specs.Listing.{front_through, common_prefix, IsItem, item_name, items_of, items_left, items_above, page_items, has_more, pages};
+ghost use Rattle.lake_pages.specs.Listing.{front_through, common_prefix, IsItem, item_name, items_of, items_left};
+ghost use Rattle.lake_pages.specs.Listing.{items_above, page_items, has_more, pages};
 ghost use Rattle.lake_pages.specs.ListingSteps.{page_start, name_end, IsRest, ListsFirst};
 
 use lake_base::copying::TryCopy;
@@ -148,10 +150,12 @@ pub fn law_of_pages()
 pub fn law_of_items()
     ensures listed { (query : Query) (objects : KeyMapValue) (item : Line)
         → Contains (map (λ i. i.1) (items_of query (entries objects))) item ↔ IsItem query objects item }
-    ensures ascending { (query : Query) (objects : KeyMapValue) → IsAscending (map item_name (items_above query objects)) }
+    ensures ascending { (query : Query) (objects : KeyMapValue)
+        → IsAscending (map item_name (items_above query objects)) }
     // Pages give those of them whose name is above `after`.
     ensures above { (query : Query) (objects : KeyMapValue) (item : Line)
-        → Contains (items_above query objects) item ↔ (IsItem query objects item × (byte_order query.after (item_name item) ≡ Less)) }
+        → Contains (items_above query objects) item
+        ↔ (IsItem query objects item × (byte_order query.after (item_name item) ≡ Less)) }
     // Those are all items where `after` is empty and each key is a path, as in each `KeyMap`.
     ensures all { (query : Query) (objects : KeyMapValue) → query.after ≡ [] → HasPathKeys (entries objects)
         → items_above query objects ≡ map (λ i. i.1) (items_of query (entries objects)) }

@@ -73,7 +73,8 @@ module _ (a b c : Option (List ℕ)) (pending text still more : List ℕ) (first
 
 -- all that is pending was written
 pub shows_flushed : (a b c : Option (List ℕ)) (pending text still : List ℕ) → Shows a b pending text still → Wrote b c still → Wrote a c (pending ++ text)
-shows_flushed a b c pending text still first wrote = wrote_as a c (first.out ++ still) (pending ++ text) first.whole (wrote_then a b c first.out still first.wrote wrote)
+shows_flushed a b c pending text still first wrote =
+    wrote_as a c (first.out ++ still) (pending ++ text) first.whole (wrote_then a b c first.out still first.wrote wrote)
 
 -- nothing is pending, so that all was written
 pub shows_all : (a b : Option (List ℕ)) (pending text still : List ℕ) → still ≡ [] → Shows a b pending text still → Wrote a b (pending ++ text)

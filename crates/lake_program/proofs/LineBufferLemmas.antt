@@ -1,5 +1,6 @@
 -- A line that is too long is told by its front.
-use Rattle.std.proofs.Common.{◌≡◌, ◌<◌, ◌≤◌, ◌==◌, ◌&&◌, ◌+◌, ◌-◌, ◌⊎◌, inl, inr, ℕ, zero, suc, Bool, true, false, nat_le, cond, List, [], ◌∷◌, ◌++◌, length, get_or, take, None, refl, sym, ◌∙◌, ap, arith, length-take}
+use Rattle.std.proofs.Common.{◌≡◌, ◌<◌, ◌≤◌, ◌==◌, ◌&&◌, ◌+◌, ◌-◌, ◌⊎◌, inl, inr, ℕ, zero, suc, Bool, true, false, nat_le, cond, List, [], ◌∷◌, ◌++◌, length}
+use Rattle.std.proofs.Common.{get_or, take, None, refl, sym, ◌∙◌, ap, arith, length-take}
 use Rattle.std.proofs.lemmas.Bool.{cases_lt}
 use Rattle.std.proofs.lemmas.Bool.Decides.{nat_tests}
 use Rattle.std.proofs.lemmas.List.{take_all, get_or-take}
@@ -50,7 +51,8 @@ value_ended line =
       | inl short ↦ ap (λ l. line_value (strip_carriage_return l)) (take_all line_room line short)
       | inr long ↦
           let first = get_or line 0 0 in
-          same_value _ _ first (stripped (take line_room line) first (omega (arith, length-take line_room line)) (kept_long line long).begins) (stripped line first (omega arith) refl)
+          same_value _ _ first (stripped (take line_room line) first (omega (arith, length-take line_room line)) (kept_long line long).begins)
+          (stripped line first (omega arith) refl)
     ]
 
 -- and so do they as the last line

@@ -1,5 +1,6 @@
 -- How the lines of some bytes go on with one byte more, and how they end.
-use Rattle.std.proofs.Common.{◌≡◌, ◌<◌, ◌-◌, ◌==◌, ℕ, suc, Bool, true, false, cond, List, [], ◌∷◌, ◌++◌, length, map, take, get_or, refl, sym, ◌∙◌, ap, arith, append_assoc}
+use Rattle.std.proofs.Common.{◌≡◌, ◌<◌, ◌-◌, ◌==◌, ℕ, suc, Bool, true, false, cond, List, [], ◌∷◌, ◌++◌, length, map, take, get_or, refl, sym, ◌∙◌, ap, arith}
+use Rattle.std.proofs.Common.{append_assoc}
 use Rattle.std.proofs.lemmas.Bool.Decides.{nat_tests}
 use Rattle.std.proofs.lemmas.List.{append-nil, map-append}
 use Rattle.std.proofs.lemmas.List.Splits.{length-slice_split}
@@ -58,9 +59,11 @@ parts_in_line : (bytes : List ℕ) (byte : ℕ) → (byte == 10) ≡ false → p
 unfolding onto_last
 parts_in_line [] byte here = ap (λ b. cond b ([] ∷ [] ∷ []) ((byte ∷ []) ∷ [])) here
 parts_in_line (x ∷ bytes) byte here =
-    ap (λ (l : List (List ℕ)). cond (x == 10) ([] ∷ l) (onto_first x l)) (parts_in_line bytes byte here) ∙ onto_last_step (x == 10) byte x (parts bytes) (some_part bytes)
+    ap (λ (l : List (List ℕ)). cond (x == 10) ([] ∷ l) (onto_first x l)) (parts_in_line bytes byte here)
+    ∙ onto_last_step (x == 10) byte x (parts bytes) (some_part bytes)
 
-ended_step : (b : Bool) (x : ℕ) (S : List (List ℕ)) → 0 < length S → cond b ([] ∷ (S ++ [] ∷ [])) (onto_first x (S ++ [] ∷ [])) ≡ cond b ([] ∷ S) (onto_first x S) ++ [] ∷ []
+ended_step : (b : Bool) (x : ℕ) (S : List (List ℕ)) → 0 < length S
+    → cond b ([] ∷ (S ++ [] ∷ [])) (onto_first x (S ++ [] ∷ [])) ≡ cond b ([] ∷ S) (onto_first x S) ++ [] ∷ []
 ended_step b x [] some = absurd (omega arith)
 ended_step true x (s ∷ more) some = refl
 ended_step false x (s ∷ more) some = refl
@@ -108,13 +111,15 @@ ended_in_line bytes byte here =
 
 pub last_in_line : (bytes : List ℕ) (byte : ℕ) → (byte == 10) ≡ false → last_part (bytes ++ byte ∷ []) ≡ last_part bytes ++ byte ∷ []
 last_in_line bytes byte here =
-    final_is (parts (bytes ++ byte ∷ [])) ∙ ap final_part (parts_in_line bytes byte here) ∙ final_of_onto byte (parts bytes) ∙ ap (λ (l : List ℕ). l ++ byte ∷ []) (sym (final_is (parts bytes)))
+    final_is (parts (bytes ++ byte ∷ [])) ∙ ap final_part (parts_in_line bytes byte here) ∙ final_of_onto byte (parts bytes)
+    ∙ ap (λ (l : List ℕ). l ++ byte ∷ []) (sym (final_is (parts bytes)))
 
 -- a line feed ends the line under way
 pub ended_by_feed : (bytes : List ℕ) → ended_lines (bytes ++ 10 ∷ []) ≡ ended_lines bytes ++ strip_carriage_return (last_part bytes) ∷ []
 ended_by_feed bytes =
     ended_is (bytes ++ 10 ∷ []) ∙ ap (λ xs. map strip_carriage_return (front_parts xs)) (parts_ended bytes)
-    ∙ ap (map strip_carriage_return) (front_of_ended (parts bytes) (some_part bytes)) ∙ map-append strip_carriage_return (front_parts (parts bytes)) (final_part (parts bytes) ∷ [])
+    ∙ ap (map strip_carriage_return) (front_of_ended (parts bytes) (some_part bytes))
+    ∙ map-append strip_carriage_return (front_parts (parts bytes)) (final_part (parts bytes) ∷ [])
     ∙ ap (λ (l : List (List ℕ)). l ++ strip_carriage_return (final_part (parts bytes)) ∷ []) (sym (ended_is bytes))
     ∙ ap (λ x. ended_lines bytes ++ strip_carriage_return x ∷ []) (sym (final_is (parts bytes)))
 
@@ -165,8 +170,11 @@ pub ended_of_part : (bytes more : List ℕ) → (rest : List (List ℕ)) × (end
 ended_of_part bytes [] = ([], append-nil (ended_lines bytes) ∙ ap ended_lines (sym (append-nil bytes)))
 ended_of_part bytes (byte ∷ more) =
     let one = one_more byte (byte == 10) refl bytes in
-    let all = ended_of_part (bytes ++ byte ∷ []) more in
-    (one.0 ++ all.0, sym (append_assoc (ended_lines bytes) one.0 all.0) ∙ ap (λ (l : List (List ℕ)). l ++ all.0) one.1 ∙ all.1 ∙ ap ended_lines (append_assoc bytes (byte ∷ []) more))
+    let all = ended_of_part (bytes ++ byte ∷ []) more in (
+      one.0 ++ all.0,
+      sym (append_assoc (ended_lines bytes) one.0 all.0) ∙ ap (λ (l : List (List ℕ)). l ++ all.0) one.1 ∙ all.1
+          ∙ ap ended_lines (append_assoc bytes (byte ∷ []) more),
+    )
 
 -- and of all lines
 pub lines_of_part : (bytes more : List ℕ) → (rest : List (List ℕ)) × (ended_lines bytes ++ rest ≡ lines (bytes ++ more))

@@ -1,12 +1,14 @@
 -- What a graph has: what is said of its commits, generations along ways back, and ancestors as functions tell them.
-use Rattle.std.proofs.Common.{◌≡◌, ℕ, zero, suc, ◌+◌, ◌-◌, ◌<◌, ◌≤◌, ◌↔◌, ◌&&◌, ◌||◌, Bool, true, false, List, [], ◌∷◌, Some, None, Option, refl, sym, ap, subst, ◌∙◌, arith}
+use Rattle.std.proofs.Common.{◌≡◌, ℕ, zero, suc, ◌+◌, ◌-◌, ◌<◌, ◌≤◌, ◌↔◌, ◌&&◌, ◌||◌, Bool, true, false, List, [], ◌∷◌, Some, None, Option, refl, sym, ap}
+use Rattle.std.proofs.Common.{subst, ◌∙◌, arith}
 use Rattle.std.specs.Bool.{IsTrue}
 use Rattle.std.specs.Option.{IsSome, is_some, unwrap_or, option_map}
 use Rattle.std.specs.List.{Contains, list_any}
 use Rattle.std.proofs.lemmas.Slice.Eq.{bytes_eq-Decides}
 use Rattle.lake_base.specs.declared.digest.Digest.{Digest}
 use Rattle.lake_values.specs.Commit.{CommitRecordValue}
-use Rattle.lake_values.specs.Ancestry.{Graph, commit_of, same_id, parents_in, parents, generation, date, due_generation, IsGraph, Reaches, IsReachedWithin, IsAncestor, is_reached, is_ancestor}
+use Rattle.lake_values.specs.Ancestry.{Graph, commit_of, same_id, parents_in, parents, generation, date, due_generation, IsGraph, Reaches, IsReachedWithin}
+use Rattle.lake_values.specs.Ancestry.{IsAncestor, is_reached, is_ancestor}
 use Rattle.lake_values.proofs.OrderLemmas.{Contains-nothing, any_from, any_to}
 
 pub otherwise : (r : Bool) → (r ≡ true → ⊥) → r ≡ false
@@ -57,7 +59,8 @@ pub reached_here : (g : Graph) (steps : ℕ) (old id : Digest) → id.0 ≡ old.
 unfolding Reaches
 reached_here g steps old id e = (0, omega arith, one_id id old e)
 
-pub reached_through : (g : Graph) (steps : ℕ) (old id parent : Digest) → 0 < steps → Contains (parents g id) parent → IsReachedWithin g (steps - 1) old parent → IsReachedWithin g steps old id
+pub reached_through : (g : Graph) (steps : ℕ) (old id parent : Digest) → 0 < steps → Contains (parents g id) parent → IsReachedWithin g (steps - 1) old parent
+    → IsReachedWithin g steps old id
 unfolding Reaches
 reached_through g steps old id parent some has (n, le, r) = (suc n, omega arith, (parent, has, r))
 
@@ -68,7 +71,8 @@ reached_not g old id other (zero, le, r) = other (ap (λ d. d.0) r)
 reached_not g old id other (suc n, le, r) = absurd (omega arith)
 
 -- no parent leads there
-pub reached_never : (g : Graph) (steps : ℕ) (old id : Digest) → (id.0 ≡ old.0 → ⊥) → ((parent : Digest) → Contains (parents g id) parent → IsReachedWithin g (steps - 1) old parent → ⊥) → IsReachedWithin g steps old id → ⊥
+pub reached_never : (g : Graph) (steps : ℕ) (old id : Digest) → (id.0 ≡ old.0 → ⊥)
+    → ((parent : Digest) → Contains (parents g id) parent → IsReachedWithin g (steps - 1) old parent → ⊥) → IsReachedWithin g steps old id → ⊥
 unfolding Reaches
 reached_never g steps old id other none (zero, le, r) = other (ap (λ d. d.0) r)
 reached_never g steps old id other none (suc n, le, (parent, has, r)) = none parent has (n, omega arith, r)
@@ -108,7 +112,8 @@ module _ (g : Graph) (graph : IsGraph g) where
   pub reached_lesser : (n : ℕ) (id old : Digest) → 1 ≤ n → Reaches g n id old → generation g old < generation g id
   reached_lesser n id old some r = let above = steps_above n id old r in omega (arith, above)
 
-  pub ancestor_tested : (old id : Digest) (steps : ℕ) (r : Bool) → IsSome (commit_of g old) → steps ≡ generation g id → IsTrue r ↔ IsReachedWithin g steps old id → IsTrue r ↔ IsAncestor g old id
+  pub ancestor_tested : (old id : Digest) (steps : ℕ) (r : Bool) → IsSome (commit_of g old) → steps ≡ generation g id
+      → IsTrue r ↔ IsReachedWithin g steps old id → IsTrue r ↔ IsAncestor g old id
   ancestor_tested old id steps r there e is = (
     λ t. let w = is.0 t in (there, (w.0, w.2)),
     λ a. let above = steps_above a.1.0 id old a.1.1 in is.1 (a.1.0, omega (arith, e, above), a.1.1),
@@ -176,4 +181,5 @@ module _ (g : Graph) (graph : IsGraph g) where
   unfolding is_ancestor
   ancestor_to old id a =
       let above = steps_above g graph a.1.0 id old a.1.1 in
-      and_of (is_some (commit_of g old)) (is_reached g (generation g id) id old) a.0 (reached_to g (generation g id) id old (a.1.0, omega (arith, above), a.1.1))
+      and_of (is_some (commit_of g old))
+      (is_reached g (generation g id) id old) a.0 (reached_to g (generation g id) id old (a.1.0, omega (arith, above), a.1.1))

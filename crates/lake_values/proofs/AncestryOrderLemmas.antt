@@ -13,10 +13,12 @@ use Rattle.std.proofs.lemmas.List.Kept.{IsStrictlySortedBy-filter}
 use Rattle.std.proofs.lemmas.Cmp.{nat_cmp_total, nat_list_cmp_total, on_total, then_total, back_total, tied_itself}
 use Rattle.lake_values.specs.Commit.{CommitRecordValue}
 use Rattle.lake_base.specs.Maps.{byte_order}
-use Rattle.lake_values.specs.Ancestry.{Graph, commit_of, id_of, id_order, ids, generation, log, log_order, comes_first, IsGraph, IsAncestor, IsCommon, is_ancestor, ancestors_in_order, base, IsBase}
+use Rattle.lake_values.specs.Ancestry.{Graph, commit_of, id_of, id_order, ids, generation, log, log_order, comes_first, IsGraph, IsAncestor, IsCommon}
+use Rattle.lake_values.specs.Ancestry.{is_ancestor, ancestors_in_order, base, IsBase}
 use Rattle.lake_base.specs.declared.digest.Digest.{Digest}
 use Rattle.lake_base.proofs.MapsLemmas.{same_key}
-use Rattle.lake_values.proofs.OrderLemmas.{Contains-map, Contains-from_map, Contains-filter, Contains-from_filter, keys_ascend, there_from_key, key_from_there, find_first, find_none, same_place}
+use Rattle.lake_values.proofs.OrderLemmas.{Contains-map, Contains-from_map, Contains-filter, Contains-from_filter, keys_ascend, there_from_key, key_from_there}
+use Rattle.lake_values.proofs.OrderLemmas.{find_first, find_none, same_place}
 use Rattle.lake_values.proofs.AncestryLemmas.{otherwise, differ, one_id, ancestor_from, ancestor_to}
 
 -- ---- the order of the log
@@ -122,7 +124,8 @@ module _ (g : Graph) where
   unfolding ids
   ids_to id there = Contains-map id_of (keys g) id.0 (key_from_there nat_list_cmp_total bytes_same g id.0 there)
 
-above_ids : (k : List ℕ) (ks : List (List ℕ)) → AllByRecursion (λ y. byte_order k y ≡ Less) ks → AllByRecursion (λ y. id_order (id_of k) y ≡ Less) (map id_of ks)
+above_ids : (k : List ℕ) (ks : List (List ℕ)) → AllByRecursion (λ y. byte_order k y ≡ Less) ks
+    → AllByRecursion (λ y. id_order (id_of k) y ≡ Less) (map id_of ks)
 above_ids k [] all = tt
 above_ids k (x ∷ ks) all = (all.0, above_ids k ks all.1)
 

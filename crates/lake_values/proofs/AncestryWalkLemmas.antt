@@ -1,12 +1,14 @@
 -- The walk of first parents: its next step, its end, and how long it can be.
-use Rattle.std.proofs.Common.{◌≡◌, ℕ, zero, suc, ◌+◌, ◌<◌, ◌≤◌, arith, List, [], ◌∷◌, ◌++◌, Option, Some, None, option_map, Bor, true, false, length, length-append, append-nil, sym, ap, subst, refl, ◌∙◌, inl, inr, add-one, below_more}
+use Rattle.std.proofs.Common.{◌≡◌, ℕ, zero, suc, ◌+◌, ◌<◌, ◌≤◌, arith, List, [], ◌∷◌, ◌++◌, Option, Some, None, option_map, Bor, true, false, length}
+use Rattle.std.proofs.Common.{length-append, append-nil, sym, ap, subst, refl, ◌∙◌, inl, inr, add-one, below_more}
 use Rattle.std.proofs.lemmas.Bool.{cases_lt}
 use Rattle.std.specs.List.{slice_get}
 use Rattle.std.specs.List.{Contains}
 use Rattle.std.specs.Option.{option_and_then, option_copied, option_to_list, IsSome, is_some}
 use Rattle.std.proofs.lemmas.Option.{slice_get_past}
 use Rattle.std.proofs.lemmas.List.Elements.{Contains-append_cases, Contains-append_left, Contains-append_right}
-use Rattle.lake_values.specs.Ancestry.{Graph, commit_of, parents_in, parents, generation, date, due_generation, IsGraph, first_parent, back, IsOnWalk, walk_within, walk}
+use Rattle.lake_values.specs.Ancestry.{Graph, commit_of, parents_in, parents, generation, date, due_generation, IsGraph, first_parent, back, IsOnWalk}
+use Rattle.lake_values.specs.Ancestry.{walk_within, walk}
 use Rattle.lake_values.specs.Commit.{CommitRecordValue}
 use Rattle.lake_values.specs.Retention.{IsFollower}
 use Rattle.lake_base.specs.declared.digest.Digest.{Digest}
@@ -67,7 +69,8 @@ below_due g (id ∷ ids) parent first =
 -- a commit with a first parent is in the graph
 there : (g : Graph) (id parent : Digest) (o : Option CommitRecordValue) → commit_of g id ≡ o → first_parent g id ≡ Some parent → IsSome (commit_of g id)
 unfolding parents
-there g id parent None is first = let none : slice_get (parents_in None) 0 ≡ Some parent = subst (λ (o : Option CommitRecordValue). slice_get (parents_in o) 0 ≡ Some parent) is first in cc
+there g id parent None is first = let none : slice_get (parents_in None) 0 ≡ Some parent =
+    subst (λ (o : Option CommitRecordValue). slice_get (parents_in o) 0 ≡ Some parent) is first in cc
 there g id parent (Some commit) is first = subst (λ (o : Option CommitRecordValue). IsSome o) (sym is) refl
 
 -- a first parent is of a lesser generation
@@ -83,7 +86,8 @@ back_within g zero id at graph stands =
     subst (λ (other : Digest). 0 + generation g other ≤ generation g id) (stands_first (commit_of g id) id at stands) (omega arith)
 back_within g (suc n) id at graph stands = by (back g n id) (λ later is. back_within g n id later graph is) stands
   where
-    by : (o : Option Digest) → ((later : Digest) → o ≡ Some later → n + generation g later ≤ generation g id) → option_and_then (first_parent g) o ≡ Some at → suc n + generation g at ≤ generation g id
+    by : (o : Option Digest) → ((later : Digest) → o ≡ Some later → n + generation g later ≤ generation g id) → option_and_then (first_parent g) o ≡ Some at
+        → suc n + generation g at ≤ generation g id
     by None within ends = cc
     by (Some later) within follows = omega (arith, within later refl, parent_below g later at graph follows)
 
@@ -165,7 +169,8 @@ no_follower_started g head limit id none f =
     cc
 
 -- where the walk ends, it follows no such commit
-pub no_follower_ended : (g : Graph) (n : ℕ) (head at : Digest) (limit : ℕ) (id : Digest) → StandsAt g head at n → ((k : ℕ) → k < n → FollowsAt g head limit id k → ⊥)
+pub no_follower_ended : (g : Graph) (n : ℕ) (head at : Digest) (limit : ℕ) (id : Digest) → StandsAt g head at n
+    → ((k : ℕ) → k < n → FollowsAt g head limit id k → ⊥)
     → None ≡ first_parent g at → IsFollower g head limit id → ⊥
 no_follower_ended g n head at limit id stands before ended f =
     nowhere (FollowsAt g head limit id) n before
@@ -181,7 +186,8 @@ follows_below g n head limit id graph follows =
     omega (arith, within, below)
 
 -- after as many steps as the head's generation, it follows no such commit
-pub no_follower_whole : (g : Graph) (n : ℕ) (head : Digest) (limit : ℕ) (id : Digest) → IsGraph g → generation g head ≤ n → ((k : ℕ) → k < n → FollowsAt g head limit id k → ⊥)
+pub no_follower_whole : (g : Graph) (n : ℕ) (head : Digest) (limit : ℕ) (id : Digest) → IsGraph g → generation g head ≤ n
+    → ((k : ℕ) → k < n → FollowsAt g head limit id k → ⊥)
     → IsFollower g head limit id → ⊥
 no_follower_whole g n head limit id graph whole before f =
     let at = follower_at g head limit id f in
@@ -271,7 +277,8 @@ unfolding back
 walk_long g zero head at stands = refl
 walk_long g (suc n) head at stands = by (back g n head) refl stands (λ later e. walk_long g n head later e)
   where
-    by : (o : Option Digest) → back g n head ≡ o → option_and_then (first_parent g) o ≡ Some at → ((later : Digest) → back g n head ≡ Some later → length (walk_within n g head) ≡ n)
+    by : (o : Option Digest) → back g n head ≡ o → option_and_then (first_parent g) o ≡ Some at
+        → ((later : Digest) → back g n head ≡ Some later → length (walk_within n g head) ≡ n)
         → length (walk_within n g head ++ option_to_list (back g n head)) ≡ suc n
     by None e ends rest = cc
     by (Some later) e follows rest =
@@ -296,7 +303,8 @@ walk_at : (g : Graph) (n k : ℕ) (head : Digest) → k < n → slice_get (walk_
 walk_at g zero k head below = absurd (omega arith)
 walk_at g (suc n) k head below = by (back g n head) refl (λ less. walk_at g n k head less)
   where
-    by : (o : Option Digest) → back g n head ≡ o → (k < n → slice_get (walk_within n g head) k ≡ back g k head) → slice_get (walk_within n g head ++ option_to_list o) k ≡ back g k head
+    by : (o : Option Digest) → back g n head ≡ o → (k < n → slice_get (walk_within n g head) k ≡ back g k head)
+        → slice_get (walk_within n g head ++ option_to_list o) k ≡ back g k head
     by None e rest =
         ap (λ l. slice_get l k) (append-nil (walk_within n g head))
         ∙ elim (cases_lt k n) [

@@ -1,5 +1,6 @@
 -- What a seek leaves of a list whose keys ascend.
-use Rattle.std.proofs.Common.{◌≡◌, ℕ, zero, suc, ◌≤◌, T, Bool, true, false, cond, not, List, [], ◌∷◌, ◌++◌, length, get_or, take, drop, refl, sym, ap, subst, ◌∙◌, arith}
+use Rattle.std.proofs.Common.{◌≡◌, ℕ, zero, suc, ◌≤◌, T, Bool, true, false, cond, not, List, [], ◌∷◌, ◌++◌, length, get_or, take, drop, refl, sym, ap, subst}
+use Rattle.std.proofs.Common.{◌∙◌, arith}
 use Rattle.std.specs.List.{filter, AllByRecursion, AllWithin}
 use Rattle.std.specs.List.Sorted.{IsPartitionedBy}
 use Rattle.std.specs.Ordering.{is_lt}
@@ -22,7 +23,8 @@ lt_is Greater h = absurd cc
 pub part_front : {X : Type 0} (P : X → Type 0) (xs : List X) (i : ℕ) → i ≤ length xs → AllWithin P xs 0 i → AllByRecursion P (take i xs)
 part_front P xs zero le all = tt
 part_front P [] (suc i) le all = absurd (omega arith)
-part_front P (x ∷ xs) (suc i) le all = (all 0 x (omega arith) (omega arith), part_front P xs i (omega arith) (λ k d low high. all (suc k) d (omega arith) (omega arith)))
+part_front P (x ∷ xs) (suc i) le all =
+    (all 0 x (omega arith) (omega arith), part_front P xs i (omega arith) (λ k d low high. all (suc k) d (omega arith) (omega arith)))
 
 pub part_back : {X : Type 0} (P : X → Type 0) (xs : List X) (i : ℕ) → AllWithin P xs i (length xs) → AllByRecursion P (drop i xs)
 part_back P [] zero all = tt
@@ -31,7 +33,8 @@ part_back P (x ∷ xs) zero all = (all 0 x (omega arith) (omega arith), part_bac
 part_back P (x ∷ xs) (suc i) all = part_back P xs i (λ k d low high. all (suc k) d (omega arith) (omega arith))
 
 -- a test that a lesser key passes where a greater one does
-pub partitioned : {X : Type 0} (p : List ℕ → Bool) → ((a b : List ℕ) → byte_order a b ≡ Less → p b ≡ true → p a ≡ true) → (es : List (List ℕ × X)) → HasAscendingKeys es → IsPartitionedBy (λ e. p e.0) es
+pub partitioned : {X : Type 0} (p : List ℕ → Bool) → ((a b : List ℕ) → byte_order a b ≡ Less → p b ≡ true → p a ≡ true) → (es : List (List ℕ × X))
+    → HasAscendingKeys es → IsPartitionedBy (λ e. p e.0) es
 partitioned p down [] h i j d le lt passed = absurd (omega arith)
 partitioned p down (e ∷ es) h zero zero d le lt passed = passed
 partitioned p down (e ∷ es) h zero (suc j) d le lt passed = down e.0 (get_or es j d).0 (below_at e.0 es j d (head_below e es h) (omega arith)) passed
@@ -80,7 +83,8 @@ not_false false h = refl
 
 module _ {X : Type 0} where
   -- the entries from a place on, where those before it are below and the others aren't
-  pub seek_from : (least : List ℕ) (es : List (List ℕ × X)) (at : ℕ) → at ≤ length es → AllWithin (λ e. is_lt (byte_order e.0 least) ≡ true) es 0 at → AllWithin (λ e. is_lt (byte_order e.0 least) ≡ false) es at (length es)
+  pub seek_from : (least : List ℕ) (es : List (List ℕ × X)) (at : ℕ) → at ≤ length es → AllWithin (λ e. is_lt (byte_order e.0 least) ≡ true) es 0 at
+      → AllWithin (λ e. is_lt (byte_order e.0 least) ≡ false) es at (length es)
       → drop at es ≡ entries_from least es
   seek_from least es at le front back =
       let p : List ℕ × X → Bool = λ e. not (is_lt (byte_order e.0 least)) in
@@ -90,7 +94,8 @@ module _ {X : Type 0} where
       ∙ all_kept p (drop at es) (part_back (λ e. p e ≡ true) es at (λ k d low high. not_false _ (back k d low high))))
 
   -- where a key isn't below, none above it is
-  pub none_passed : (least k : List ℕ) (es : List (List ℕ × X)) → is_lt (byte_order k least) ≡ false → T (below_all byte_order k es) → AllByRecursion (λ e. is_lt (byte_order e.0 least) ≡ false) es
+  pub none_passed : (least k : List ℕ) (es : List (List ℕ × X)) → is_lt (byte_order k least) ≡ false → T (below_all byte_order k es)
+      → AllByRecursion (λ e. is_lt (byte_order e.0 least) ≡ false) es
   none_passed least k [] never h = tt
   none_passed least k (e ∷ es) never h = (by _ refl, none_passed least k es never (second _ _ h))
     where
@@ -102,15 +107,19 @@ module _ {X : Type 0} where
       by false low = low
 
   -- and a seek leaves it and those after it
-  pub seek_stays : (least : List ℕ) (e : List ℕ × X) (es : List (List ℕ × X)) → HasAscendingKeys (e ∷ es) → is_lt (byte_order e.0 least) ≡ false → entries_from least (e ∷ es) ≡ e ∷ es
-  seek_stays least e es h never = all_kept (λ f. not (is_lt (byte_order f.0 least))) (e ∷ es) (turn (e ∷ es) (never, none_passed least e.0 es never (head_below e es h)))
+  pub seek_stays : (least : List ℕ) (e : List ℕ × X) (es : List (List ℕ × X)) → HasAscendingKeys (e ∷ es) → is_lt (byte_order e.0 least) ≡ false
+      → entries_from least (e ∷ es) ≡ e ∷ es
+  seek_stays least e es h never =
+      all_kept (λ f. not (is_lt (byte_order f.0 least))) (e ∷ es) (turn (e ∷ es) (never, none_passed least e.0 es never (head_below e es h)))
     where
-      turn : (fs : List (List ℕ × X)) → AllByRecursion (λ f. is_lt (byte_order f.0 least) ≡ false) fs → AllByRecursion (λ f. not (is_lt (byte_order f.0 least)) ≡ true) fs
+      turn : (fs : List (List ℕ × X)) → AllByRecursion (λ f. is_lt (byte_order f.0 least) ≡ false) fs
+          → AllByRecursion (λ f. not (is_lt (byte_order f.0 least)) ≡ true) fs
       turn [] all = tt
       turn (f ∷ fs) all = (not_false _ all.0, turn fs all.1)
 
   -- a seek passes over a key that is below
-  pub seek_passes : (least : List ℕ) (e : List ℕ × X) (es : List (List ℕ × X)) → is_lt (byte_order e.0 least) ≡ true → entries_from least (e ∷ es) ≡ entries_from least es
+  pub seek_passes : (least : List ℕ) (e : List ℕ × X) (es : List (List ℕ × X)) → is_lt (byte_order e.0 least) ≡ true
+      → entries_from least (e ∷ es) ≡ entries_from least es
   seek_passes least e es low = ap (λ b. cond (not b) (e ∷ entries_from least es) (entries_from least es)) low
 
   -- what a seek leaves ascends

@@ -1,5 +1,6 @@
 -- The join of two sorted lists, front by front.
-use Rattle.std.proofs.Common.{◌≡◌, ℕ, ◌<◌, Bool, true, false, cond, T, List, [], ◌∷◌, ◌++◌, ◌-◌, length, get_or, take, drop, length-drop, Option, Some, None, refl, sym, ap, subst, ◌∙◌, append_assoc, append-nil, arith}
+use Rattle.std.proofs.Common.{◌≡◌, ℕ, ◌<◌, Bool, true, false, cond, T, List, [], ◌∷◌, ◌++◌, ◌-◌, length, get_or, take, drop, length-drop, Option, Some, None}
+use Rattle.std.proofs.Common.{refl, sym, ap, subst, ◌∙◌, append_assoc, append-nil, arith}
 use Rattle.std.specs.List.{AllByRecursion}
 use Rattle.std.specs.Ordering.{is_lt, eq_by_cmp}
 use Rattle.std.specs.declared.cmp.Ordering.TheVariants.{Less, Equal}
@@ -11,7 +12,8 @@ use Rattle.lake_base.specs.Maps.{byte_order, HasAscendingKeys}
 use Rattle.lake_base.proofs.MapsLemmas.{both, first, second, head_below, tail_ascends, same_key, less_more, find_none, tied}
 
 -- what is made, before any join of the rests, is a join of the lists
-abbrev pub JoinsRest : {A B C : Type 0} → (Option A → Option B → Option C) → List (List ℕ × A) → List (List ℕ × B) → List (List ℕ × A) → List (List ℕ × B) → List (List ℕ × C) → Type 0
+abbrev pub JoinsRest : {A B C : Type 0} → (Option A → Option B → Option C) → List (List ℕ × A) → List (List ℕ × B) → List (List ℕ × A) → List (List ℕ × B)
+    → List (List ℕ × C) → Type 0
 JoinsRest {C = C} value all_left all_right left right made =
     (more : List (List ℕ × C)) → IsJoin value left right more → IsJoin value all_left all_right (made ++ more)
 
@@ -30,7 +32,8 @@ module _ {X : Type 0} where
       nothing false e = refl
       nothing true e = find_none q rest (subst (λ k. T (below_all byte_order k rest)) (sym (same_key q p (tied _ e))) h)
 
-  pub rest_below : (k p : List ℕ) (had : Option X) (rest : List (List ℕ × X)) → T (below_all byte_order k (rows_at p had ++ rest)) → T (below_all byte_order k rest)
+  pub rest_below : (k p : List ℕ) (had : Option X) (rest : List (List ℕ × X)) → T (below_all byte_order k (rows_at p had ++ rest))
+      → T (below_all byte_order k rest)
   rest_below k p None rest h = h
   rest_below k p (Some x) rest h = second _ _ h
 
@@ -39,15 +42,18 @@ module _ {X : Type 0} where
   rest_ascends p (Some x) rest h = tail_ascends (p, x) rest h
 
   -- a value at a key below a list that ascends
-  pub rows_ascend : (p : List ℕ) (value : Option X) (rest : List (List ℕ × X)) → T (below_all byte_order p rest) → HasAscendingKeys rest → HasAscendingKeys (rows_at p value ++ rest)
+  pub rows_ascend : (p : List ℕ) (value : Option X) (rest : List (List ℕ × X)) → T (below_all byte_order p rest) → HasAscendingKeys rest
+      → HasAscendingKeys (rows_at p value ++ rest)
   rows_ascend p None rest h sorted = sorted
   rows_ascend p (Some x) rest h sorted = both _ _ h sorted
 
-  one_below : (k p : List ℕ) (value : Option X) (rest : List (List ℕ × X)) → T (is_lt (byte_order k p)) → T (below_all byte_order k rest) → T (below_all byte_order k (rows_at p value ++ rest))
+  one_below : (k p : List ℕ) (value : Option X) (rest : List (List ℕ × X)) → T (is_lt (byte_order k p)) → T (below_all byte_order k rest)
+      → T (below_all byte_order k (rows_at p value ++ rest))
   one_below k p None rest lt h = h
   one_below k p (Some x) rest lt h = both _ _ lt h
 
-  none_below : (k p : List ℕ) (value : Option X) (rest : List (List ℕ × X)) → value ≡ None → T (below_all byte_order k rest) → T (below_all byte_order k (rows_at p value ++ rest))
+  none_below : (k p : List ℕ) (value : Option X) (rest : List (List ℕ × X)) → value ≡ None → T (below_all byte_order k rest)
+      → T (below_all byte_order k (rows_at p value ++ rest))
   none_below k p None rest e h = h
   none_below k p (Some x) rest e h = absurd cc
 
@@ -77,11 +83,14 @@ module _ {A B C : Type 0} (value : Option A → Option B → Option C) (nothing 
             find_rows q p (value had said) items below
             ∙ ap (cond ties (value had said)) (join.values q)
             ∙ valued ties had (find byte_order q left) said (find byte_order q right)
-            ∙ sym (ap (λ v. value v (find byte_order q (rows_at p said ++ right))) (find_rows q p had left h) ∙ ap (value (cond ties had (find byte_order q left))) (find_rows q p said right g));
+            ∙ sym (ap (λ v. value v (find byte_order q (rows_at p said ++ right))) (find_rows q p had left h)
+            ∙ ap (value (cond ties had (find byte_order q left))) (find_rows q p said right g));
       }
 
-  pub join_step : (left : List (List ℕ × A)) (right : List (List ℕ × B)) (p : List ℕ) (had : Option A) (said : Option B) (left_rest : List (List ℕ × A)) (right_rest : List (List ℕ × B)) (items : List (List ℕ × C))
-      → IsFront left right p had said left_rest right_rest → IsJoin value left_rest right_rest items → IsJoin value left right (rows_at p (value had said) ++ items)
+  pub join_step : (left : List (List ℕ × A)) (right : List (List ℕ × B)) (p : List ℕ) (had : Option A) (said : Option B) (left_rest : List (List ℕ × A))
+      (right_rest : List (List ℕ × B)) (items : List (List ℕ × C))
+      → IsFront left right p had said left_rest right_rest → IsJoin value left_rest right_rest items
+      → IsJoin value left right (rows_at p (value had said) ++ items)
   join_step left right p had said left_rest right_rest items front join =
       let one = front_join p had said left_rest right_rest items front.left_above front.right_above join in
       subst (λ l. IsJoin value l right (rows_at p (value had said) ++ items)) (sym front.left_is)
@@ -92,7 +101,8 @@ module _ {A B C : Type 0} (value : Option A → Option B → Option C) (nothing 
   join_end = record { ascends = tt; above = λ key low high. tt; values = λ key. sym nothing }
 
   -- one turn of the loop: what was made, the value at the front, and any join of the rest
-  pub join_turn : (all_left left left_rest : List (List ℕ × A)) (all_right right right_rest : List (List ℕ × B)) (p : List ℕ) (had : Option A) (said : Option B) (left_here : Option C) (old new : List (List ℕ × C))
+  pub join_turn : (all_left left left_rest : List (List ℕ × A)) (all_right right right_rest : List (List ℕ × B)) (p : List ℕ) (had : Option A) (said : Option B)
+      (left_here : Option C) (old new : List (List ℕ × C))
       → IsFront left right p had said left_rest right_rest → left_here ≡ value had said → new ≡ old ++ rows_at p left_here
       → JoinsRest value all_left all_right left right old → JoinsRest value all_left all_right left_rest right_rest new
   join_turn all_left left left_rest all_right right right_rest p had said left_here old new front made is before items join =
@@ -101,7 +111,8 @@ module _ {A B C : Type 0} (value : Option A → Option B → Option C) (nothing 
       (before (rows_at p (value had said) ++ items) (join_step left right p had said left_rest right_rest items front join))
 
 -- ---- the front of two lists that are not empty
-below_list : {X : Type 0} (p : List ℕ) (e : List ℕ × X) (es : List (List ℕ × X)) → HasAscendingKeys (e ∷ es) → byte_order p e.0 ≡ Less → T (below_all byte_order p (e ∷ es))
+below_list : {X : Type 0} (p : List ℕ) (e : List ℕ × X) (es : List (List ℕ × X)) → HasAscendingKeys (e ∷ es) → byte_order p e.0 ≡ Less
+    → T (below_all byte_order p (e ∷ es))
 below_list p e es h lt = both _ _ (subst (λ r. T (is_lt r)) (sym lt) tt) (less_more p e.0 es lt (head_below e es h))
 
 module _ {A B : Type 0} where
@@ -150,7 +161,8 @@ module _ {A B : Type 0} where
       })
 
 -- ---- the end of the walk
-pub whole_join : {A B C : Type 0} (value : Option A → Option B → Option C) → value None None ≡ None → (all_left left : List (List ℕ × A)) (all_right right : List (List ℕ × B)) (made : List (List ℕ × C))
+pub whole_join : {A B C : Type 0} (value : Option A → Option B → Option C) → value None None ≡ None
+    → (all_left left : List (List ℕ × A)) (all_right right : List (List ℕ × B)) (made : List (List ℕ × C))
     → left ≡ [] → right ≡ [] → JoinsRest value all_left all_right left right made → IsJoin value all_left all_right made
 whole_join {C = C} value nothing all_left left all_right right made no_left no_right joins =
     subst (IsJoin value all_left all_right) (append-nil made)

@@ -5,12 +5,14 @@ use Rattle.std.specs.Ordering.{is_lt, eq_by_cmp}
 use Rattle.std.specs.declared.cmp.Ordering.TheVariants.{Less}
 use Rattle.std.proofs.lemmas.Cmp.{nat_list_cmp_total}
 use Rattle.std.proofs.lemmas.List.Folds.{list_any-append}
-use Rattle.std.specs.FinMap.{find, get, entries, keys, contains_key, contains_key-keys, from_sorted, get-entries, get-from_sorted, get-insert, get-remove, entries_sorted, same_map, slice_cmp-IsAntisymmetric, nat_cmp-IsAntisymmetric, insert as map_insert, empty, get-empty}
+use Rattle.std.specs.FinMap.{find, get, entries, keys, contains_key, contains_key-keys, from_sorted, get-entries, get-from_sorted, get-insert, get-remove}
+use Rattle.std.specs.FinMap.{entries_sorted, same_map, slice_cmp-IsAntisymmetric, nat_cmp-IsAntisymmetric, insert as map_insert, empty, get-empty}
 use Rattle.std.specs.Option.{option_or}
 use Rattle.std.specs.FinMap.Entries.{below_all}
 use Rattle.lake_values.specs.Entry.{EntryValue}
 use Rattle.lake_base.specs.Maps.{byte_order, ByteMap, HasAscendingKeys}
-use Rattle.lake_values.specs.KeyMap.{KeyMapValue, ChangesValue, map_after_change, map_after, apply, changes_after, over, value_after, change_to, change_between, changes_with, differences_at, differences}
+use Rattle.lake_values.specs.KeyMap.{KeyMapValue, ChangesValue, map_after_change, map_after, apply, changes_after, over, value_after, change_to, change_between}
+use Rattle.lake_values.specs.KeyMap.{changes_with, differences_at, differences}
 use Rattle.lake_values.specs.Sameness.{same_value}
 use Rattle.lake_values.specs.declared.entry.Change.{Change}
 use Rattle.lake_values.specs.declared.entry.Change.TheVariants.{Put, Delete}
@@ -19,7 +21,8 @@ use Rattle.lake_values.proofs.SamenessLemmas.{same_entry_decides}
 pub use Rattle.lake_base.proofs.MapsLemmas.{less_more}
 
 -- the word of a change at q, and of those after it
-said_next : (q p : List ℕ) (c : Change) (cs : List (List ℕ × Change)) (had : Option EntryValue) → T (below_all byte_order p cs) → (b : Bool) → eq_by_cmp byte_order q p ≡ b
+said_next : (q p : List ℕ) (c : Change) (cs : List (List ℕ × Change)) (had : Option EntryValue) → T (below_all byte_order p cs) → (b : Bool)
+    → eq_by_cmp byte_order q p ≡ b
     → value_after (find byte_order q cs) (value_after (cond b (Some c) None) had) ≡ value_after (cond b (Some c) (find byte_order q cs)) had
 said_next q p c cs had h true e =
     let none : find byte_order q cs ≡ None = find_none q cs (subst (λ k. T (below_all byte_order k cs)) (sym (same_key q p (tied _ e))) h) in
@@ -34,11 +37,13 @@ delete_said : (b : Bool) (had : Option EntryValue) → cond b None had ≡ value
 delete_said true had = refl
 delete_said false had = refl
 
-get_changed : (p : List ℕ) (c : Change) (map : KeyMapValue) (q : List ℕ) → get (map_after_change p c map) q ≡ value_after (cond (eq_by_cmp byte_order q p) (Some c) None) (get map q)
+get_changed : (p : List ℕ) (c : Change) (map : KeyMapValue) (q : List ℕ)
+    → get (map_after_change p c map) q ≡ value_after (cond (eq_by_cmp byte_order q p) (Some c) None) (get map q)
 get_changed p (Put entry) map q = get-insert nat_list_cmp_total map p entry q ∙ put_said _ entry (get map q)
 get_changed p Delete map q = get-remove nat_list_cmp_total map p q ∙ delete_said _ (get map q)
 
-get_changed_by : (cs : List (List ℕ × Change)) → HasAscendingKeys cs → (map : KeyMapValue) (q : List ℕ) → get (map_after cs map) q ≡ value_after (find byte_order q cs) (get map q)
+get_changed_by : (cs : List (List ℕ × Change)) → HasAscendingKeys cs → (map : KeyMapValue) (q : List ℕ)
+    → get (map_after cs map) q ≡ value_after (find byte_order q cs) (get map q)
 get_changed_by [] h map q = refl
 get_changed_by (c ∷ cs) h map q =
     get_changed_by cs (tail_ascends c cs h) (map_after_change c.0 c.1 map) q
@@ -50,14 +55,16 @@ pub get_apply : (changes : ChangesValue) (map : KeyMapValue) (q : List ℕ) → 
 unfolding apply
 get_apply changes map q = get_changed_by (entries changes) (entries_sorted changes) map q ∙ ap (λ f. value_after f (get map q)) (sym (get-entries changes q))
 
-or_next : (q p : List ℕ) (c : Change) (cs : List (List ℕ × Change)) (had : Option Change) → T (below_all byte_order p cs) → (b : Bool) → eq_by_cmp byte_order q p ≡ b
+or_next : (q p : List ℕ) (c : Change) (cs : List (List ℕ × Change)) (had : Option Change) → T (below_all byte_order p cs) → (b : Bool)
+    → eq_by_cmp byte_order q p ≡ b
     → option_or (find byte_order q cs) (cond b (Some c) had) ≡ option_or (cond b (Some c) (find byte_order q cs)) had
 or_next q p c cs had h true e =
     let none : find byte_order q cs ≡ None = find_none q cs (subst (λ k. T (below_all byte_order k cs)) (sym (same_key q p (tied _ e))) h) in
     ap (λ f. option_or f (Some c)) none
 or_next q p c cs had h false e = refl
 
-get_put_over : (cs : List (List ℕ × Change)) → HasAscendingKeys cs → (old : ChangesValue) (q : List ℕ) → get (changes_after cs old) q ≡ option_or (find byte_order q cs) (get old q)
+get_put_over : (cs : List (List ℕ × Change)) → HasAscendingKeys cs → (old : ChangesValue) (q : List ℕ)
+    → get (changes_after cs old) q ≡ option_or (find byte_order q cs) (get old q)
 get_put_over [] h old q = refl
 get_put_over (c ∷ cs) h old q =
     get_put_over cs (tail_ascends c cs h) (map_insert old c.0 c.1) q
@@ -110,8 +117,10 @@ find_entries m items q is = ap (find byte_order q) is ∙ sym (get-entries m q)
 
 module _ {A B C : Type 0} (value : Option A → Option B → Option C) (left : ByteMap A) (right : ByteMap B) where
   -- the list of the values is the map that has them
-  pub joined_map : (lefts : List (List ℕ × A)) (rights : List (List ℕ × B)) (items : List (List ℕ × C)) (m : ByteMap C) → lefts ≡ entries left → rights ≡ entries right → HasAscendingKeys items
-      → ((q : List ℕ) → find byte_order q items ≡ value (find byte_order q lefts) (find byte_order q rights)) → ((q : List ℕ) → get m q ≡ value (get left q) (get right q)) → from_sorted {R = byte_order} items ≡ m
+  pub joined_map : (lefts : List (List ℕ × A)) (rights : List (List ℕ × B)) (items : List (List ℕ × C)) (m : ByteMap C) → lefts ≡ entries left
+      → rights ≡ entries right → HasAscendingKeys items
+      → ((q : List ℕ) → find byte_order q items ≡ value (find byte_order q lefts) (find byte_order q rights))
+      → ((q : List ℕ) → get m q ≡ value (get left q) (get right q)) → from_sorted {R = byte_order} items ≡ m
   joined_map lefts rights items m is others sorted values has = same _ _ (λ q.
       get-from_sorted byte_order items q sorted ∙ values q
       ∙ ap (λ v. value v (find byte_order q rights)) (find_entries left lefts q is) ∙ ap (value (get left q)) (find_entries right rights q others)
@@ -131,7 +140,8 @@ pub same_as_itself : (v : Option EntryValue) → same_value v v ≡ true
 same_as_itself None = refl
 same_as_itself (Some x) = (same_entry_decides x x).1 refl
 
-get_with : (p : List ℕ) (change : Option Change) (changes : ChangesValue) (q : List ℕ) → get (changes_with p change changes) q ≡ cond (ties q p) (option_or change (get changes q)) (get changes q)
+get_with : (p : List ℕ) (change : Option Change) (changes : ChangesValue) (q : List ℕ)
+    → get (changes_with p change changes) q ≡ cond (ties q p) (option_or change (get changes q)) (get changes q)
 get_with p (Some change) changes q = get-insert nat_list_cmp_total changes p change q
 get_with p None changes q = sym (either (ties q p) (get changes q))
   where
@@ -198,15 +208,19 @@ no_change n o true e h = same_value_is n o e
 no_change n o false e h = absurd cc
 
 -- there is no change just where the two look-ups are equal
-pub no_difference : (new old : KeyMapValue) (q : List ℕ) → (get (differences new old) q ≡ None → get new q ≡ get old q) × (get new q ≡ get old q → get (differences new old) q ≡ None)
+pub no_difference : (new old : KeyMapValue) (q : List ℕ)
+    → (get (differences new old) q ≡ None → get new q ≡ get old q) × (get new q ≡ get old q → get (differences new old) q ≡ None)
 no_difference new old q = (
   λ none. no_change (get new q) (get old q) _ refl (sym (get_differences new old q) ∙ none),
-  λ e. get_differences new old q ∙ ap (λ v. change_between (get new q) v) (sym e) ∙ ap (λ b. cond b None (Some (change_to (get new q)))) (same_as_itself (get new q)),
+  λ e. get_differences new old q ∙ ap (λ v. change_between (get new q) v) (sym e)
+      ∙ ap (λ b. cond b None (Some (change_to (get new q)))) (same_as_itself (get new q)),
 )
 
 -- below the first change the two look-ups are equal
-pub least_difference : (new old : KeyMapValue) (first : List ℕ × Change) (rest : List (List ℕ × Change)) (q : List ℕ) → entries (differences new old) ≡ first ∷ rest → byte_order q first.0 ≡ Less → get new q ≡ get old q
+pub least_difference : (new old : KeyMapValue) (first : List ℕ × Change) (rest : List (List ℕ × Change)) (q : List ℕ)
+    → entries (differences new old) ≡ first ∷ rest → byte_order q first.0 ≡ Less → get new q ≡ get old q
 least_difference new old front rest q is lt =
     let sorted : HasAscendingKeys (front ∷ rest) = subst HasAscendingKeys is (entries_sorted (differences new old)) in
-    let low : T (below_all byte_order q (front ∷ rest)) = both _ _ (subst (λ r. T (is_lt r)) (sym lt) tt) (less_more q front.0 rest lt (head_below front rest sorted)) in
+    let low : T (below_all byte_order q (front ∷ rest)) =
+    both _ _ (subst (λ r. T (is_lt r)) (sym lt) tt) (less_more q front.0 rest lt (head_below front rest sorted)) in
     (no_difference new old q).0 (get-entries (differences new old) q ∙ ap (find byte_order q) is ∙ find_none q (front ∷ rest) low)

@@ -1,5 +1,6 @@
 -- What is in a log, and its pages taken one after the other.
-use Rattle.std.proofs.Common.{◌≡◌, ℕ, zero, suc, ◌<◌, ◌≤◌, ◌&&◌, Bool, true, false, cond, List, [], ◌∷◌, ◌++◌, length, take, drop, Some, None, Option, refl, sym, ap, subst, ◌∙◌, append_assoc, arith}
+use Rattle.std.proofs.Common.{◌≡◌, ℕ, zero, suc, ◌<◌, ◌≤◌, ◌&&◌, Bool, true, false, cond, List, [], ◌∷◌, ◌++◌, length, take, drop, Some, None, Option, refl}
+use Rattle.std.proofs.Common.{sym, ap, subst, ◌∙◌, append_assoc, arith}
 use Rattle.std.proofs.Math.Bool.{and-true}
 use Rattle.std.proofs.lemmas.Bool.{leb-true, le-leb, ltb-true, ltb-false}
 use Rattle.std.proofs.lemmas.Cmp.{tied_itself}
@@ -78,7 +79,8 @@ module _ (g : Graph) (from : Digest) (since : Option ℕ) where
   after_both None y x p q = refl
   after_both (Some other) y x p q = comes_through g other y x p q
 
-  in_both : (after : Option Digest) (y : Digest) → is_after g after y ≡ true → (x : Digest) → (is_in_log g after since x && comes_first g y x) ≡ is_in_log g (Some y) since x
+  in_both : (after : Option Digest) (y : Digest) → is_after g after y ≡ true → (x : Digest)
+      → (is_in_log g after since x && comes_first g y x) ≡ is_in_log g (Some y) since x
   in_both after y p x = by (comes_first g y x) refl
     where
       by : (b : Bool) → comes_first g y x ≡ b → (is_in_log g after since x && b) ≡ (b && is_since g since x)
@@ -90,11 +92,13 @@ module _ (g : Graph) (from : Digest) (since : Option ℕ) where
   log_ascend after = IsStrictlySortedBy-filter (log_order g) (is_in_log g after since) (ancestors_in_order g from) (ancestors_ascend g from)
 
   -- the log after one of its commits is what comes behind that
-  behind_it : (after : Option Digest) (xs : List Digest) (y : Digest) (zs : List Digest) → log_after g from after since ≡ xs ++ y ∷ zs → log_after g from (Some y) since ≡ zs
+  behind_it : (after : Option Digest) (xs : List Digest) (y : Digest) (zs : List Digest) → log_after g from after since ≡ xs ++ y ∷ zs
+      → log_after g from (Some y) since ≡ zs
   unfolding log_after
   behind_it after xs y zs is =
       let all : List Digest = ancestors_in_order g from in
-      let within : Contains (filter (is_in_log g after since) all) y = subst (λ l. Contains l y) (sym is) (Contains-append_right xs (y ∷ zs) y (Contains-first y zs)) in
+      let within : Contains (filter (is_in_log g after since) all) y =
+      subst (λ l. Contains l y) (sym is) (Contains-append_right xs (y ∷ zs) y (Contains-first y zs)) in
       let passes = (Contains-from_filter (is_in_log g after since) all y within).1 in
       let later : is_after g after y ≡ true = (and_both (is_after g after y) (is_since g since y) passes).0 in
       sym (filter_agree (λ x. is_in_log g after since x && comes_first g y x) (is_in_log g (Some y) since) (in_both after y later) all)
@@ -132,7 +136,8 @@ module _ (g : Graph) (from : Digest) (since : Option ℕ) where
         ∙ append-nil (take a all) ∙ take_all a all (ltb-false _ _ more)
 
     -- pages one after the other are the whole log
-    pub all_log_pages : (n : ℕ) (after : Option Digest) → length (log_after g from after since) ≤ n → log_pages n g from after since a ≡ log_after g from after since
+    pub all_log_pages : (n : ℕ) (after : Option Digest) → length (log_after g from after since) ≤ n
+        → log_pages n g from after since a ≡ log_after g from after since
     all_log_pages zero after le = nothing_left (log_after g from after since) le
     all_log_pages (suc n) after le = pages_step n after le (λ other fewer. all_log_pages n other fewer) (log_page g from after since a).has_more refl
 

@@ -1,5 +1,6 @@
 -- What a merged map has at each path, and the paths that conflict.
-use Rattle.std.proofs.Common.{arith, ◌≡◌, ℕ, ◌+◌, ◌||◌, Bool, true, false, cond, List, [], ◌∷◌, ◌++◌, Some, None, Option, is_some, map, length, ltb, refl, sym, ap, ◌∙◌}
+use Rattle.std.proofs.Common.{arith, ◌≡◌, ℕ, ◌+◌, ◌||◌, Bool, true, false, cond, List, [], ◌∷◌, ◌++◌, Some, None, Option, is_some, map, length, ltb, refl, sym}
+use Rattle.std.proofs.Common.{ap, ◌∙◌}
 use Rattle.std.specs.List.{Contains, list_any, filter}
 use Rattle.std.specs.FinMap.Entries.{is_some-find}
 use Rattle.std.proofs.lemmas.Bool.{lt-ltb}
@@ -13,7 +14,8 @@ use Rattle.std.specs.FinMap.{get, entries, from_entries, get-from_entries, get-i
 use Rattle.lake_values.specs.Entry.{EntryValue}
 use Rattle.lake_base.specs.Maps.{byte_order, IsAscending}
 use Rattle.lake_values.specs.KeyMap.{KeyMapValue}
-use Rattle.lake_values.specs.Merging.{merged_map, merged_map_at, merged_value, map_with, side_of, is_neither, is_conflict, paths_of, conflicts, is_refused, IsConflict, AreConflicts}
+use Rattle.lake_values.specs.Merging.{merged_map, merged_map_at, merged_value, map_with, side_of, is_neither, is_conflict, paths_of, conflicts, is_refused}
+use Rattle.lake_values.specs.Merging.{IsConflict, AreConflicts}
 use denote.Enum.Bare.{sameb}
 use Rattle.lake_values.specs.contracts.merge.Side.{the_type}
 use Rattle.lake_values.specs.declared.merge.Side.{Side}
@@ -58,7 +60,8 @@ module _ (strategy : Strategy) (base source dest : KeyMapValue) where
   abbrev pub value_at : List ℕ → Option EntryValue
   value_at path = merged_value strategy (get base path) (get source path) (get dest path)
 
-  get_merged_at : (paths : List (List ℕ)) (q : List ℕ) → get (merged_map_at strategy base source dest paths) q ≡ cond (list_any (ties q) paths) (value_at q) (get dest q)
+  get_merged_at : (paths : List (List ℕ)) (q : List ℕ)
+      → get (merged_map_at strategy base source dest paths) q ≡ cond (list_any (ties q) paths) (value_at q) (get dest q)
   get_merged_at [] q = refl
   get_merged_at (p ∷ paths) q =
       get_with_value p (value_at p) (merged_map_at strategy base source dest paths) q
@@ -119,7 +122,8 @@ module _ (base source dest : KeyMapValue) where
     ascending = IsStrictlySortedBy-filter byte_order (is_conflict base source dest) paths ascend;
     all = λ q. (
       λ within. neither _ (Contains-from_filter (is_conflict base source dest) paths q within).1,
-      λ conflict. Contains-filter (is_conflict base source dest) paths q (has q (conflict_is_path (get base q) (get source q) (get dest q) conflict)) (ap is_neither conflict),
+      λ conflict. Contains-filter (is_conflict base source dest) paths q (has q (conflict_is_path (get base q) (get source q) (get dest q) conflict))
+          (ap is_neither conflict),
     );
   }
 
@@ -152,12 +156,14 @@ module _ (base source dest : KeyMapValue) where
   pub conflict_of_some : ltb 0 (length (conflicts base source dest)) ≡ true → (path : List ℕ) × IsConflict base source dest path
   conflict_of_some t = let some = some_has (conflicts base source dest) t in (some.0, (are_conflicts.all some.0).0 some.1)
 
-  pub refused_from : (strategy : Strategy) → is_refused strategy base source dest ≡ true → (strategy ≡ Refuse) × ((path : List ℕ) × IsConflict base source dest path)
+  pub refused_from : (strategy : Strategy) → is_refused strategy base source dest ≡ true
+      → (strategy ≡ Refuse) × ((path : List ℕ) × IsConflict base source dest path)
   refused_from Refuse t = (refl, conflict_of_some t)
   refused_from SourceWins t = cc
   refused_from DestWins t = cc
 
-  pub refused_to : (strategy : Strategy) → (strategy ≡ Refuse) × ((path : List ℕ) × IsConflict base source dest path) → is_refused strategy base source dest ≡ true
+  pub refused_to : (strategy : Strategy) → (strategy ≡ Refuse) × ((path : List ℕ) × IsConflict base source dest path)
+      → is_refused strategy base source dest ≡ true
   refused_to Refuse (e, some) = sym (some_conflict some.0 some.1)
   refused_to SourceWins (e, some) = cc
   refused_to DestWins (e, some) = cc

@@ -134,14 +134,16 @@ module _ {K : Type 0} {R : K → K → Ordering} (o : IsTotalOrder R) where
     ]
   ]
 
-  rest_has : (x : K) (xs ys : List K) → IsStrictlySortedBy R (x ∷ xs) → ((q : K) → Contains (x ∷ xs) q → Contains (x ∷ ys) q) → (q : K) → Contains xs q → Contains ys q
+  rest_has : (x : K) (xs ys : List K) → IsStrictlySortedBy R (x ∷ xs) → ((q : K) → Contains (x ∷ xs) q → Contains (x ∷ ys) q) → (q : K) → Contains xs q
+      → Contains ys q
   rest_has x xs ys ascend has q within = elim (first_or_later x q ys (has q (Contains-later x q xs within))) [
     | inl same ↦ absurd (not_below_itself x (subst (λ k. R x k ≡ Less) (sym same) (below_later x q xs ascend within)))
     | inr later ↦ later
   ]
 
   -- lists that ascend and have the same items are one
-  pub same_ascending : (xs ys : List K) → IsStrictlySortedBy R xs → IsStrictlySortedBy R ys → ((q : K) → Contains xs q → Contains ys q) → ((q : K) → Contains ys q → Contains xs q) → xs ≡ ys
+  pub same_ascending : (xs ys : List K) → IsStrictlySortedBy R xs → IsStrictlySortedBy R ys → ((q : K) → Contains xs q → Contains ys q)
+      → ((q : K) → Contains ys q → Contains xs q) → xs ≡ ys
   same_ascending [] [] s t to from = refl
   same_ascending [] (y ∷ ys) s t to from = absurd (Contains-nothing y (from y (Contains-first y ys)))
   same_ascending (x ∷ xs) [] s t to from = absurd (Contains-nothing x (to x (Contains-first x xs)))

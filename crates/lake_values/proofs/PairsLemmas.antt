@@ -1,5 +1,6 @@
 -- Metadata after a pair is set.
-use Rattle.std.proofs.Common.{◌≡◌, ℕ, ◌+◌, ◌<◌, ◌≤◌, ◌&&◌, ◌⊎◌, inl, inr, Bool, true, false, cond, List, [], ◌∷◌, length, Some, None, Option, is_some, is_none, leb, sym, ap, subst, ◌∙◌, arith}
+use Rattle.std.proofs.Common.{◌≡◌, ℕ, ◌+◌, ◌<◌, ◌≤◌, ◌&&◌, ◌⊎◌, inl, inr, Bool, true, false, cond, List, [], ◌∷◌, length, Some, None, Option, is_some, is_none}
+use Rattle.std.proofs.Common.{leb, sym, ap, subst, ◌∙◌, arith}
 use Rattle.std.specs.List.{AllByRecursion}
 use Rattle.std.specs.declared.cmp.Ordering.TheVariants.{Less, Equal, Greater}
 use Rattle.std.proofs.lemmas.Bool.{le-leb, lt-leb}
@@ -29,7 +30,8 @@ few_put false n h (inl e) = cc
 few_put false n h (inr lt) = omega (arith, lt)
 
 -- a pair is put where its key stands, or there is room
-pub put_pairs : (k v : List ℕ) (es : List (List ℕ × List ℕ)) → ArePairs es → IsPair (k, v) → (is_some (find byte_order k es) ≡ true) ⊎ (length es < 64) → ArePairs (put byte_order k v es)
+pub put_pairs : (k v : List ℕ) (es : List (List ℕ × List ℕ)) → ArePairs es → IsPair (k, v) → (is_some (find byte_order k es) ≡ true) ⊎ (length es < 64)
+    → ArePairs (put byte_order k v es)
 put_pairs k v es pairs one room =
     let sorted = ascend_from es pairs.ascending in
     record {
@@ -45,7 +47,8 @@ fault_of a b = cond (a && b) (Some Full) None
 pub room_at : (k : List ℕ) (es : List (List ℕ × List ℕ)) (at : ℕ) (d : List ℕ × List ℕ) → HasAscendingKeys es → IsAt es k at → room_fault k es ≡ None
 room_at k es at d sorted is = ap (λ f. cond (is_none f && leb 64 (length es)) (Some Full) None) (find_at es k at d sorted is)
 
-pub found_at : (k : List ℕ) (es : List (List ℕ × List ℕ)) (at : ℕ) (d : List ℕ × List ℕ) → HasAscendingKeys es → IsAt es k at → is_some (find byte_order k es) ≡ true
+pub found_at : (k : List ℕ) (es : List (List ℕ × List ℕ)) (at : ℕ) (d : List ℕ × List ℕ) → HasAscendingKeys es → IsAt es k at
+    → is_some (find byte_order k es) ≡ true
 found_at k es at d sorted is = ap is_some (find_at es k at d sorted is)
 
 pub no_room : (k : List ℕ) (es : List (List ℕ × List ℕ)) (at : ℕ) → IsGap es k at → 64 ≤ length es → room_fault k es ≡ Some Full

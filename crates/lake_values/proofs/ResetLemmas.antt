@@ -18,7 +18,8 @@ turned_test true x y = refl
 turned_test false x y = refl
 
 -- what stands at a path after a reset
-pub get_reset : (what : ResetWhat) (changes : ChangesValue) (q : List ℕ) → get (changes_after_reset what changes) q ≡ cond (drops_path what q) None (get changes q)
+pub get_reset : (what : ResetWhat) (changes : ChangesValue) (q : List ℕ)
+    → get (changes_after_reset what changes) q ≡ cond (drops_path what q) None (get changes q)
 unfolding changes_after_reset
 get_reset what changes q =
     get-retain_keys changes (λ path. not (drops_path what path)) q (λ x t. ap (λ k. not (drops_path what k)) (sym (same_key q x t)))

@@ -14,7 +14,8 @@ zero_least k = omega arith
 pub days_found : (otherwise : ℕ) (rules : List BranchDays) (branch : List ℕ) (i : ℕ) (rule : BranchDays) → i < length rules → rule ≡ get_or rules i rule
     → AllWithin (λ other. bytes_eq other.branch branch ≡ false) rules 0 i → bytes_eq rule.branch branch ≡ true → rule.days ≡ days_in otherwise rules branch
 days_found otherwise rules branch i rule within is before here =
-    ap (λ (r : BranchDays). r.days) is ∙ sym (found_at (λ rs. days_in otherwise rs branch) (λ r. bytes_eq r.branch branch) (λ r. r.days) otherwise refl (λ _ _. refl) rules i rule within
+    ap (λ (r : BranchDays). r.days) is
+    ∙ sym (found_at (λ rs. days_in otherwise rs branch) (λ r. bytes_eq r.branch branch) (λ r. r.days) otherwise refl (λ _ _. refl) rules i rule within
     (λ k below. before k rule (zero_least k) below) (subst (λ (r : BranchDays). bytes_eq r.branch branch ≡ true) is here))
 
 -- the default days where no rule has the name

@@ -89,7 +89,8 @@ same_object entry other e =
 object_same : (entry : EntryValue) → same_entry entry entry ≡ true
 unfolding same_entry
 object_same entry =
-    both_true _ _ (both_true _ _ (both_true _ _ (both_true _ _ (placed_same entry.place) (number_same entry.size)) (number_same entry.mtime)) (bytes_same entry.content_type))
+    both_true _ _
+    (both_true _ _ (both_true _ _ (both_true _ _ (placed_same entry.place) (number_same entry.size)) (number_same entry.mtime)) (bytes_same entry.content_type))
     ((same_metadata entry.metadata entry.metadata).1 refl)
 
 -- entries are told the same exactly where they are equal

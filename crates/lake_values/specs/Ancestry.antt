@@ -1,6 +1,7 @@
 -- Commit graphs: ancestors, generations, the order of the log, the merge base, and the way back by first parents
 -- (Git's words; that a base is of greatest generation and then of least id is this project's profile).
-use Rattle.std.specs.Prelude.{◌≡◌, ◌≤◌, ◌+◌, ◌++◌, ◌&&◌, ◌||◌, false, ℕ, zero, suc, max, Bool, List, [], ◌∷◌, map, slice_get, Option, Some, None, IsSome, is_some, option_map, option_and_then}
+use Rattle.std.specs.Prelude.{◌≡◌, ◌≤◌, ◌+◌, ◌++◌, ◌&&◌, ◌||◌, false, ℕ, zero, suc, max, Bool, List, [], ◌∷◌, map, slice_get, Option, Some, None, IsSome}
+use Rattle.std.specs.Prelude.{is_some, option_map, option_and_then}
 use Rattle.std.specs.Option.{unwrap_or, option_to_list}
 use Rattle.std.specs.Ordering.{is_lt, nat_cmp, ordering_then}
 use Rattle.std.specs.declared.cmp.Ordering.{Ordering}

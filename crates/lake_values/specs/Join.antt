@@ -18,7 +18,8 @@ pub record IsFront {A B : Type 0} (left : List (List ℕ × A)) (right : List (L
   pub fewer : length left_rest + length right_rest < length left + length right
 
 -- the join of two sorted lists: sorted, not below both, and at each key the value of what both have there
-pub record IsJoin {A B C : Type 0} (value : Option A → Option B → Option C) (left : List (List ℕ × A)) (right : List (List ℕ × B)) (items : List (List ℕ × C)) : Type 0 where
+pub record IsJoin {A B C : Type 0} (value : Option A → Option B → Option C) (left : List (List ℕ × A)) (right : List (List ℕ × B))
+    (items : List (List ℕ × C)) : Type 0 where
   pub ascends : HasAscendingKeys items
   pub above : (key : List ℕ) → T (below_all byte_order key left) → T (below_all byte_order key right) → T (below_all byte_order key items)
   pub values : (key : List ℕ) → find byte_order key items ≡ value (find byte_order key left) (find byte_order key right)

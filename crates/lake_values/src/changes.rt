@@ -157,5 +157,6 @@ pub fn law_of_reset()
         ≡ (if drops_path what path then None else map.get changes path) }
     ensures all { (changes : ChangesValue) → changes_after_reset All changes ≡ map.empty }
     ensures empty { (changes : ChangesValue) → changes_after_reset (Prefix []) changes ≡ map.empty }
-    ensures object { (path : List ℕ) (changes : ChangesValue) → changes_after_reset (Object path) changes ≡ map.remove changes path }
+    ensures object { (path : List ℕ) (changes : ChangesValue)
+        → changes_after_reset (Object path) changes ≡ map.remove changes path }
 {}

@@ -35,7 +35,15 @@ impl Model for CommitRecord {
 
     ghost Value = { CommitRecordValue };
 
-    ghost view = { λ c. record { meta_range = c.meta_range; generation = c.generation; date = c.date; parents = c.parents; committer = c.committer; message = c.message; metadata = c.metadata } };
+    ghost view = { λ c. record {
+      meta_range = c.meta_range;
+      generation = c.generation;
+      date = c.date;
+      parents = c.parents;
+      committer = c.committer;
+      message = c.message;
+      metadata = c.metadata;
+    } };
 
     ghost invariant = { λ c. IsCommit c.generation c.parents c.committer c.message };
 }
@@ -55,7 +63,8 @@ impl Model for About {
 
     ghost Value = { AboutValue };
 
-    ghost view = { λ about. record { committer = about.committer; message = about.message; metadata = about.metadata; date = about.date } };
+    ghost view = { λ about.
+        record { committer = about.committer; message = about.message; metadata = about.metadata; date = about.date } };
 
     ghost invariant = { λ about. IsRemark about.committer about.message };
 }

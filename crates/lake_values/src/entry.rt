@@ -42,7 +42,13 @@ impl Model for Entry {
 
     ghost Value = { EntryValue };
 
-    ghost view = { λ entry. record { place = entry.place; size = entry.size; mtime = entry.mtime; content_type = entry.content_type; metadata = entry.metadata } };
+    ghost view = { λ entry. record {
+      place = entry.place;
+      size = entry.size;
+      mtime = entry.mtime;
+      content_type = entry.content_type;
+      metadata = entry.metadata;
+    } };
 
     ghost invariant = { λ entry. CanHold entry.place entry.content_type };
 }

@@ -4,7 +4,8 @@ ghost use Rattle.std.specs.Option.{option_or};
 ghost use Rattle.std.specs.FinMap as map;
 ghost use Rattle.std.specs.declared.cmp.Ordering.TheVariants.{Less};
 ghost use Rattle.lake_base.specs.Maps.{HasAscendingKeys, byte_order};
-ghost use Rattle.lake_values.specs.KeyMap.{KeyMapValue, ChangesValue, HasPathKeys, apply, over, value_after, change_between, differences};
+ghost use Rattle.lake_values.specs.KeyMap.{KeyMapValue, ChangesValue, HasPathKeys, apply, over, value_after};
+ghost use Rattle.lake_values.specs.KeyMap.{change_between, differences};
 ghost use Rattle.lake_values.specs.declared.entry.Change.{Change as AnyChange};
 
 use crate::changes::Changes;

@@ -173,7 +173,8 @@ fn place(pairs: &[(Text, Text)], key: &Text) -> Result<usize, usize>
 fn put_pair(pairs: &mut Vec<(Text, Text)>, key: Text, value: Text) -> Result<(), PairsFault>
     requires pairs { ArePairs pairs.old.items }
     requires pair { IsPair (key, value) }
-    ensures set { Sets result (room_fault key pairs.old.items) (pairs.new.items ≡ put byte_order key value pairs.old.items) }
+    ensures set { Sets result (room_fault key pairs.old.items)
+        (pairs.new.items ≡ put byte_order key value pairs.old.items) }
     ensures unchanged { OnErr result (pairs.new.items ≡ pairs.old.items) }
     ensures pairs { ArePairs pairs.new.items }
 {

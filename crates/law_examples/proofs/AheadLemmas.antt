@@ -53,14 +53,18 @@ module _ (fork : Fork) (about : AboutValue) where
     based : base r1.commits root one ≡ Some root
     based = base_ahead r1.commits root (forks.fork_ahead b outside refl fork early) one (forks.child_ahead b outside refl fork early)
 
-    pub ahead_allowed : IsMergeAdmissible (ahead_lake fork) (dev_head (ahead_lake fork)) Refuse about → Allows (ahead_lake fork) (merge_entry (dev_head (ahead_lake fork)) Refuse about)
+    pub ahead_allowed : IsMergeAdmissible (ahead_lake fork) (dev_head (ahead_lake fork)) Refuse about
+        → Allows (ahead_lake fork) (merge_entry (dev_head (ahead_lake fork)) Refuse about)
     ahead_allowed admissible = moved (λ (l : State) (id : Digest). Allows l (merge_entry id Refuse about)) ahead_is dev_ahead_is
-        (merges.may_merge s2 r1 bs2 (clean_branch root) (forks.main_ahead b outside refl fork) one root based Refuse about refl (omega arith) refl (apply_nothing (map_of r1 root))
+        (merges.may_merge s2 r1 bs2 (clean_branch root)
+        (forks.main_ahead b outside refl fork) one root based Refuse about refl (omega arith) refl (apply_nothing (map_of r1 root))
         ((forks.child_ahead b outside refl fork early).there, ap is_some (get-empty {X = Unit {0}} byte_order one.0))
         (one_apart (map_of r1 one) (map_of r1 root) b outside (forks.source_ahead b outside refl fork early) (forks.base_ahead b outside refl fork early))
         (settled_at_base (map_of r1 root) (map_of r1 one))
         (moved (λ (l : State) (id : Digest). IsMergeAdmissible l id Refuse about) (sym ahead_is) (sym dev_ahead_is) admissible))
 
-    pub ahead_parents : HasBranch (after (ahead_lake fork) (merge_entry (dev_head (ahead_lake fork)) Refuse about)) quickstart main (λ r x. parents r.commits x.head ≡ first fork.cut ∷ dev_head (ahead_lake fork) ∷ [])
-    ahead_parents = moved (λ (l : State) (id : Digest). HasBranch (after l (merge_entry id Refuse about)) quickstart main (λ r x. parents r.commits x.head ≡ first fork.cut ∷ id ∷ [])) ahead_is dev_ahead_is
+    pub ahead_parents : HasBranch (after (ahead_lake fork) (merge_entry (dev_head (ahead_lake fork)) Refuse about)) quickstart main
+        (λ r x. parents r.commits x.head ≡ first fork.cut ∷ dev_head (ahead_lake fork) ∷ [])
+    ahead_parents = moved (λ (l : State) (id : Digest).
+        HasBranch (after l (merge_entry id Refuse about)) quickstart main (λ r x. parents r.commits x.head ≡ first fork.cut ∷ id ∷ [])) ahead_is dev_ahead_is
         (merges.merged_parents s2 r1 bs2 (clean_branch root) (forks.main_ahead b outside refl fork) one root based Refuse about)

@@ -46,10 +46,12 @@ module _ (s : State) (r : Repository) (bs : ByteMap Branch) (m : Branch) (there 
   abbrev pub draft : Draft
   draft = merges.draft s r bs m there one root between strategy about
 
-  pub may_fork : s.stopped ≡ false → s.entries < 4194304 → denied_by r.notes.hooks main (head_map r m) draft ≡ None → sealed_map r m ≡ head_map r m → is_expired r one ≡ false
+  pub may_fork : s.stopped ≡ false → s.entries < 4194304 → denied_by r.notes.hooks main (head_map r m) draft ≡ None → sealed_map r m ≡ head_map r m
+      → is_expired r one ≡ false
       → is_refused strategy empty (insert empty path entry) (insert empty a outside) ≡ false → IsMergeAdmissible (spread s r bs) one strategy about
       → Allows (spread s r bs) (merge_entry one strategy about)
-  may_fork running room free clean kept settled admissible = merges.may_merge s r bs m there one root between strategy about running room free clean (forked.of_one.there, kept)
+  may_fork running room free clean kept settled admissible =
+      merges.may_merge s r bs m there one root between strategy about running room free clean (forked.of_one.there, kept)
       (one_apart (map_of r one) (map_of r root) path entry forked.source forked.base)
       ((λ i. is_refused strategy (forked.base i) (forked.source i) (forked.dest i)) ∙ settled)
       admissible
@@ -58,14 +60,16 @@ module _ (s : State) (r : Repository) (bs : ByteMap Branch) (m : Branch) (there 
   no_hooks = merges.no_hooks s r bs m there one root between strategy about
 
   -- what the merged map has at a path
-  pub fork_draft : (q : List ℕ) → get draft.objects q ≡ merged_value strategy None (cond (eq_by_cmp byte_order q path) (Some entry) None) (cond (eq_by_cmp byte_order q a) (Some outside) None)
+  pub fork_draft : (q : List ℕ) → get draft.objects q
+      ≡ merged_value strategy None (cond (eq_by_cmp byte_order q path) (Some entry) None) (cond (eq_by_cmp byte_order q a) (Some outside) None)
   fork_draft q =
       merges.get_draft s r bs m there one root between strategy about q
       ∙ (λ i. merged_value strategy (get (forked.base i) q) (get (forked.source i) q) (get (forked.dest i) q))
       ∙ merged_of_one strategy path entry q
 
 -- the merge of `dev` where the two diverged
-module _ (lake : State) (fork : Fork) (path : List ℕ) (entry : EntryValue) (at : ForkLake lake fork path entry) (strategy : Strategy) (about : AboutValue) (distinct : AreDistinct (three_commits fork.cut lake)) where
+module _ (lake : State) (fork : Fork) (path : List ℕ) (entry : EntryValue) (at : ForkLake lake fork path entry) (strategy : Strategy) (about : AboutValue)
+    (distinct : AreDistinct (three_commits fork.cut lake)) where
   abbrev root : Digest
   root = first fork.cut
 
@@ -78,22 +82,29 @@ module _ (lake : State) (fork : Fork) (path : List ℕ) (entry : EntryValue) (at
   pub kept : is_expired at.r at.one ≡ false
   kept = ap (λ (m : ByteMap (Unit {0})). is_some (get m at.one.0)) at.unexpired ∙ ap is_some (get-empty {X = Unit {0}} byte_order at.one.0)
 
-  pub fork_allowed : is_refused strategy empty (insert empty path entry) (insert empty a outside) ≡ false → IsMergeAdmissible lake (dev_head lake) strategy about → Allows lake (merge_entry (dev_head lake) strategy about)
+  pub fork_allowed : is_refused strategy empty (insert empty path entry) (insert empty a outside) ≡ false
+      → IsMergeAdmissible lake (dev_head lake) strategy about → Allows lake (merge_entry (dev_head lake) strategy about)
   fork_allowed settled admissible = moved (λ (l : State) (id : Digest). Allows l (merge_entry id strategy about)) at.scene at.dev_is
       (may_fork at.s at.r at.bs two at.main_there root at.one path entry forked strategy about at.running (let n = at.count in omega (arith, n))
       (no_hooks at.s at.r at.bs two at.main_there root at.one path entry forked strategy about at.free) (apply_nothing (map_of at.r at.two)) kept settled
       (moved (λ (l : State) (id : Digest). IsMergeAdmissible l id strategy about) (sym at.scene) (sym at.dev_is) admissible))
 
-  pub fork_parents : HasBranch (after lake (merge_entry (dev_head lake) strategy about)) quickstart main (λ r x. parents r.commits x.head ≡ head_of lake ∷ dev_head lake ∷ [])
-  fork_parents = subst (λ (id : Digest). HasBranch (after lake (merge_entry (dev_head lake) strategy about)) quickstart main (λ r x. parents r.commits x.head ≡ id ∷ dev_head lake ∷ [])) (sym at.main_is)
-      (moved (λ (l : State) (id : Digest). HasBranch (after l (merge_entry id strategy about)) quickstart main (λ r x. parents r.commits x.head ≡ at.two ∷ id ∷ [])) at.scene at.dev_is
-      (merges.merged_parents at.s at.r at.bs two at.main_there at.one root (between at.s at.r at.bs two at.main_there root at.one path entry forked strategy about) strategy about))
+  pub fork_parents :
+      HasBranch (after lake (merge_entry (dev_head lake) strategy about)) quickstart main (λ r x. parents r.commits x.head ≡ head_of lake ∷ dev_head lake ∷ [])
+  fork_parents = subst (λ (id : Digest). HasBranch (after lake (merge_entry (dev_head lake) strategy about)) quickstart main
+      (λ r x. parents r.commits x.head ≡ id ∷ dev_head lake ∷ [])) (sym at.main_is)
+      (moved (λ (l : State) (id : Digest).
+      HasBranch (after l (merge_entry id strategy about)) quickstart main (λ r x. parents r.commits x.head ≡ at.two ∷ id ∷ [])) at.scene at.dev_is
+      (merges.merged_parents at.s at.r at.bs two at.main_there at.one root
+      (between at.s at.r at.bs two at.main_there root at.one path entry forked strategy about) strategy about))
 
   pub fork_merged : (q : List ℕ) (value : Option EntryValue)
       → merged_value strategy None (cond (eq_by_cmp byte_order q path) (Some entry) None) (cond (eq_by_cmp byte_order q a) (Some outside) None) ≡ value
       → HasBranch (after lake (merge_entry (dev_head lake) strategy about)) quickstart main (λ r x. get (head_map r x) q ≡ value)
-  fork_merged q value is = moved (λ (l : State) (id : Digest). HasBranch (after l (merge_entry id strategy about)) quickstart main (λ r x. get (head_map r x) q ≡ value)) at.scene at.dev_is
-      (merges.merged_at at.s at.r at.bs two at.main_there at.one root (between at.s at.r at.bs two at.main_there root at.one path entry forked strategy about) strategy about q value
+  fork_merged q value is = moved (λ (l : State) (id : Digest).
+      HasBranch (after l (merge_entry id strategy about)) quickstart main (λ r x. get (head_map r x) q ≡ value)) at.scene at.dev_is
+      (merges.merged_at at.s at.r at.bs two at.main_there at.one root (between at.s at.r at.bs two at.main_there root at.one path entry forked strategy about)
+      strategy about q value
       (fork_draft at.s at.r at.bs two at.main_there root at.one path entry forked strategy about q ∙ is))
 
   -- where the first commit is expired it may be the base still
@@ -101,8 +112,13 @@ module _ (lake : State) (fork : Fork) (path : List ℕ) (entry : EntryValue) (at
   kept_beside = ap is_some (get_other {X = Unit {0}} at.r.expired root.0 tt at.one.0 (λ is. forked.differ.early (sym (one_id at.one root is)))) ∙ kept
 
   pub expired_base : is_refused strategy empty (insert empty path entry) (insert empty a outside) ≡ false
-      → IsMergeAdmissible (in_repository quickstart (with_expired root) lake) (dev_head lake) strategy about → Allows (in_repository quickstart (with_expired root) lake) (merge_entry (dev_head lake) strategy about)
-  expired_base settled admissible = moved (λ (l : State) (id : Digest). Allows l (merge_entry id strategy about)) (expired_scene lake fork path entry at root) at.dev_is
-      (may_fork at.s (with_expired root at.r) at.bs two at.main_there root at.one path entry forked strategy about at.running (let n = at.count in omega (arith, n))
-      (no_hooks at.s (with_expired root at.r) at.bs two at.main_there root at.one path entry forked strategy about at.free) (apply_nothing (map_of at.r at.two)) kept_beside settled
-      (moved (λ (l : State) (id : Digest). IsMergeAdmissible l id strategy about) (sym (expired_scene lake fork path entry at root)) (sym at.dev_is) admissible))
+      → IsMergeAdmissible (in_repository quickstart (with_expired root) lake) (dev_head lake) strategy about
+      → Allows (in_repository quickstart (with_expired root) lake) (merge_entry (dev_head lake) strategy about)
+  expired_base settled admissible =
+      moved (λ (l : State) (id : Digest). Allows l (merge_entry id strategy about)) (expired_scene lake fork path entry at root) at.dev_is
+      (may_fork at.s (with_expired root at.r) at.bs two at.main_there root at.one path entry forked strategy about at.running (let n = at.count in
+      omega (arith, n))
+      (no_hooks at.s (with_expired root at.r) at.bs two at.main_there root at.one path entry forked strategy about at.free)
+      (apply_nothing (map_of at.r at.two)) kept_beside settled
+      (moved (λ (l : State) (id : Digest). IsMergeAdmissible l id strategy about) (sym (expired_scene lake fork path entry at root))
+      (sym at.dev_is) admissible))

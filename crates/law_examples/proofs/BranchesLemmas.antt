@@ -15,7 +15,8 @@ use Rattle.lake_model.specs.Commits.{Draft, draft_on, record_of, with_commit, wi
 use Rattle.law_examples.specs.HistoryWords.{quickstart}
 
 -- what a map of one name has
-pub get_one : {X : Type 0} (name : List ℕ) (x : X) (q : List ℕ) → get (insert {R = byte_order} empty name x) q ≡ cond (eq_by_cmp byte_order q name) (Some x) None
+pub get_one : {X : Type 0} (name : List ℕ) (x : X) (q : List ℕ)
+    → get (insert {R = byte_order} empty name x) q ≡ cond (eq_by_cmp byte_order q name) (Some x) None
 get_one name x q = get-insert nat_list_cmp_total empty name x q ∙ ap (cond (eq_by_cmp byte_order q name) (Some x)) (get-empty byte_order q)
 
 -- what is put twice under a name stands there as the second
@@ -48,7 +49,8 @@ pub repo_there : (r : Repository) → get (insert {R = byte_order} empty quickst
 repo_there r = get_one quickstart r quickstart
 
 -- its repository after a change
-pub in_one : (f : Repository → Repository) (s : State) (r : Repository) → in_repository quickstart f (record s { repositories = insert empty quickstart r }) ≡ record s { repositories = insert empty quickstart (f r) }
+pub in_one : (f : Repository → Repository) (s : State) (r : Repository)
+    → in_repository quickstart f (record s { repositories = insert empty quickstart r }) ≡ record s { repositories = insert empty quickstart (f r) }
 in_one f s r = ap (λ (m : ByteMap Repository). record s { repositories = m }) (change_one quickstart f r refl)
 
 -- the id of a draft's commit, and the repository with it
@@ -74,7 +76,8 @@ module _ (s : State) (r : Repository) (bs : ByteMap Branch) (name : List ℕ) (b
   -- its head
   pub head_in : unwrap_or (option_map (λ (x : Branch). x.head) (branch_of (spread s r bs) quickstart name)) (record { 0 = [] }) ≡ b.head
   head_in =
-      ap (λ (o : Option Repository). unwrap_or (option_map (λ (x : Branch). x.head) (option_and_then (λ (x : Repository). get x.branches name) o)) (record { 0 = [] })) (repo_there (with_branches r bs))
+      ap (λ (o : Option Repository). unwrap_or (option_map (λ (x : Branch). x.head) (option_and_then (λ (x : Repository). get x.branches name) o))
+      (record { 0 = [] })) (repo_there (with_branches r bs))
       ∙ ap (λ (o : Option Branch). unwrap_or (option_map (λ (x : Branch). x.head) o) (record { 0 = [] })) there
 
   -- a branch after a change
@@ -89,5 +92,9 @@ module _ (s : State) (r : Repository) (bs : ByteMap Branch) (name : List ℕ) (b
       ≡ spread s (with_drafted s r (draft (with_branches r bs) b)) (insert bs name (with_head (drafted_id s r (draft (with_branches r bs) b)) b))
   in_draft draft =
       in_one (draft_on s.cut name draft) s (with_branches r bs)
-      ∙ ap (λ (o : Option Branch). record s { repositories = insert empty quickstart (option_map_or (λ (x : Branch). with_draft s.cut name (draft (with_branches r bs) x) (with_branches r bs)) o (with_branches r bs)) }) there
-      ∙ ap (λ (o : Option Branch). spread s (with_drafted s r (draft (with_branches r bs) b)) (option_map_or (λ (x : Branch). insert bs name (with_head (drafted_id s r (draft (with_branches r bs) b)) x)) o bs)) there
+      ∙ ap (λ (o : Option Branch). record s {
+        repositories = insert empty quickstart
+            (option_map_or (λ (x : Branch). with_draft s.cut name (draft (with_branches r bs) x) (with_branches r bs)) o (with_branches r bs));
+      }) there
+      ∙ ap (λ (o : Option Branch). spread s (with_drafted s r (draft (with_branches r bs) b))
+      (option_map_or (λ (x : Branch). insert bs name (with_head (drafted_id s r (draft (with_branches r bs) b)) x)) o bs)) there

@@ -31,7 +31,8 @@ module _ (s : State) (r : Repository) (bs : ByteMap Branch) (name : List ℕ) (b
   pub after_put : (path : List ℕ) (entry : EntryValue) → own_number entry.place ≡ None
       → after (spread s r bs) (entry_of (Stage quickstart name path (Put entry))) ≡ spread (counted s) r (insert bs name (with_staged path (Put entry) b))
   after_put path entry outside =
-      ap (λ (o : Option ℕ). record (in_branch quickstart name (with_staged path (Put entry)) (without_ticket o (spread s r bs))) { entries = s.entries + 1 }) outside
+      ap (λ (o : Option ℕ). record (in_branch quickstart name (with_staged path (Put entry)) (without_ticket o (spread s r bs))) { entries = s.entries + 1 })
+      outside
       ∙ ap counted (in_named s r bs name b there (with_staged path (Put entry)))
 
   pub after_seal : after (spread s r bs) (entry_of (Seal quickstart name seal.Commit)) ≡ spread (counted s) r (insert bs name (sealed_branch b))
@@ -42,7 +43,8 @@ abbrev pub change_draft : Repository → Digest → List ℕ → EntryValue → 
 change_draft r head path entry about = record { parents = head ∷ []; objects = apply (insert empty path (Put entry)) (map_of r head); about = about }
 
 -- a clean branch after a change that is committed
-module _ (s : State) (r : Repository) (bs : ByteMap Branch) (name : List ℕ) (head : Digest) (there : get bs name ≡ Some (clean_branch head)) (path : List ℕ) (entry : EntryValue) where
+module _ (s : State) (r : Repository) (bs : ByteMap Branch) (name : List ℕ) (head : Digest) (there : get bs name ≡ Some (clean_branch head)) (path : List ℕ)
+    (entry : EntryValue) where
   abbrev put : Branch
   put = with_staged path (Put entry) (clean_branch head)
 
@@ -53,12 +55,14 @@ module _ (s : State) (r : Repository) (bs : ByteMap Branch) (name : List ℕ) (h
   sealing = ap (λ (c : ChangesValue). record (clean_branch head) { sealed = c }) (over_one path (Put entry) empty)
 
   abbrev pub changed : AboutValue → State
-  changed about = spread (counted (counted (counted s))) (with_drafted s r (change_draft r head path entry about)) (insert bs name (clean_branch (drafted_id s r (change_draft r head path entry about))))
+  changed about = spread (counted (counted (counted s))) (with_drafted s r (change_draft r head path entry about))
+      (insert bs name (clean_branch (drafted_id s r (change_draft r head path entry about))))
 
   put_is : own_number entry.place ≡ None → after (spread s r bs) (entry_of (Stage quickstart name path (Put entry))) ≡ spread (counted s) r (insert bs name put)
   put_is outside = after_put s r bs name (clean_branch head) there path entry outside
 
-  seal_is : after (spread (counted s) r (insert bs name put)) (entry_of (Seal quickstart name seal.Commit)) ≡ spread (counted (counted s)) r (insert bs name ready)
+  seal_is :
+      after (spread (counted s) r (insert bs name put)) (entry_of (Seal quickstart name seal.Commit)) ≡ spread (counted (counted s)) r (insert bs name ready)
   seal_is =
       after_seal (counted s) r (insert bs name put) name put (get_put bs name put)
       ∙ ap (λ (m : ByteMap Branch). spread (counted (counted s)) r m) (put_again bs name put (sealed_branch put) ∙ ap (insert bs name) sealing)
@@ -69,13 +73,15 @@ module _ (s : State) (r : Repository) (bs : ByteMap Branch) (name : List ℕ) (h
   commit_is : (about : AboutValue) → after (spread (counted (counted s)) r (insert bs name ready)) (entry_of (Commit quickstart name about)) ≡ changed about
   commit_is about =
       ap counted (in_draft (counted (counted s)) r (insert bs name ready) name ready (get_put bs name ready) (λ x y. commit_draft x y about))
-      ∙ ap (λ (m : ByteMap Branch). spread (counted (counted (counted s))) (with_drafted s r (change_draft r head path entry about)) m) (put_again bs name ready (clean_branch (drafted_id s r (change_draft r head path entry about))))
+      ∙ ap (λ (m : ByteMap Branch). spread (counted (counted (counted s))) (with_drafted s r (change_draft r head path entry about)) m)
+      (put_again bs name ready (clean_branch (drafted_id s r (change_draft r head path entry about))))
 
   pub after_change : own_number entry.place ≡ None → (about : AboutValue) → replay (spread s r bs) (change_entries name path entry about) ≡ changed about
   after_change outside about = ap (λ (l : State). after l (entry_of (Commit quickstart name about))) (to_seal outside) ∙ commit_is about
 
   -- it is legal where the lake runs, nothing protects the branch and no hook is set, the path was free, and the commit is admissible
-  module _ (outside : own_number entry.place ≡ None) (about : AboutValue) (running : s.stopped ≡ false) (room : s.entries < 4194000) (unprotected : r.notes.protection ≡ None) (free : r.notes.hooks ≡ None) where
+  module _ (outside : own_number entry.place ≡ None) (about : AboutValue) (running : s.stopped ≡ false) (room : s.entries < 4194000)
+      (unprotected : r.notes.protection ≡ None) (free : r.notes.hooks ≡ None) where
     unguarded : IsUnprotected r name
     unguarded = ap (λ (x : Option (List (List ℕ))). protected_by x name) unprotected
 
@@ -97,23 +103,29 @@ module _ (s : State) (r : Repository) (bs : ByteMap Branch) (name : List ℕ) (h
     }
 
     sealed_has : get (sealed_map r ready) path ≡ Some entry
-    sealed_has = get_apply (insert empty path (Put entry)) (map_of r head) path ∙ ap (λ (o : Option Change). value_after o (get (map_of r head) path)) (get_put empty path (Put entry))
+    sealed_has = get_apply (insert empty path (Put entry)) (map_of r head) path
+        ∙ ap (λ (o : Option Change). value_after o (get (map_of r head) path)) (get_put empty path (Put entry))
 
-    may_commit : get (map_of r head) path ≡ None → HasBranch (spread (counted (counted s)) r (insert bs name ready)) quickstart name (λ x y. IsAdmissible (spread (counted (counted s)) r (insert bs name ready)) x (commit_draft x y about))
+    may_commit : get (map_of r head) path ≡ None → HasBranch (spread (counted (counted s)) r (insert bs name ready)) quickstart name
+        (λ x y. IsAdmissible (spread (counted (counted s)) r (insert bs name ready)) x (commit_draft x y about))
         → Allows (spread (counted (counted s)) r (insert bs name ready)) (entry_of (Commit quickstart name about))
     may_commit lacks admissible = record {
       running = running;
       room = omega (arith, room);
-      possible = on_branch (counted (counted s)) r (insert bs name ready) name ready (get_put bs name ready) (IsCommittable (spread (counted (counted s)) r (insert bs name ready)) name about) (record {
-        unprotected = unguarded;
-        changed = apart_at (sealed_map r ready) (map_of r head) path entry sealed_has lacks;
-        head = record {
-          allowed = ap (λ (x : Option (List HookRule)). denied_by x name (map_of r head) (commit_draft r ready about)) free;
-          admissible = the_branch (counted (counted s)) r (insert bs name ready) name ready (get_put bs name ready) (λ x y. IsAdmissible (spread (counted (counted s)) r (insert bs name ready)) x (commit_draft x y about)) admissible;
-        };
-      });
+      possible = on_branch (counted (counted s)) r (insert bs name ready) name ready (get_put bs name ready)
+          (IsCommittable (spread (counted (counted s)) r (insert bs name ready)) name about) (record {
+            unprotected = unguarded;
+            changed = apart_at (sealed_map r ready) (map_of r head) path entry sealed_has lacks;
+            head = record {
+              allowed = ap (λ (x : Option (List HookRule)). denied_by x name (map_of r head) (commit_draft r ready about)) free;
+              admissible = the_branch (counted (counted s)) r (insert bs name ready) name ready (get_put bs name ready)
+                  (λ x y. IsAdmissible (spread (counted (counted s)) r (insert bs name ready)) x (commit_draft x y about)) admissible;
+            };
+          });
     }
 
-    pub legal_change : get (map_of r head) path ≡ None → IsChangeAdmissible (spread s r bs) name path entry about → Leads (spread s r bs) (change_entries name path entry about) (changed about)
+    pub legal_change : get (map_of r head) path ≡ None → IsChangeAdmissible (spread s r bs) name path entry about
+        → Leads (spread s r bs) (change_entries name path entry about) (changed about)
     legal_change lacks admissible = leads_on (leads_on (leads_one may_put (put_is outside)) (leads_one may_seal seal_is))
-        (leads_one (may_commit lacks (subst (λ (l : State). HasBranch l quickstart name (λ x y. IsAdmissible l x (commit_draft x y about))) (to_seal outside) admissible)) (commit_is about))
+        (leads_one (may_commit lacks (subst (λ (l : State). HasBranch l quickstart name (λ x y. IsAdmissible l x (commit_draft x y about)))
+        (to_seal outside) admissible)) (commit_is about))

@@ -43,7 +43,8 @@ module _ (s : State) (r : Repository) (b : Branch) (about : AboutValue) where
   pub new_map : head_map with_new at_new ≡ sealed_map r b
   new_map = ap (λ (o : Option KeyMapValue). unwrap_or o empty) (get_put r.maps new_id.0 (sealed_map r b))
 
-  pub may_commit : s.stopped ≡ false → s.entries < 4194304 → r.notes.protection ≡ None → r.notes.hooks ≡ None → (sealed_map r b ≡ head_map r b → ⊥) → IsCommitAdmissible (scene s r b) about
+  pub may_commit : s.stopped ≡ false → s.entries < 4194304 → r.notes.protection ≡ None → r.notes.hooks ≡ None → (sealed_map r b ≡ head_map r b → ⊥)
+      → IsCommitAdmissible (scene s r b) about
       → Allows (scene s r b) (entry_of (Commit quickstart main about))
   may_commit running room unprotected unhooked changed admissible =
       may s r b 1 (Commit quickstart main about) running room
@@ -58,4 +59,5 @@ module _ (s : State) (r : Repository) (b : Branch) (about : AboutValue) where
 
 -- maps that differ at a path
 pub apart_at : (map other : KeyMapValue) (path : List ℕ) (entry : EntryValue) → get map path ≡ Some entry → get other path ≡ None → map ≡ other → ⊥
-apart_at map other path entry has lacks is = let e : get map path ≡ get other path = ap (λ (m : KeyMapValue). get m path) is in absurd (cc (sym has ∙ (e ∙ lacks)))
+apart_at map other path entry has lacks is = let e : get map path ≡ get other path = ap (λ (m : KeyMapValue). get m path) is in
+    absurd (cc (sym has ∙ (e ∙ lacks)))

@@ -49,8 +49,10 @@ module _ (cut : Cut) where
 
   pub nothing_others : (about : AboutValue) → IsCommitAdmissible (nothing.lake cut) about
       → HasBranch (nothing.lake cut) quickstart main (λ r b. IsUnprotected r main × MayBecomeHead (nothing.lake cut) main r b (commit_draft r b about))
-  nothing_others about admissible = subst (λ (l : State). HasBranch l quickstart main (λ r b. IsUnprotected r main × MayBecomeHead l main r b (commit_draft r b about))) (sym (nothing_lemmas.course cut).comes)
-      (on_main (λ r b. IsUnprotected r main × MayBecomeHead (nothing_lemmas.end cut) main r b (commit_draft r b about)) (counted (fresh cut)) r0 (first_branch cut) (
+  nothing_others about admissible = subst (λ (l : State).
+      HasBranch l quickstart main (λ r b. IsUnprotected r main × MayBecomeHead l main r b (commit_draft r b about))) (sym (nothing_lemmas.course cut).comes)
+      (on_main (λ r b. IsUnprotected r main × MayBecomeHead (nothing_lemmas.end cut) main r b (commit_draft r b about))
+      (counted (fresh cut)) r0 (first_branch cut) (
         refl,
         record {
           allowed = refl;
@@ -78,18 +80,22 @@ module _ (cut : Cut) where
 
   pub hook_refuses : (about : AboutValue) → Allows (limited_lake cut) (commit_entry about) → ⊥
   hook_refuses about = refuses_by (commit_entry about) hooked_scene (λ may.
-      let free = (the_main (IsCommittable (scene (counted (second_state cut)) hooked (a_sealed cut)) main about) (counted (second_state cut)) hooked (a_sealed cut) may.possible).head.allowed in
+      let free = (the_main (IsCommittable (scene (counted (second_state cut)) hooked (a_sealed cut)) main about)
+      (counted (second_state cut)) hooked (a_sealed cut) may.possible).head.allowed in
       let place : Bool → Option ℕ = λ t. position (λ (x : ℕ). t) (0 ∷ []) in
-      let denied : place (matches main main && ltb 0 (len changed)) ≡ Some 0 = ap (λ (t : Bool). place (t && ltb 0 (len changed))) main_itself ∙ ap place (some_len changed a (Put outside) a_changed) in
+      let denied : place (matches main main && ltb 0 (len changed)) ≡ Some 0 =
+      ap (λ (t : Bool). place (t && ltb 0 (len changed))) main_itself ∙ ap place (some_len changed a (Put outside) a_changed) in
       let none : place (matches main main && ltb 0 (len changed)) ≡ None = free in
       absurd (cc (sym denied ∙ none)))
 
 -- entries whose new commit isn't admissible
-pub repository_refused : (state : State) (repo branch : List ℕ) (date : ℕ) → (IsAdmissible state (bare_repository date branch) (first_draft date) → ⊥) → Allows state (entry_of (RepoCreate repo branch date)) → ⊥
+pub repository_refused : (state : State) (repo branch : List ℕ) (date : ℕ) → (IsAdmissible state (bare_repository date branch) (first_draft date) → ⊥)
+    → Allows state (entry_of (RepoCreate repo branch date)) → ⊥
 repository_refused state repo branch date none allowed = none allowed.possible.admissible
 
 pub commit_refused : (state : State) (about : AboutValue) → (IsCommitAdmissible state about → ⊥) → Allows state (commit_entry about) → ⊥
 commit_refused state about none allowed = let may = allowed.possible in none (may.0, may.1, (may.2.0, may.2.1, may.2.2.head.admissible))
 
-pub pick_refused : (state : State) (base source : Digest) (strategy : Strategy) (about : AboutValue) → (IsPickAdmissible state base source strategy about → ⊥) → Allows state (pick_entry base source strategy about) → ⊥
+pub pick_refused : (state : State) (base source : Digest) (strategy : Strategy) (about : AboutValue) → (IsPickAdmissible state base source strategy about → ⊥)
+    → Allows state (pick_entry base source strategy about) → ⊥
 pick_refused state base source strategy about none allowed = let may = allowed.possible in none (may.0, may.1, (may.2.0, may.2.1, may.2.2.head.admissible))

@@ -59,8 +59,10 @@ module _ (cut : Cut) (about other : AboutValue) where
   unfolding twice_committed_lake
   twice_scene =
       ap (λ (l : State). replay l (put_entry a larger_object ∷ seal_entry ∷ commit_entry other ∷ [])) (committed_scene cut about)
-      ∙ ap (λ (l : State). replay (counted l) (seal_entry ∷ commit_entry other ∷ [])) (in_main (with_staged a (Put larger_object)) (s cut about) (r1 cut about) (b1 cut about))
-      ∙ ap (λ (l : State). after l (commit_entry other)) (after_seal_of_one (counted (s cut about)) (r1 cut about) (with_staged a (Put larger_object) (b1 cut about)) 1 seal.Commit a (Put larger_object) refl)
+      ∙ ap (λ (l : State). replay (counted l) (seal_entry ∷ commit_entry other ∷ []))
+      (in_main (with_staged a (Put larger_object)) (s cut about) (r1 cut about) (b1 cut about))
+      ∙ ap (λ (l : State). after l (commit_entry other))
+      (after_seal_of_one (counted (s cut about)) (r1 cut about) (with_staged a (Put larger_object) (b1 cut about)) 1 seal.Commit a (Put larger_object) refl)
       ∙ after_committing s2 (r1 cut about) larger_sealed other
 
   last_is : last_commit cut about other ≡ k2
@@ -80,13 +82,16 @@ module _ (cut : Cut) (about other : AboutValue) where
     -- what the three maps have at `a`
     base_has : get (map_of r2 (k cut about)) a ≡ Some outside
     base_has =
-        ap (λ (o : Option KeyMapValue). get (unwrap_or o empty) a) (get_other (r1 cut about).maps k2.0 (sealed_map (r1 cut about) larger_sealed) (k cut about).0 (λ is. late (same_digest (k cut about) k2 is)))
+        ap (λ (o : Option KeyMapValue). get (unwrap_or o empty) a)
+        (get_other (r1 cut about).maps k2.0 (sealed_map (r1 cut about) larger_sealed) (k cut about).0 (λ is. late (same_digest (k cut about) k2 is)))
         ∙ ap (λ (m : KeyMapValue). get m a) (new_map (second_state cut) (r0 cut about) (a_sealed cut) about) ∙ has_a cut
 
     source_lacks : get (map_of r2 (first cut)) a ≡ None
     source_lacks =
-        ap (λ (o : Option KeyMapValue). get (unwrap_or o empty) a) (get_other (r1 cut about).maps k2.0 (sealed_map (r1 cut about) larger_sealed) (first cut).0 (λ is. ends (same_digest (first cut) k2 is)))
-        ∙ ap (λ (o : Option KeyMapValue). get (unwrap_or o empty) a) (get_other (r0 cut about).maps (k cut about).0 (sealed_map (r0 cut about) (a_sealed cut)) (first cut).0 (λ is. early (same_digest (first cut) (k cut about) is)))
+        ap (λ (o : Option KeyMapValue). get (unwrap_or o empty) a)
+        (get_other (r1 cut about).maps k2.0 (sealed_map (r1 cut about) larger_sealed) (first cut).0 (λ is. ends (same_digest (first cut) k2 is)))
+        ∙ ap (λ (o : Option KeyMapValue). get (unwrap_or o empty) a) (get_other (r0 cut about).maps (k cut about).0 (sealed_map (r0 cut about) (a_sealed cut))
+        (first cut).0 (λ is. early (same_digest (first cut) (k cut about) is)))
         ∙ ap (λ (m : KeyMapValue). get m a) (first_map cut (first cut)) ∙ no_entry a
 
     dest_has : get (head_map r2 b2) a ≡ Some larger_object
@@ -106,7 +111,8 @@ module _ (cut : Cut) (about other : AboutValue) where
         let moved : Allows (scene (counted s2) r2 b2) (pick_entry (k cut about) (first cut) Refuse third) =
         subst (λ (id : Digest). Allows (scene (counted s2) r2 b2) (pick_entry id (first cut) Refuse third)) (new_is cut about)
         (subst (λ (l : State). Allows l (pick_entry (new_commit cut about) (first cut) Refuse third)) twice_scene allowed) in
-        let settled = (the_main (IsPick (scene (counted s2) r2 b2) main (k cut about) (first cut) Refuse third) (counted s2) r2 b2 moved.possible).sides.settled in
+        let settled =
+        (the_main (IsPick (scene (counted s2) r2 b2) main (k cut about) (first cut) Refuse third) (counted s2) r2 b2 moved.possible).sides.settled in
         let refused = refused_to (map_of r2 (k cut about)) (map_of r2 (first cut)) (head_map r2 b2) Refuse (refl, (a, conflict)) in
         absurd (cc (sym settled ∙ refused))
 
@@ -137,5 +143,9 @@ module _ (cut : Cut) (about other : AboutValue) where
             changed = λ is. apart_at (map_of r2 (k cut about)) (map_of r2 (first cut)) a outside base_has source_lacks (sym is);
             settled = refl;
           };
-          head = record { allowed = refl; admissible = the_main (λ r x. IsAdmissible (scene (counted s2) r2 b2) r (pick_draft (k cut about) (first cut) SourceWins third r x)) (counted s2) r2 b2 of_k };
+          head = record {
+            allowed = refl;
+            admissible =
+                the_main (λ r x. IsAdmissible (scene (counted s2) r2 b2) r (pick_draft (k cut about) (first cut) SourceWins third r x)) (counted s2) r2 b2 of_k;
+          };
         }))))

@@ -13,7 +13,8 @@ use Rattle.lake_model.specs.State.{Branch, Repository, State, head_map, sealed_m
 use Rattle.lake_model.specs.History.{replay}
 use Rattle.lake_model.specs.Soundness.{fresh}
 use Rattle.law_examples.specs.HistoryWords.{quickstart, first, own, head_of, entry_of, commit_entry, IsCommitAdmissible}
-use Rattle.law_examples.specs.Days.{x, y, z, said_at, first_changes, lake_before_first, first_day, lake_of_first, second_changes, lake_before_second, second_day, lake_of_second, one_day, last_changes, lake, first_commit, second_commit}
+use Rattle.law_examples.specs.Days.{x, y, z, said_at, first_changes, lake_before_first, first_day, lake_of_first, second_changes, lake_before_second}
+use Rattle.law_examples.specs.Days.{second_day, lake_of_second, one_day, last_changes, lake, first_commit, second_commit}
 use Rattle.law_examples.proofs.SceneLemmas.{scene, of_main, counted, get_one, repo_there, in_quickstart, Leads, leads_one, leads_on, comes_more}
 use Rattle.law_examples.proofs.EntriesLemmas.{first_repository, may}
 use Rattle.law_examples.proofs.CommitsLemmas.{with_new, new_id, after_committing, new_map, may_commit, apart_at}
@@ -57,15 +58,18 @@ module _ (cut : Cut) (digest : Digest) where
 
   -- the map of its commit
   pub first_has : (q : List ℕ) → get (sealed_map r0 before_first) q ≡ value_after (get sealed_first q) None
-  first_has q = get_apply sealed_first (head_map r0 before_first) q ∙ ap (value_after (get sealed_first q)) (ap (λ (m : KeyMapValue). get m q) (first_map cut (first cut)) ∙ no_entry q)
+  first_has q = get_apply sealed_first (head_map r0 before_first) q
+      ∙ ap (value_after (get sealed_first q)) (ap (λ (m : KeyMapValue). get m q) (first_map cut (first cut)) ∙ no_entry q)
 
   pub x_in_first : get (sealed_map r0 before_first) x ≡ Some (own digest 0)
   x_in_first = first_has x ∙ simp (get_one x (Put (own digest 0)) x)
 
-  pub first_legal : IsCommitAdmissible (lake_before_first cut digest) (said_at 1000000) → Leads (fresh cut) (first_day digest) (scene (counted s1) r1 clean_first)
+  pub first_legal : IsCommitAdmissible (lake_before_first cut digest) (said_at 1000000)
+      → Leads (fresh cut) (first_day digest) (scene (counted s1) r1 clean_first)
   first_legal admissible = leads_on first_course (leads_one
       (may_commit s1 r0 before_first (said_at 1000000) refl (omega arith) refl refl
-      (apart_at (sealed_map r0 before_first) (head_map r0 before_first) x (own digest 0) x_in_first (ap (λ (m : KeyMapValue). get m x) (first_map cut (first cut)) ∙ no_entry x))
+      (apart_at (sealed_map r0 before_first)
+      (head_map r0 before_first) x (own digest 0) x_in_first (ap (λ (m : KeyMapValue). get m x) (first_map cut (first cut)) ∙ no_entry x))
       (subst (λ (l : State). IsCommitAdmissible l (said_at 1000000)) first_course.comes admissible))
       (after_committing s1 r0 before_first (said_at 1000000)))
 
@@ -89,7 +93,8 @@ module _ (cut : Cut) (digest : Digest) where
   clean_second = branch_with two empty empty
 
   second_course : Leads (scene (counted s1) r1 clean_first) (second_changes digest) (scene s2 r1 before_second)
-  second_course = leads_on (deletion (counted s1) r1 one refl (omega arith) refl x) (upload (counted (counted s1)) r1 one refl (omega arith) refl (insert empty x Delete) 1 y digest refl)
+  second_course = leads_on (deletion (counted s1) r1 one refl (omega arith) refl x)
+      (upload (counted (counted s1)) r1 one refl (omega arith) refl (insert empty x Delete) 1 y digest refl)
 
   pub second_end : lake_of_second cut digest ≡ scene (counted s2) r2 clean_second
   unfolding lake_of_second
@@ -114,11 +119,13 @@ module _ (cut : Cut) (digest : Digest) where
   no_y_in_first : get (head_map r1 before_second) y ≡ None
   no_y_in_first = ap (λ (m : KeyMapValue). get m y) (new_map s1 r0 before_first (said_at 1000000)) ∙ first_has y ∙ simp (get_one x (Put (own digest 0)) y)
 
-  pub second_legal : IsCommitAdmissible (lake_before_second cut digest) (said_at 1100000) → Leads (scene (counted s1) r1 clean_first) (second_day digest) (scene (counted s2) r2 clean_second)
+  pub second_legal : IsCommitAdmissible (lake_before_second cut digest) (said_at 1100000)
+      → Leads (scene (counted s1) r1 clean_first) (second_day digest) (scene (counted s2) r2 clean_second)
   second_legal admissible = leads_on second_course (leads_one
       (may_commit s2 r1 before_second (said_at 1100000) refl (omega arith) refl refl
       (apart_at (sealed_map r1 before_second) (head_map r1 before_second) y (own digest 1) y_in_second no_y_in_first)
-      (subst (λ (l : State). IsCommitAdmissible l (said_at 1100000)) (ap (λ (l : State). replay l (second_changes digest)) first_end ∙ second_course.comes) admissible))
+      (subst (λ (l : State). IsCommitAdmissible l (said_at 1100000))
+      (ap (λ (l : State). replay l (second_changes digest)) first_end ∙ second_course.comes) admissible))
       (after_committing s2 r1 before_second (said_at 1100000)))
 
   -- what comes after
@@ -140,7 +147,8 @@ module _ (cut : Cut) (digest : Digest) where
       (ap counted (in_quickstart keeping (out s3 3) r2 last))
 
   pub later_course : Leads (scene (counted s2) r2 clean_second) (last_changes digest) (scene end (keeping r2) last)
-  later_course = leads_on (upload (counted s2) r2 two refl (omega arith) refl empty 2 z digest refl) (leads_on (taking s3 r2 two refl (omega arith) refl empty 3 z digest refl last) noting)
+  later_course = leads_on (upload (counted s2) r2 two refl (omega arith) refl empty 2 z digest refl)
+      (leads_on (taking s3 r2 two refl (omega arith) refl empty 3 z digest refl last) noting)
 
   pub lake_end : lake cut digest ≡ scene end (keeping r2) last
   unfolding lake

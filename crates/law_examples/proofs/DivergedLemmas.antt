@@ -166,7 +166,8 @@ module _ (path : List ℕ) (entry : EntryValue) (outer : own_number entry.place 
   bs3 = insert bs2 main (clean_branch two)
 
   both : replay (fresh fork.cut) (fork_entries path entry fork) ≡ spread s3 r2 bs3
-  both = ap (λ (l : State). replay l (change_entries main a outside fork.of_main)) ahead ∙ after_change s2 r1 bs2 main root main_ahead a outside refl fork.of_main
+  both =
+      ap (λ (l : State). replay l (change_entries main a outside fork.of_main)) ahead ∙ after_change s2 r1 bs2 main root main_ahead a outside refl fork.of_main
 
   main_there : get bs3 main ≡ Some (clean_branch two)
   main_there = get_put bs2 main (clean_branch two)
@@ -195,7 +196,8 @@ module _ (path : List ℕ) (entry : EntryValue) (outer : own_number entry.place 
   }
 
   absent_in_first : (id : Digest) → (root ≡ id → ⊥) → commit_of r0.commits id ≡ None
-  absent_in_first id apart = get_other empty root.0 (record_of fork.cut empty (first_draft 0)) id.0 (λ is. apart (sym (one_id id root is))) ∙ get-empty byte_order id.0
+  absent_in_first id apart =
+      get_other empty root.0 (record_of fork.cut empty (first_draft 0)) id.0 (λ is. apart (sym (one_id id root is))) ∙ get-empty byte_order id.0
 
   module _ (early : root ≡ one → ⊥) where
     pub fork_ahead : IsFork r1.commits root
@@ -205,7 +207,8 @@ module _ (path : List ℕ) (entry : EntryValue) (outer : own_number entry.place 
     child_ahead = child_new r0.commits root root_alone one dev_record (absent_in_first one early) refl (due_two r0.commits root root_alone)
 
     pub base_ahead : map_of r1 root ≡ empty
-    base_ahead = ap (λ (o : Option KeyMapValue). unwrap_or o empty) (get_other r0.maps one.0 dev_draft.objects root.0 (λ is. early (one_id root one is))) ∙ first_map fork.cut root
+    base_ahead = ap (λ (o : Option KeyMapValue). unwrap_or o empty) (get_other r0.maps one.0 dev_draft.objects root.0 (λ is. early (one_id root one is)))
+        ∙ first_map fork.cut root
 
     pub source_ahead : map_of r1 one ≡ insert empty path entry
     source_ahead =
@@ -223,8 +226,10 @@ module _ (path : List ℕ) (entry : EntryValue) (outer : own_number entry.place 
       of_one = kept r1.commits root (fork_ahead apart.early) two main_record absent one (root ∷ []) 2 (child_ahead apart.early);
       of_two = child_new r1.commits root (fork_ahead apart.early) two main_record absent refl (due_two r1.commits root (fork_ahead apart.early));
       differ = apart;
-      base = ap (λ (o : Option KeyMapValue). unwrap_or o empty) (get_other r1.maps two.0 main_draft.objects root.0 (λ is. apart.ends (one_id root two is))) ∙ base_ahead apart.early;
-      source = ap (λ (o : Option KeyMapValue). unwrap_or o empty) (get_other r1.maps two.0 main_draft.objects one.0 (λ is. apart.late (one_id one two is))) ∙ source_ahead apart.early;
+      base = ap (λ (o : Option KeyMapValue). unwrap_or o empty) (get_other r1.maps two.0 main_draft.objects root.0 (λ is. apart.ends (one_id root two is)))
+          ∙ base_ahead apart.early;
+      source = ap (λ (o : Option KeyMapValue). unwrap_or o empty) (get_other r1.maps two.0 main_draft.objects one.0 (λ is. apart.late (one_id one two is)))
+          ∙ source_ahead apart.early;
       dest =
           ap (λ (o : Option KeyMapValue). unwrap_or o empty) (get_put r1.maps two.0 main_draft.objects)
           ∙ ap (apply (insert empty a (Put outside))) (base_ahead apart.early)
@@ -232,7 +237,8 @@ module _ (path : List ℕ) (entry : EntryValue) (outer : own_number entry.place 
     }
 
   three_are : three_commits fork.cut (replay (fresh fork.cut) (fork_entries path entry fork)) ≡ root ∷ one ∷ two ∷ []
-  three_are = ap (λ (d : Digest). root ∷ d ∷ head_of (replay (fresh fork.cut) (fork_entries path entry fork)) ∷ []) dev_is ∙ ap (λ (d : Digest). root ∷ one ∷ d ∷ []) main_is
+  three_are = ap (λ (d : Digest). root ∷ d ∷ head_of (replay (fresh fork.cut) (fork_entries path entry fork)) ∷ []) dev_is
+      ∙ ap (λ (d : Digest). root ∷ one ∷ d ∷ []) main_is
 
   pub differ_of : AreDistinct (three_commits fork.cut (replay (fresh fork.cut) (fork_entries path entry fork))) → Differ root one two
   differ_of distinct = in_pairs root one two (subst (AreDistinct {X = Digest}) three_are distinct)
@@ -243,7 +249,8 @@ module _ (path : List ℕ) (entry : EntryValue) (outer : own_number entry.place 
   -- a commit of the repository is one of the three
   one_of_three : (id : Digest) → HasCommit r2 id → Contains (three_commits fork.cut (replay (fresh fork.cut) (fork_entries path entry fork))) id
   one_of_three id there = subst (λ (l : List Digest). Contains l id) (sym three_are) (elim (stood r1.commits two.0 main_record id.0 there) [
-    | inl is ↦ subst (Contains (root ∷ one ∷ two ∷ [])) (sym (one_id id two is)) (Contains-later root two (one ∷ two ∷ []) (Contains-later one two (two ∷ []) (Contains-first two [])))
+    | inl is ↦ subst (Contains (root ∷ one ∷ two ∷ [])) (sym (one_id id two is))
+        (Contains-later root two (one ∷ two ∷ []) (Contains-later one two (two ∷ []) (Contains-first two [])))
     | inr old ↦ elim (stood r0.commits one.0 dev_record id.0 old) [
       | inl is ↦ subst (Contains (root ∷ one ∷ two ∷ [])) (sym (one_id id one is)) (Contains-later root one (one ∷ two ∷ []) (Contains-first one (two ∷ [])))
       | inr older ↦ elim (stood empty root.0 (record_of fork.cut empty (first_draft 0)) id.0 older) [

@@ -28,11 +28,13 @@ use Rattle.law_examples.proofs.NamingLemmas.{empty_puts_none, named_committed, n
 use Rattle.law_examples.proofs.GraphsLemmas.{AreDatedBy, dated_empty, dated_more}
 use Rattle.law_examples.proofs.InsertsLemmas.{get_other, same_digest, stands, stood}
 use Rattle.law_examples.proofs.KeepingLemmas.{keeping}
-use Rattle.law_examples.proofs.DaysLemmas.{r0, before_first, x_in_first, r1, r2, one, two, end, last, sealed_first, sealed_second, sealed_last, second_has, y_in_second}
+use Rattle.law_examples.proofs.DaysLemmas.{r0, before_first, x_in_first, r1, r2, one, two, end, last, sealed_first, sealed_second, sealed_last, second_has}
+use Rattle.law_examples.proofs.DaysLemmas.{y_in_second}
 
 -- a change of a path that was put with this number, before one that was deleted
 puts : (by bx : Bool) (digest : Digest) (entry : EntryValue)
-    → value_after (cond by (Some (Put (own digest 1))) (cond bx (Some Delete) None)) (value_after (cond bx (Some (Put (own digest 0))) None) None) ≡ Some entry → own_number entry.place ≡ Some 0 → ⊥
+    → value_after (cond by (Some (Put (own digest 1))) (cond bx (Some Delete) None)) (value_after (cond bx (Some (Put (own digest 0))) None) None) ≡ Some entry
+    → own_number entry.place ≡ Some 0 → ⊥
 puts true bx digest entry is names =
     let n : ◌≡◌ {A = Option ℕ} (Some 1) (own_number entry.place) = ap (λ (o : Option EntryValue). own_number (unwrap_or o entry).place) is in
     let e : ◌≡◌ {A = ℕ} 1 0 = ap (λ (o : Option ℕ). unwrap_or o 5) (n ∙ names) in absurd (omega (arith, e))
@@ -56,13 +58,18 @@ module _ (cut : Cut) (digest : Digest) where
   graph1 = (r1 cut digest).commits
 
   pub dated : AreDatedBy 1100000 r.commits
-  dated = dated_more 1100000 graph1 k2 _ (omega arith) (dated_more 1100000 commits0 k1 _ (omega arith) (dated_more 1100000 empty (first cut) (record_of cut empty (first_draft 0)) (omega arith) (dated_empty 1100000)))
+  dated = dated_more 1100000 graph1 k2 _ (omega arith) (dated_more 1100000 commits0 k1 _ (omega arith)
+      (dated_more 1100000 empty (first cut) (record_of cut empty (first_draft 0)) (omega arith) (dated_empty 1100000)))
 
   not_expired : (id : Digest) → is_expired r id ≡ false
   not_expired id = ap is_some (get-empty {X = Unit {0}} byte_order id.0)
 
   pub live_first : HasLiveCommit r (first cut)
-  live_first = (stands graph1 k2.0 _ (first cut).0 (stands commits0 k1.0 _ (first cut).0 (ap is_some (get_put empty (first cut).0 (record_of cut empty (first_draft 0))))), not_expired (first cut))
+  live_first = (
+    stands graph1 k2.0 _ (first cut).0
+        (stands commits0 k1.0 _ (first cut).0 (ap is_some (get_put empty (first cut).0 (record_of cut empty (first_draft 0))))),
+    not_expired (first cut),
+  )
 
   pub live_one : HasLiveCommit r k1
   live_one = (stands graph1 k2.0 _ k1.0 (ap is_some (get_put commits0 k1.0 _)), not_expired k1)
@@ -84,7 +91,8 @@ module _ (cut : Cut) (digest : Digest) where
   map_two = ap (λ (o : Option KeyMapValue). unwrap_or o empty) (get_put (r1 cut digest).maps k2.0 _)
 
   map_one : (k1 ≡ k2 → ⊥) → map_of r k1 ≡ sealed_map (r0 cut digest) (before_first cut digest)
-  map_one apart = ap (λ (o : Option KeyMapValue). unwrap_or o empty) (get_other (r1 cut digest).maps k2.0 _ k1.0 (λ is. apart (same_digest k1 k2 is)) ∙ get_put (r0 cut digest).maps k1.0 _)
+  map_one apart = ap (λ (o : Option KeyMapValue). unwrap_or o empty)
+      (get_other (r1 cut digest).maps k2.0 _ k1.0 (λ is. apart (same_digest k1 k2 is)) ∙ get_put (r0 cut digest).maps k1.0 _)
 
   pub zero_named : (k1 ≡ k2 → ⊥) → IsNamed (scene (end cut digest) r (last cut digest)) 0
   zero_named apart = named_committed (end cut digest) r (last cut digest) 0 k1 live_one
@@ -112,7 +120,8 @@ module _ (cut : Cut) (digest : Digest) where
   pub live_two : (first cut ≡ k2 → ⊥) → (k1 ≡ k2 → ⊥) → HasLiveCommit left k2
   live_two ends late = (
     ap is_some (get_put graph1 k2.0 _),
-    ap is_some (get_other _ (first cut).0 tt k2.0 (λ is. ends (sym (same_digest k2 (first cut) is))) ∙ (get_other empty k1.0 tt k2.0 (λ is. late (sym (same_digest k2 k1 is))) ∙ get-empty byte_order k2.0)),
+    ap is_some (get_other _ (first cut).0 tt k2.0 (λ is. ends (sym (same_digest k2 (first cut) is)))
+        ∙ (get_other empty k1.0 tt k2.0 (λ is. late (sym (same_digest k2 k1 is))) ∙ get-empty byte_order k2.0)),
   )
 
   pub one_named : (first cut ≡ k2 → ⊥) → (k1 ≡ k2 → ⊥) → IsNamed (scene (counted (end cut digest)) left (last cut digest)) 1
@@ -120,7 +129,8 @@ module _ (cut : Cut) (digest : Digest) where
       (record { path = y; entry = own digest 1; stands = ap (λ (m : KeyMapValue). get m y) map_two ∙ y_in_second cut digest; names = refl })
 
   pub two_named : IsNamed (scene (counted (end cut digest)) left (last cut digest)) 2
-  two_named = named_sealed (counted (end cut digest)) left (last cut digest) 2 (record { path = z; change = Put (own digest 2); stands = get_one z (Put (own digest 2)) z; names = refl })
+  two_named = named_sealed (counted (end cut digest)) left (last cut digest) 2
+      (record { path = z; change = Put (own digest 2); stands = get_one z (Put (own digest 2)) z; names = refl })
 
   pub three_named : IsNamed (scene (counted (end cut digest)) left (last cut digest)) 3
   three_named = inr (ap is_some (get-insert nat_cmp_total _ 3 1 3))
@@ -140,14 +150,18 @@ module _ (cut : Cut) (digest : Digest) where
           let n = sym (ap put_number same) ∙ put.names in
           let e : ◌≡◌ {A = ℕ} 2 0 = ap (λ (o : Option ℕ). unwrap_or o 5) n in absurd (omega (arith, e))
 
-      found : (q : List ℕ) → get (map_of left k2) q ≡ value_after (cond (eq_by_cmp byte_order q y) (Some (Put (own digest 1))) (cond (eq_by_cmp byte_order q x) (Some Delete) None)) (value_after (cond (eq_by_cmp byte_order q x) (Some (Put (own digest 0))) None) None)
+      found : (q : List ℕ) → get (map_of left k2) q ≡ value_after (cond (eq_by_cmp byte_order q y) (Some (Put (own digest 1)))
+          (cond (eq_by_cmp byte_order q x) (Some Delete) None)) (value_after (cond (eq_by_cmp byte_order q x) (Some (Put (own digest 0))) None) None)
       found q =
           ap (λ (m : KeyMapValue). get m q) map_two
           ∙ second_has cut digest q
-          ∙ ap (λ (o : Option Change). value_after o (value_after (get (sealed_first cut digest) q) None)) (get-insert nat_list_cmp_total (insert empty x Delete) y (Put (own digest 1)) q ∙ ap (cond (eq_by_cmp byte_order q y) (Some (Put (own digest 1)))) (get_one x Delete q))
-          ∙ ap (λ (o : Option Change). value_after (cond (eq_by_cmp byte_order q y) (Some (Put (own digest 1))) (cond (eq_by_cmp byte_order q x) (Some Delete) None)) (value_after o None)) (get_one x (Put (own digest 0)) q)
+          ∙ ap (λ (o : Option Change). value_after o (value_after (get (sealed_first cut digest) q) None)) (get-insert nat_list_cmp_total
+          (insert empty x Delete) y (Put (own digest 1)) q ∙ ap (cond (eq_by_cmp byte_order q y) (Some (Put (own digest 1)))) (get_one x Delete q))
+          ∙ ap (λ (o : Option Change). value_after (cond (eq_by_cmp byte_order q y) (Some (Put (own digest 1)))
+          (cond (eq_by_cmp byte_order q x) (Some Delete) None)) (value_after o None)) (get_one x (Put (own digest 0)) q)
 
       uncommitted : (id : Digest) → HasLiveCommit left id → IsInMap (map_of left id) 0 → ⊥
       uncommitted id live has =
-          let there : get (map_of left k2) has.path ≡ Some has.entry = subst (λ (k : Digest). get (map_of left k) has.path ≡ Some has.entry) (only_two id live) has.stands in
+          let there : get (map_of left k2) has.path ≡ Some has.entry =
+          subst (λ (k : Digest). get (map_of left k) has.path ≡ Some has.entry) (only_two id live) has.stands in
           puts (eq_by_cmp byte_order has.path y) (eq_by_cmp byte_order has.path x) digest has.entry (sym (found has.path) ∙ there) has.names

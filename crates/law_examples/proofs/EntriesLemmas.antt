@@ -45,7 +45,8 @@ module _ (s : State) (r : Repository) (b : Branch) where
   may seat operation running room possible = record { running = running; room = room; possible = possible }
 
   -- an outside object, or a deletion, is staged
-  pub after_put_outside : (path : List ℕ) → after (scene s r b) (entry_of (Stage quickstart main path (Put outside))) ≡ scene (counted s) r (with_staged path (Put outside) b)
+  pub after_put_outside : (path : List ℕ)
+      → after (scene s r b) (entry_of (Stage quickstart main path (Put outside))) ≡ scene (counted s) r (with_staged path (Put outside) b)
   after_put_outside path = ap counted (in_main (with_staged path (Put outside)) s r b)
 
   pub after_deletion : (path : List ℕ) → after (scene s r b) (entry_of (Stage quickstart main path Delete)) ≡ scene (counted s) r (with_staged path Delete b)
@@ -64,7 +65,8 @@ module _ (s : State) (r : Repository) (b : Branch) where
   pub after_empty_seal : (seat : ℕ) (why : SealFor) → b.staged ≡ empty → after (scene s r b) (entry_by seat (Seal quickstart main why)) ≡ scene (counted s) r b
   after_empty_seal seat why none =
       after_sealing seat why
-      ∙ ap (λ (x : ChangesValue). scene (counted s) r (record b { sealed = x; staged = empty })) (ap (λ (x : ChangesValue). over x b.sealed) none ∙ over_nothing b.sealed)
+      ∙ ap (λ (x : ChangesValue). scene (counted s) r (record b { sealed = x; staged = empty }))
+      (ap (λ (x : ChangesValue). over x b.sealed) none ∙ over_nothing b.sealed)
       ∙ ap (λ (x : ChangesValue). scene (counted s) r (record b { staged = x })) (sym none)
 
   -- where one change was staged, a seal puts it into the sealed ones
@@ -72,4 +74,5 @@ module _ (s : State) (r : Repository) (b : Branch) where
       → after (scene s r b) (entry_by seat (Seal quickstart main why)) ≡ scene (counted s) r (record b { sealed = insert b.sealed path change; staged = empty })
   after_seal_of_one seat why path change one =
       after_sealing seat why
-      ∙ ap (λ (x : ChangesValue). scene (counted s) r (record b { sealed = x; staged = empty })) (ap (λ (x : ChangesValue). over x b.sealed) one ∙ over_one path change b.sealed)
+      ∙ ap (λ (x : ChangesValue). scene (counted s) r (record b { sealed = x; staged = empty }))
+      (ap (λ (x : ChangesValue). over x b.sealed) one ∙ over_one path change b.sealed)

@@ -12,7 +12,8 @@ use Rattle.lake_model.specs.Naming.{IsGarbage, IsNamed}
 use Rattle.lake_model.specs.Removal.{IsExpirable, IsKeptIn, MayExpire}
 use Rattle.lake_model.specs.Soundness.{fresh}
 use Rattle.law_examples.specs.HistoryWords.{quickstart, first, IsCommitAdmissible}
-use Rattle.law_examples.specs.Days.{AreApart, commit, condemn_entry, entries, expire_entry, first_commit, lake, lake_after, lake_before_first, lake_before_second, older_commits, said_at, second_commit}
+use Rattle.law_examples.specs.Days.{AreApart, commit, condemn_entry, entries, expire_entry, first_commit, lake, lake_after, lake_before_first}
+use Rattle.law_examples.specs.Days.{lake_before_second, older_commits, said_at, second_commit}
 use Rattle.law_examples.proofs.SceneLemmas.{scene, of_main, counted, Leads, leads_one, leads_on}
 use Rattle.law_examples.proofs.EntriesLemmas.{may}
 use Rattle.law_examples.proofs.MapsLemmas.{get_put}
@@ -54,16 +55,20 @@ module _ (cut : Cut) (digest : Digest) where
 
   pub not_head : Allows (lake cut digest) (expire_entry (commit (first_commit cut digest) ∷ commit (first cut) ∷ commit (second_commit cut digest) ∷ [])) → ⊥
   not_head allowed =
-      let can : IsExpirable (lake cut digest) 1300000 (commit (second_commit cut digest)) = (allowed.possible.all (commit (second_commit cut digest))).0 (2, omega arith, refl) in
+      let can : IsExpirable (lake cut digest) 1300000 (commit (second_commit cut digest)) =
+      (allowed.possible.all (commit (second_commit cut digest))).0 (2, omega arith, refl) in
       head_stays (end cut digest) (r2 cut digest) (last cut digest) refl
-      (subst (λ (id : Digest). IsExpirable at_end 1300000 (commit id)) (second_is cut digest) (subst (λ (l : State). IsExpirable l 1300000 (commit (second_commit cut digest))) (lake_end cut digest) can))
+      (subst (λ (id : Digest). IsExpirable at_end 1300000 (commit id)) (second_is cut digest)
+      (subst (λ (l : State). IsExpirable l 1300000 (commit (second_commit cut digest))) (lake_end cut digest) can))
 
   -- what is no commit can't expire
   pub not_other : (id : Digest) → (first cut ≡ id → ⊥) → (first_commit cut digest ≡ id → ⊥) → (second_commit cut digest ≡ id → ⊥)
       → Allows (lake cut digest) (expire_entry (commit (first_commit cut digest) ∷ commit (first cut) ∷ commit id ∷ [])) → ⊥
   not_other id not_first not_one not_two allowed =
-      let can : IsExpirable at_end 1300000 (commit id) = subst (λ (l : State). IsExpirable l 1300000 (commit id)) (lake_end cut digest) ((allowed.possible.all (commit id)).0 (2, omega arith, refl)) in
-      let same : can.repository ≡ of_main (keeping (r2 cut digest)) (last cut digest) = only_one quickstart (of_main (keeping (r2 cut digest)) (last cut digest)) quickstart can.repository can.stands in
+      let can : IsExpirable at_end 1300000 (commit id) =
+      subst (λ (l : State). IsExpirable l 1300000 (commit id)) (lake_end cut digest) ((allowed.possible.all (commit id)).0 (2, omega arith, refl)) in
+      let same : can.repository ≡ of_main (keeping (r2 cut digest)) (last cut digest) =
+      only_one quickstart (of_main (keeping (r2 cut digest)) (last cut digest)) quickstart can.repository can.stands in
       let live : HasLiveCommit (keeping (r2 cut digest)) id = subst (λ (r : Repository). HasLiveCommit r id) same can.live in
       elim (only cut digest id live) [
         | inl is ↦ not_first (sym is)
@@ -76,8 +81,10 @@ module _ (cut : Cut) (digest : Digest) where
   -- what is expired can't expire again
   pub not_again : Allows (lake_after cut digest) (expire_entry (commit (first cut) ∷ [])) → ⊥
   not_again allowed =
-      let can : IsExpirable expired_end 1300000 (commit (first cut)) = subst (λ (l : State). IsExpirable l 1300000 (commit (first cut))) after_is ((allowed.possible.all (commit (first cut))).0 (0, omega arith, refl)) in
-      let same : can.repository ≡ of_main (left cut digest) (last cut digest) = only_one quickstart (of_main (left cut digest) (last cut digest)) quickstart can.repository can.stands in
+      let can : IsExpirable expired_end 1300000 (commit (first cut)) =
+      subst (λ (l : State). IsExpirable l 1300000 (commit (first cut))) after_is ((allowed.possible.all (commit (first cut))).0 (0, omega arith, refl)) in
+      let same : can.repository ≡ of_main (left cut digest) (last cut digest) =
+      only_one quickstart (of_main (left cut digest) (last cut digest)) quickstart can.repository can.stands in
       let kept : is_expired (left cut digest) (first cut) ≡ false = subst (λ (r : Repository). is_expired r (first cut) ≡ false) same can.live.1 in
       let lost : is_expired (left cut digest) (first cut) ≡ true = ap is_some (get_put _ (first cut).0 tt) in
       absurd (cc (sym kept ∙ lost))
@@ -85,10 +92,13 @@ module _ (cut : Cut) (digest : Digest) where
   -- and the head is kept
   head_left : (one_of : RepositoryCommit) → IsExpirable expired_end 1300000 one_of → ⊥
   head_left one_of can =
-      let same : can.repository ≡ of_main (left cut digest) (last cut digest) = only_one quickstart (of_main (left cut digest) (last cut digest)) one_of.repo can.repository can.stands in
+      let same : can.repository ≡ of_main (left cut digest) (last cut digest) =
+      only_one quickstart (of_main (left cut digest) (last cut digest)) one_of.repo can.repository can.stands in
       let live : HasLiveCommit (left cut digest) one_of.commit = subst (λ (r : Repository). HasLiveCommit r one_of.commit) same can.live in
-      let unkept : IsKeptIn (of_main (left cut digest) (last cut digest)) 1300000 one_of.commit → ⊥ = subst (λ (r : Repository). IsKeptIn r 1300000 one_of.commit → ⊥) same can.unkept in
-      unkept (subst (IsKeptIn (of_main (left cut digest) (last cut digest)) 1300000) (sym (only_two cut digest one_of.commit live)) (head_kept (r2 cut digest) (last cut digest) refl))
+      let unkept : IsKeptIn (of_main (left cut digest) (last cut digest)) 1300000 one_of.commit → ⊥ =
+      subst (λ (r : Repository). IsKeptIn r 1300000 one_of.commit → ⊥) same can.unkept in
+      unkept (subst (IsKeptIn (of_main (left cut digest) (last cut digest)) 1300000) (sym (only_two cut digest one_of.commit live))
+      (head_kept (r2 cut digest) (last cut digest) refl))
 
   pub none_left : Allows (lake_after cut digest) (expire_entry [])
   none_left = subst (λ (l : State). Allows l (expire_entry [])) (sym after_is)
@@ -127,7 +137,10 @@ module _ (cut : Cut) (digest : Digest) where
 
     may_expire : MayExpire at_end 1300000 (listed (one cut digest))
     may_expire = record {
-      distinct = (λ has. early (ap (λ (c : RepositoryCommit). c.commit) (only_element (commit (first cut)) (commit (one cut digest)) has)), (λ has. absurd (omega (arith, has.1)), tt));
+      distinct = (
+        λ has. early (ap (λ (c : RepositoryCommit). c.commit) (only_element (commit (first cut)) (commit (one cut digest)) has)),
+        (λ has. absurd (omega (arith, has.1)), tt),
+      );
       all = λ one_of. (
         can_expire one_of,
         expirable_listed (end cut digest) (r2 cut digest) (last cut digest) refl (dated cut digest) (first cut) (one cut digest)
@@ -144,9 +157,13 @@ module _ (cut : Cut) (digest : Digest) where
 
     pub one_left : Allows (lake cut digest) (expire_entry (commit (first_commit cut digest) ∷ [])) → ⊥
     one_left allows =
-        let can : IsExpirable (lake cut digest) 1300000 (commit (first cut)) = subst (λ (l : State). IsExpirable l 1300000 (commit (first cut))) (sym (lake_end cut digest)) (can_expire (commit (first cut)) (1, omega arith, refl)) in
-        apart.early (sym (ap (λ (c : RepositoryCommit). c.commit) (only_element (commit (first_commit cut digest)) (commit (first cut)) ((allows.possible.all (commit (first cut))).1 can))))
+        let can : IsExpirable (lake cut digest) 1300000 (commit (first cut)) = subst (λ (l : State). IsExpirable l 1300000 (commit (first cut)))
+        (sym (lake_end cut digest)) (can_expire (commit (first cut)) (1, omega arith, refl)) in
+        apart.early (sym (ap (λ (c : RepositoryCommit). c.commit)
+        (only_element (commit (first_commit cut digest)) (commit (first cut)) ((allows.possible.all (commit (first cut))).1 can))))
 
-    pub legal : IsCommitAdmissible (lake_before_first cut digest) (said_at 1000000) → IsCommitAdmissible (lake_before_second cut digest) (said_at 1100000) → IsLegal (fresh cut) (entries cut digest)
+    pub legal : IsCommitAdmissible (lake_before_first cut digest) (said_at 1000000) → IsCommitAdmissible (lake_before_second cut digest) (said_at 1100000)
+        → IsLegal (fresh cut) (entries cut digest)
     legal first_admissible second_admissible =
-        (leads_on (first_legal cut digest first_admissible) (leads_on (second_legal cut digest second_admissible) (leads_on (later_course cut digest) (leads_on (leads_one end_allows after_older) condemning_course)))).legal
+        (leads_on (first_legal cut digest first_admissible) (leads_on (second_legal cut digest second_admissible)
+        (leads_on (later_course cut digest) (leads_on (leads_one end_allows after_older) condemning_course)))).legal

@@ -5,7 +5,8 @@ use Rattle.std.specs.Option.{unwrap_or}
 use Rattle.std.specs.List.{Contains}
 use Rattle.std.specs.FinMap.{insert}
 use Rattle.lake_base.specs.declared.digest.Digest.{Digest}
-use Rattle.lake_values.specs.Ancestry.{Graph, IsGraph, IsDue, IsAncestor, Reaches, base, comes_first, commit_of, due_generation, generation, parents, parents_in}
+use Rattle.lake_values.specs.Ancestry.{Graph, IsGraph, IsDue, IsAncestor, Reaches, base, comes_first, commit_of, due_generation, generation, parents}
+use Rattle.lake_values.specs.Ancestry.{parents_in}
 use Rattle.lake_values.specs.Commit.{CommitRecordValue}
 use Rattle.lake_values.proofs.AncestryLemmas.{one_id}
 use Rattle.lake_values.proofs.AncestryOrderLemmas.{base_some, not_before_itself}
@@ -57,14 +58,16 @@ module _ (g : Graph) (first : Digest) (fork : IsFork g first) where
   -- one child more
   module _ (k : Digest) (c : CommitRecordValue) (absent : commit_of g k ≡ None) where
     pub kept : (id : Digest) (ids : List Digest) (count : ℕ) → Stands g id ids count → Stands (insert g k.0 c) id ids count
-    kept id ids count old = in_other g (insert g k.0 c) id ids count (get_other g k.0 c id.0 (λ is. clash (ap is_some (ap (commit_of g) (one_id id k is) ∙ absent)))) old
+    kept id ids count old =
+        in_other g (insert g k.0 c) id ids count (get_other g k.0 c id.0 (λ is. clash (ap is_some (ap (commit_of g) (one_id id k is) ∙ absent)))) old
       where
         clash : is_some (commit_of g id) ≡ is_some {T = CommitRecordValue} None → ⊥
         clash none = let there = old.there in absurd (cc (sym there ∙ none))
 
     module _ (from : c.parents ≡ first ∷ []) (counted : c.generation ≡ 2) where
       pub child_new : IsChild (insert g k.0 c) first k
-      child_new = let stands = by_record (insert g k.0 c) k c (get_put g k.0 c) in record { there = stands.there; from = stands.from ∙ from; counted = stands.counted ∙ counted }
+      child_new = let stands = by_record (insert g k.0 c) k c (get_put g k.0 c) in
+          record { there = stands.there; from = stands.from ∙ from; counted = stands.counted ∙ counted }
 
       pub fork_more : IsFork (insert g k.0 c) first
       fork_more = record {
@@ -83,7 +86,8 @@ module _ (g : Graph) (first : Digest) (fork : IsFork g first) where
       counted = fork.root.counted ∙ sym (ap (due_generation g) fork.root.from);
     })
     | inr child ↦ record {
-      whole = λ parent within. subst (λ (d : Digest). IsSome (commit_of g d)) (the_one first parent (subst (λ (l : List Digest). Contains l parent) child.from within)) fork.root.there;
+      whole = λ parent within. subst (λ (d : Digest). IsSome (commit_of g d))
+          (the_one first parent (subst (λ (l : List Digest). Contains l parent) child.from within)) fork.root.there;
       counted = child.counted ∙ sym due_two ∙ sym (ap (due_generation g) child.from);
     }
   ]
@@ -98,7 +102,8 @@ module _ (g : Graph) (first : Digest) (fork : IsFork g first) where
   unfolding Reaches
   from_child id child zero old way = inl way
   from_child id child (suc n) old (parent, within, way) =
-      inr (from_root n old (subst (λ (d : Digest). Reaches g n d old) (sym (the_one first parent (subst (λ (l : List Digest). Contains l parent) child.from within))) way))
+      inr (from_root n old
+      (subst (λ (d : Digest). Reaches g n d old) (sym (the_one first parent (subst (λ (l : List Digest). Contains l parent) child.from within))) way))
 
   of_itself : IsAncestor g first first
   unfolding Reaches
@@ -109,7 +114,8 @@ module _ (g : Graph) (first : Digest) (fork : IsFork g first) where
   of_child id child = (fork.root.there, (1, (first, subst (λ (l : List Digest). Contains l first) (sym child.from) (Contains-first first []), refl)))
 
   -- where no other commit is an ancestor of both, the first one is the base
-  only_base : (x y : Digest) → IsAncestor g first x → IsAncestor g first y → ((old : Digest) → IsAncestor g old x → IsAncestor g old y → first ≡ old) → base g x y ≡ Some first
+  only_base : (x y : Digest) → IsAncestor g first x → IsAncestor g first y → ((old : Digest) → IsAncestor g old x → IsAncestor g old y → first ≡ old)
+      → base g x y ≡ Some first
   only_base x y left right only = base_some g graph x y first (record {
     common = (left, right);
     first = λ other both. subst (λ (d : Digest). comes_first g d first ≡ false) (only other both.0 both.1) (not_before_itself g first);

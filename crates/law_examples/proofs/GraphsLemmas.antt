@@ -18,12 +18,15 @@ AreDatedBy most graph = (id : Digest) → date graph id ≤ most
 
 pub dated_empty : (most : ℕ) → AreDatedBy most empty
 unfolding date
-dated_empty most id = let e : unwrap_or (option_map (λ (c : CommitRecordValue). c.date) (get {R = byte_order} empty id.0)) 0 ≡ 0 = ap (λ (o : Option CommitRecordValue). unwrap_or (option_map (λ (c : CommitRecordValue). c.date) o) 0) (get-empty byte_order id.0) in omega (arith, e)
+dated_empty most id = let e : unwrap_or (option_map (λ (c : CommitRecordValue). c.date) (get {R = byte_order} empty id.0)) 0 ≡ 0 =
+    ap (λ (o : Option CommitRecordValue). unwrap_or (option_map (λ (c : CommitRecordValue). c.date) o) 0) (get-empty byte_order id.0) in omega (arith, e)
 
-pub dated_more : (most : ℕ) (graph : Graph) (new : Digest) (c : CommitRecordValue) → c.date ≤ most → AreDatedBy most graph → AreDatedBy most (insert graph new.0 c)
+pub dated_more : (most : ℕ) (graph : Graph) (new : Digest) (c : CommitRecordValue) → c.date ≤ most → AreDatedBy most graph
+    → AreDatedBy most (insert graph new.0 c)
 unfolding date
 dated_more most graph new c dated before id =
-    let e = ap (λ (o : Option CommitRecordValue). unwrap_or (option_map (λ (c : CommitRecordValue). c.date) o) 0) (get-insert nat_list_cmp_total graph new.0 c id.0) in
+    let e =
+    ap (λ (o : Option CommitRecordValue). unwrap_or (option_map (λ (c : CommitRecordValue). c.date) o) 0) (get-insert nat_list_cmp_total graph new.0 c id.0) in
     subst (λ n. n ≤ most) (sym e) (by (eq_by_cmp byte_order id.0 new.0))
   where
     by : (b : Bool) → unwrap_or (option_map (λ (c : CommitRecordValue). c.date) (cond b (Some c) (get graph id.0))) 0 ≤ most

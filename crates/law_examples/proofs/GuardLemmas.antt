@@ -35,7 +35,8 @@ module _ (cut : Cut) where
       (on_main (λ r b. Unit {0}) (fresh cut) (first_repository cut) (first_branch cut) tt))
       (after_empty_seal (fresh cut) (first_repository cut) (first_branch cut) 2 seal.Other refl)
 
-  second_entry : Leads (scene (counted (fresh cut)) (first_repository cut) (first_branch cut)) (put_entry a outside ∷ []) (scene (counted (counted (fresh cut))) (first_repository cut) with_object)
+  second_entry : Leads (scene (counted (fresh cut)) (first_repository cut) (first_branch cut)) (put_entry a outside ∷ [])
+      (scene (counted (counted (fresh cut))) (first_repository cut) with_object)
   second_entry = leads_one
       (may (counted (fresh cut)) (first_repository cut) (first_branch cut) 1 (Stage quickstart main a (Put outside)) refl (omega arith)
       (on_main (λ r b. IsUnprotected r main) (counted (fresh cut)) (first_repository cut) (first_branch cut) refl, tt))

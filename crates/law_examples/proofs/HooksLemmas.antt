@@ -54,25 +54,29 @@ module _ (count : ℕ) (fork : Fork) (about : AboutValue) (distinct : AreDistinc
 
   -- the merge changes one path of `main`
   one_change : differences objects (map_of at.r at.two) ≡ insert empty b (Put outside)
-  one_change = merged_changes objects (map_of at.r at.two) (fork_draft (counted at.s) hooked at.bs main_branch at.main_there root at.one b outside sides Refuse about) sides.dest
+  one_change = merged_changes objects (map_of at.r at.two)
+      (fork_draft (counted at.s) hooked at.bs main_branch at.main_there root at.one b outside sides Refuse about) sides.dest
 
   -- what the hook says of it
   abbrev place : Bool → Option ℕ
   place t = position (λ (x : ℕ). t) (0 ∷ [])
 
-  told : denied_by hooked.notes.hooks main (map_of at.r at.two) (draft (counted at.s) hooked at.bs main_branch at.main_there root at.one b outside sides Refuse about) ≡ place (ltb count 1)
+  told : denied_by hooked.notes.hooks main (map_of at.r at.two)
+      (draft (counted at.s) hooked at.bs main_branch at.main_there root at.one b outside sides Refuse about) ≡ place (ltb count 1)
   told =
       ap (λ (t : Bool). place (t && ltb count (len (differences objects (map_of at.r at.two))))) main_itself
       ∙ ap (λ (n : ℕ). place (ltb count n)) (ap (λ (c : ChangesValue). len c) one_change ∙ len_one b (Put outside))
 
   pub hook_refuses : ltb count 1 ≡ true → Allows (hooked_lake count fork) (merge_entry (dev_head (diverged_lake fork)) Refuse about) → ⊥
   hook_refuses above allowed =
-      let free = merges.free_of (counted at.s) hooked at.bs main_branch at.main_there at.one root (between (counted at.s) hooked at.bs main_branch at.main_there root at.one b outside sides Refuse about) Refuse about
+      let free = merges.free_of (counted at.s) hooked at.bs main_branch at.main_there at.one root
+      (between (counted at.s) hooked at.bs main_branch at.main_there root at.one b outside sides Refuse about) Refuse about
       (moved (λ (l : State) (id : Digest). Allows l (merge_entry id Refuse about)) (sym hooked_scene) (sym at.dev_is) allowed) in
       let denied = told ∙ ap place above in
       absurd (cc (sym denied ∙ free))
 
-  pub hook_allows : ltb count 1 ≡ false → IsMergeAdmissible (hooked_lake count fork) (dev_head (diverged_lake fork)) Refuse about → Allows (hooked_lake count fork) (merge_entry (dev_head (diverged_lake fork)) Refuse about)
+  pub hook_allows : ltb count 1 ≡ false → IsMergeAdmissible (hooked_lake count fork) (dev_head (diverged_lake fork)) Refuse about
+      → Allows (hooked_lake count fork) (merge_entry (dev_head (diverged_lake fork)) Refuse about)
   hook_allows within admissible = moved (λ (l : State) (id : Digest). Allows l (merge_entry id Refuse about)) hooked_scene at.dev_is
       (may_fork (counted at.s) hooked at.bs main_branch at.main_there root at.one b outside sides Refuse about at.running (let n = at.count in omega (arith, n))
       (told ∙ ap place within) (apply_nothing (map_of at.r at.two)) (kept (diverged_lake fork) fork b outside at Refuse about distinct) settled_apart

@@ -59,7 +59,8 @@ module _ (r : Repository) (b : Branch) (untagged : r.tags ≡ empty) where
       (subst (λ (x : List (List ℕ × Digest)). IsKeptBy r.commits x (tagged_of here) (Some rules) 1300000 id) heads kept))
 
   pub head_kept : IsKeptIn here 1300000 b.head
-  head_kept = subst (λ (x : List (List ℕ × Digest)). IsKeptBy r.commits x (tagged_of here) (Some rules) 1300000 b.head) (sym heads) (inl (main, (0, omega arith, refl)))
+  head_kept =
+      subst (λ (x : List (List ℕ × Digest)). IsKeptBy r.commits x (tagged_of here) (Some rules) 1300000 b.head) (sym heads) (inl (main, (0, omega arith, refl)))
 
 -- the head can't expire
 pub head_stays : (s : State) (r : Repository) (b : Branch) → r.tags ≡ empty → IsExpirable (scene s (keeping r) b) 1300000 (commit b.head) → ⊥
@@ -87,9 +88,11 @@ module _ (s : State) (r : Repository) (b : Branch) (untagged : r.tags ≡ empty)
   ]
 
   the_commit : (one : RepositoryCommit) (id : Digest) → one.repo ≡ quickstart → one.commit ≡ id → commit id ≡ one
-  the_commit one id repo is = ap (λ (x : Digest). record { repo = quickstart; commit = x }) (sym is) ∙ ap (λ (x : List ℕ). record { repo = x; commit = one.commit }) (sym repo)
+  the_commit one id repo is =
+      ap (λ (x : Digest). record { repo = quickstart; commit = x }) (sym is) ∙ ap (λ (x : List ℕ). record { repo = x; commit = one.commit }) (sym repo)
 
-  in_quickstart_alone : (one : RepositoryCommit) → IsSome (get (insert {R = byte_order} empty quickstart (of_main (keeping r) b)) one.repo) → one.repo ≡ quickstart
+  in_quickstart_alone : (one : RepositoryCommit) → IsSome (get (insert {R = byte_order} empty quickstart (of_main (keeping r) b)) one.repo)
+      → one.repo ≡ quickstart
   in_quickstart_alone one there = elim (stood empty quickstart (of_main (keeping r) b) one.repo there) [
     | inl is ↦ is
     | inr in_empty ↦ absurd (cc (sym (ap is_some (get-empty {X = Repository} byte_order one.repo)) ∙ in_empty))
@@ -113,4 +116,5 @@ module _ (s : State) (r : Repository) (b : Branch) (untagged : r.tags ≡ empty)
 pub after_expiring : (s : State) (r : Repository) (b : Branch) (early late : Digest)
     → after (scene s r b) (expire_entry (commit late ∷ commit early ∷ [])) ≡ scene (counted s) (with_expired early (with_expired late r)) b
 after_expiring s r b early late =
-    ap counted (ap (in_repository quickstart (with_expired early)) (in_quickstart (with_expired late) s r b) ∙ in_quickstart (with_expired early) s (with_expired late r) b)
+    ap counted (ap (in_repository quickstart (with_expired early)) (in_quickstart (with_expired late) s r b)
+    ∙ in_quickstart (with_expired early) s (with_expired late r) b)

@@ -22,10 +22,12 @@ use Rattle.law_examples.proofs.EntriesLemmas.{first_repository, first_branch}
 use Rattle.law_examples.proofs.StaysStagedLemmas.{a_sealed, second_state, to_seal}
 
 -- what the repository of a lake has
-pub on_quickstart : (P : Repository → Type 0) (s : State) (r : Repository) → P r → HasRepository (record s { repositories = insert empty quickstart r }) quickstart P
+pub on_quickstart : (P : Repository → Type 0) (s : State) (r : Repository) → P r
+    → HasRepository (record s { repositories = insert empty quickstart r }) quickstart P
 on_quickstart P s r p = (r, repo_there r, p)
 
-pub the_quickstart : (P : Repository → Type 0) (s : State) (r : Repository) → HasRepository (record s { repositories = insert empty quickstart r }) quickstart P → P r
+pub the_quickstart : (P : Repository → Type 0) (s : State) (r : Repository)
+    → HasRepository (record s { repositories = insert empty quickstart r }) quickstart P → P r
 the_quickstart P s r has = let same : has.0 ≡ r = cc (sym has.1 ∙ repo_there r) in subst P same has.2
 
 -- a lake that is another allows what that one does

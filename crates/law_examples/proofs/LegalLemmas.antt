@@ -15,7 +15,8 @@ use Rattle.lake_model.specs.Uncommitted.{own_number}
 use Rattle.law_examples.specs.HistoryWords.{main, first, outside}
 use Rattle.law_examples.specs.RefusedLakes.{a, b}
 use Rattle.law_examples.specs.Picks.{larger_object}
-use Rattle.law_examples.specs.Merges.{AreChangesAdmissible, Fork, IsChangeAdmissible, branch_entry, change_entries, dev, diverged_lake, fork_entries, rival_lake, three_commits}
+use Rattle.law_examples.specs.Merges.{AreChangesAdmissible, Fork, IsChangeAdmissible, branch_entry, change_entries, dev, diverged_lake, fork_entries}
+use Rattle.law_examples.specs.Merges.{rival_lake, three_commits}
 use Rattle.law_examples.proofs.BranchesLemmas.{get_one, repo_there, spread}
 use Rattle.law_examples.proofs.EntriesLemmas.{first_branch}
 use Rattle.law_examples.proofs.MapsLemmas.{first_map, get_put, no_entry}
@@ -41,7 +42,11 @@ module _ (path : List ℕ) (entry : EntryValue) (outer : own_number entry.place 
   may_branch = record {
     running = refl;
     room = omega arith;
-    possible = (r0 path entry outer fork, repo_there (r0 path entry outer fork), record { fresh = get_one main (first_branch fork.cut) dev; plain = refl; live = root_live });
+    possible = (
+      r0 path entry outer fork,
+      repo_there (r0 path entry outer fork),
+      record { fresh = get_one main (first_branch fork.cut) dev; plain = refl; live = root_live },
+    );
   }
 
   begins : Leads (fresh fork.cut) (branch_entry fork.cut ∷ []) beginning
@@ -49,22 +54,26 @@ module _ (path : List ℕ) (entry : EntryValue) (outer : own_number entry.place 
 
   module _ (early : first fork.cut ≡ one path entry outer fork → ⊥) (admissible : AreChangesAdmissible path entry fork) where
     advances : Leads beginning (change_entries dev path entry fork.of_dev) advanced
-    advances = legal_change (s1 path entry outer fork) (r0 path entry outer fork) (bs1 path entry outer fork) dev (first fork.cut) (get_put _ dev (clean_branch (first fork.cut))) path entry outer fork.of_dev refl (omega arith) refl refl
+    advances = legal_change (s1 path entry outer fork) (r0 path entry outer fork) (bs1 path entry outer fork) dev (first fork.cut)
+        (get_put _ dev (clean_branch (first fork.cut))) path entry outer fork.of_dev refl (omega arith) refl refl
         (ap (λ (m : KeyMapValue). get m path) (first_map fork.cut (first fork.cut)) ∙ no_entry path)
         (subst (λ (l : State). IsChangeAdmissible l dev path entry fork.of_dev) (branched path entry outer fork) admissible.0)
 
     diverges : Leads advanced (change_entries main a outside fork.of_main) end
-    diverges = legal_change (s2 path entry outer fork) (r1 path entry outer fork) (bs2 path entry outer fork) main (first fork.cut) (main_ahead path entry outer fork) a outside refl fork.of_main refl (omega arith) refl refl
+    diverges = legal_change (s2 path entry outer fork) (r1 path entry outer fork) (bs2 path entry outer fork) main (first fork.cut)
+        (main_ahead path entry outer fork) a outside refl fork.of_main refl (omega arith) refl refl
         (ap (λ (m : KeyMapValue). get m a) (base_ahead path entry outer fork early) ∙ no_entry a)
         (subst (λ (l : State). IsChangeAdmissible l main a outside fork.of_main) (ahead path entry outer fork) admissible.1)
 
     legal_fork : IsLegal (fresh fork.cut) (fork_entries path entry fork)
     legal_fork = (leads_on begins (leads_on advances diverges)).legal
 
-pub legal_diverged : (fork : Fork) → AreDistinct (three_commits fork.cut (diverged_lake fork)) → AreChangesAdmissible b outside fork → IsLegal (fresh fork.cut) (fork_entries b outside fork)
+pub legal_diverged : (fork : Fork) → AreDistinct (three_commits fork.cut (diverged_lake fork)) → AreChangesAdmissible b outside fork
+    → IsLegal (fresh fork.cut) (fork_entries b outside fork)
 unfolding diverged_lake
 legal_diverged fork distinct = legal_fork b outside refl fork (differ_of b outside refl fork distinct).early
 
-pub legal_rival : (fork : Fork) → AreDistinct (three_commits fork.cut (rival_lake fork)) → AreChangesAdmissible a larger_object fork → IsLegal (fresh fork.cut) (fork_entries a larger_object fork)
+pub legal_rival : (fork : Fork) → AreDistinct (three_commits fork.cut (rival_lake fork)) → AreChangesAdmissible a larger_object fork
+    → IsLegal (fresh fork.cut) (fork_entries a larger_object fork)
 unfolding rival_lake
 legal_rival fork distinct = legal_fork a larger_object refl fork (differ_of a larger_object refl fork distinct).early

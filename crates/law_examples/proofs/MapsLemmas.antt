@@ -46,7 +46,8 @@ first_map cut id = ap (λ (o : Option KeyMapValue). unwrap_or o empty) (get_one 
     either false = refl
 
 -- what stands at a path after sealed changes, and after staged ones too
-pub get_now : (staged sealed : ChangesValue) (map : KeyMapValue) (q : List ℕ) → get (apply staged (apply sealed map)) q ≡ value_after (get staged q) (value_after (get sealed q) (get map q))
+pub get_now : (staged sealed : ChangesValue) (map : KeyMapValue) (q : List ℕ)
+    → get (apply staged (apply sealed map)) q ≡ value_after (get staged q) (value_after (get sealed q) (get map q))
 get_now staged sealed map q = get_apply staged (apply sealed map) q ∙ ap (value_after (get staged q)) (get_apply sealed map q)
 
 pub read_scene : (s : State) (r : Repository) (b : Branch) (path : List ℕ)
@@ -74,6 +75,7 @@ delete_nothing path = same _ _ (λ q.
     either false = refl
 
 -- where what is sealed leaves the head's map, nothing is committed
-pub nothing_to_commit : (state : State) (about : AboutValue) → HasBranch state quickstart main (λ r b. sealed_map r b ≡ head_map r b) → MayCommit state quickstart main about → ⊥
+pub nothing_to_commit : (state : State) (about : AboutValue) → HasBranch state quickstart main (λ r b. sealed_map r b ≡ head_map r b)
+    → MayCommit state quickstart main about → ⊥
 nothing_to_commit state about same may =
     never_both (λ r b. sealed_map r b ≡ head_map r b) (IsCommittable state main about) state quickstart main (λ r b is possible. possible.changed is) same may

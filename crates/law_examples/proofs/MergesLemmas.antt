@@ -27,7 +27,8 @@ use Rattle.law_examples.proofs.ForksLemmas.{by_record}
 pub moved : {lake other : State} {id same : Digest} (P : State → Digest → Type 0) → lake ≡ other → id ≡ same → P other same → P lake id
 moved {lake = lake} {other = other} {id = id} {same = same} P e f p = subst (λ (l : State). P l id) (sym e) (subst (λ (d : Digest). P other d) (sym f) p)
 
-module _ (s : State) (r : Repository) (bs : ByteMap Branch) (m : Branch) (there : get bs main ≡ Some m) (source root : Digest) (based : base r.commits m.head source ≡ Some root) (strategy : Strategy) (about : AboutValue) where
+module _ (s : State) (r : Repository) (bs : ByteMap Branch) (m : Branch) (there : get bs main ≡ Some m) (source root : Digest)
+    (based : base r.commits m.head source ≡ Some root) (strategy : Strategy) (about : AboutValue) where
   abbrev pub draft : Draft
   draft = merge_draft source strategy about (with_branches r bs) m
 
@@ -40,7 +41,8 @@ module _ (s : State) (r : Repository) (bs : ByteMap Branch) (m : Branch) (there 
   no_hooks none = ap (λ (x : Option (List HookRule)). denied_by x main (head_map r m) draft) none
 
   -- what the merge asks, of a lake that runs
-  pub may_merge : s.stopped ≡ false → s.entries < 4194304 → denied_by r.notes.hooks main (head_map r m) draft ≡ None → sealed_map r m ≡ head_map r m → HasLiveCommit r source → (map_of r source ≡ map_of r root → ⊥)
+  pub may_merge : s.stopped ≡ false → s.entries < 4194304 → denied_by r.notes.hooks main (head_map r m) draft ≡ None → sealed_map r m ≡ head_map r m
+      → HasLiveCommit r source → (map_of r source ≡ map_of r root → ⊥)
       → is_refused strategy (map_of r root) (map_of r source) (head_map r m) ≡ false → IsMergeAdmissible (spread s r bs) source strategy about
       → Allows (spread s r bs) (merge_entry source strategy about)
   may_merge running room free clean live changed settled admissible = record {
@@ -83,20 +85,24 @@ module _ (s : State) (r : Repository) (bs : ByteMap Branch) (m : Branch) (there 
   after_merging : after (spread s r bs) (merge_entry source strategy about) ≡ spread (counted s) (with_drafted s r draft) (insert bs main new_branch)
   after_merging = ap counted (in_draft s r bs main m there (merge_draft source strategy about))
 
-  in_merged : (P : Repository → Branch → Type 0) → P (with_branches (with_drafted s r draft) (insert bs main new_branch)) new_branch → HasBranch (after (spread s r bs) (merge_entry source strategy about)) quickstart main P
+  in_merged : (P : Repository → Branch → Type 0) → P (with_branches (with_drafted s r draft) (insert bs main new_branch)) new_branch
+      → HasBranch (after (spread s r bs) (merge_entry source strategy about)) quickstart main P
   in_merged P p = subst (λ (l : State). HasBranch l quickstart main P) (sym after_merging)
       (on_branch (counted s) (with_drafted s r draft) (insert bs main new_branch) main new_branch (get_put bs main new_branch) P p)
 
   -- what the merged map has at a path
-  pub get_draft : (path : List ℕ) → get draft.objects path ≡ merged_value strategy (get (map_of r root) path) (get (map_of r source) path) (get (head_map r m) path)
-  get_draft path = ap (λ (x : KeyMapValue). get (merged_map strategy x (map_of r source) (head_map r m)) path) base_is ∙ get_merged strategy (map_of r root) (map_of r source) (head_map r m) path
+  pub get_draft : (path : List ℕ)
+      → get draft.objects path ≡ merged_value strategy (get (map_of r root) path) (get (map_of r source) path) (get (head_map r m) path)
+  get_draft path = ap (λ (x : KeyMapValue). get (merged_map strategy x (map_of r source) (head_map r m)) path) base_is
+      ∙ get_merged strategy (map_of r root) (map_of r source) (head_map r m) path
 
   pub merged_at : (path : List ℕ) (value : Option EntryValue) → get draft.objects path ≡ value
       → HasBranch (after (spread s r bs) (merge_entry source strategy about)) quickstart main (λ x y. get (head_map x y) path ≡ value)
   merged_at path value is = in_merged (λ x y. get (head_map x y) path ≡ value)
       (ap (λ (o : Option KeyMapValue). get (unwrap_or o empty) path) (get_put r.maps new_id.0 draft.objects) ∙ is)
 
-  pub merged_parents : HasBranch (after (spread s r bs) (merge_entry source strategy about)) quickstart main (λ x y. parents x.commits y.head ≡ m.head ∷ source ∷ [])
+  pub merged_parents :
+      HasBranch (after (spread s r bs) (merge_entry source strategy about)) quickstart main (λ x y. parents x.commits y.head ≡ m.head ∷ source ∷ [])
   merged_parents = in_merged (λ x y. parents x.commits y.head ≡ m.head ∷ source ∷ [])
       (by_record (with_drafted s r draft).commits new_id (record_of s.cut r.commits draft) (get_put r.commits new_id.0 (record_of s.cut r.commits draft))).from
 

@@ -23,7 +23,8 @@ use Rattle.law_examples.proofs.EntriesLemmas.{first_repository, first_branch, ma
 use Rattle.law_examples.proofs.MapsLemmas.{get_put}
 use Rattle.lake_base.proofs.MapsLemmas.{same_key, tied}
 use Rattle.lake_values.specs.Ancestry.{id_of}
-use Rattle.law_examples.proofs.LakesLemmas.{on_quickstart, the_quickstart, allows_by, refuses_by, tagged, tagged_scene, expired, expired_scene, with_notes, mail_matches}
+use Rattle.law_examples.proofs.LakesLemmas.{on_quickstart, the_quickstart, allows_by, refuses_by, tagged, tagged_scene, expired, expired_scene, with_notes}
+use Rattle.law_examples.proofs.LakesLemmas.{mail_matches}
 
 -- names that differ
 absent : {X : Type 0} (name : List ℕ) (x : X) (q : List ℕ) → eq_by_cmp byte_order q name ≡ false → get (insert {R = byte_order} empty name x) q ≡ None
@@ -52,9 +53,11 @@ module _ (cut : Cut) where
   first_live = (first_there, ap is_some (get-empty byte_order (first cut).0))
 
   same_first : (id : Digest) → IsSome (commit_of r0.commits id) → first cut ≡ id
-  same_first id there = by (eq_by_cmp byte_order id.0 (first cut).0) refl (sym (ap is_some (get_one (first cut).0 (record_of cut empty (first_draft 0)) id.0)) ∙ there)
+  same_first id there =
+      by (eq_by_cmp byte_order id.0 (first cut).0) refl (sym (ap is_some (get_one (first cut).0 (record_of cut empty (first_draft 0)) id.0)) ∙ there)
     where
-      by : (b : Bool) → eq_by_cmp byte_order id.0 (first cut).0 ≡ b → is_some {T = CommitRecordValue} (cond b (Some (record_of cut empty (first_draft 0))) None) ≡ true → first cut ≡ id
+      by : (b : Bool) → eq_by_cmp byte_order id.0 (first cut).0 ≡ b
+          → is_some {T = CommitRecordValue} (cond b (Some (record_of cut empty (first_draft 0))) None) ≡ true → first cut ≡ id
       by true tie is = sym (ap id_of (same_key id.0 (first cut).0 (tied (byte_order id.0 (first cut).0) tie)))
       by false tie is = absurd cc
 
@@ -76,7 +79,8 @@ module _ (cut : Cut) where
   pub second_tag : Allows (tagged_lake cut) (entry_of (TagCreate quickstart two (first cut)))
   second_tag = allows_by (entry_of (TagCreate quickstart two (first cut))) (tagged_scene cut)
       (may (counted (fresh cut)) (tagged cut) b0 1 (TagCreate quickstart two (first cut)) refl (omega arith)
-      (on_quickstart (MayName two (first cut)) (counted (fresh cut)) (of_main (tagged cut) b0) (record { fresh = absent one (first cut) two refl; plain = refl; live = first_live })))
+      (on_quickstart (MayName two (first cut)) (counted (fresh cut)) (of_main (tagged cut) b0)
+      (record { fresh = absent one (first cut) two refl; plain = refl; live = first_live })))
 
   pub same_tag : Allows (tagged_lake cut) (entry_of (TagCreate quickstart one (first cut))) → ⊥
   same_tag = refuses_by (entry_of (TagCreate quickstart one (first cut))) (tagged_scene cut) (λ may.
@@ -155,12 +159,14 @@ module _ (cut : Cut) where
   })
 
   pub main_stays : Allows (branched_lake cut) (entry_of (BranchDelete quickstart main)) → ⊥
-  main_stays = refuses_by (entry_of (BranchDelete quickstart main)) branched_scene (λ may. (the_quickstart _ (counted (fresh cut)) branched may.possible).2.other refl)
+  main_stays =
+      refuses_by (entry_of (BranchDelete quickstart main)) branched_scene (λ may. (the_quickstart _ (counted (fresh cut)) branched may.possible).2.other refl)
 
   pub protected_stays : Allows (after (branched_lake cut) protect_entry) (entry_of (BranchDelete quickstart mail)) → ⊥
   protected_stays = refuses_by (entry_of (BranchDelete quickstart mail))
       (ap (λ (x : State). after x protect_entry) branched_scene
-      ∙ ap (λ (m : ByteMap Repository). record (counted (counted (fresh cut))) { repositories = m }) (change_one quickstart (with_notes ma_protected name.Protection) branched refl))
+      ∙ ap (λ (m : ByteMap Repository). record (counted (counted (fresh cut))) { repositories = m })
+      (change_one quickstart (with_notes ma_protected name.Protection) branched refl))
       (λ may.
       let free = (the_quickstart _ (counted (counted (fresh cut))) (with_notes ma_protected name.Protection branched) may.possible).2.unprotected in
       absurd (cc (sym mail_matches ∙ free)))

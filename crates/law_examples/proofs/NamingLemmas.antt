@@ -25,9 +25,11 @@ empty_puts_none changes number none put = let no : get changes put.path ≡ None
 
 module _ (s : State) (r : Repository) (b : Branch) (number : ℕ) where
   -- a number that nothing has isn't named
-  pub unnamed : ((id : Digest) → HasLiveCommit r id → IsInMap (map_of r id) number → ⊥) → (IsPut b.sealed number → ⊥) → (IsPut b.staged number → ⊥) → get s.tickets number ≡ None
+  pub unnamed : ((id : Digest) → HasLiveCommit r id → IsInMap (map_of r id) number → ⊥) → (IsPut b.sealed number → ⊥) → (IsPut b.staged number → ⊥)
+      → get s.tickets number ≡ None
       → IsNamed (scene s r b) number → ⊥
-  unnamed none_committed none_sealed none_staged no_ticket (inl named) = by_repository named.repository (only_one quickstart (of_main r b) named.name named.repository named.stands) named.names
+  unnamed none_committed none_sealed none_staged no_ticket (inl named) =
+      by_repository named.repository (only_one quickstart (of_main r b) named.name named.repository named.stands) named.names
     where
       by_branch : (x : Branch) → x ≡ b → IsPut x.sealed number ⊎ IsPut x.staged number → ⊥
       by_branch x is (inl put) = none_sealed (subst (λ (x : Branch). IsPut x.sealed number) is put)

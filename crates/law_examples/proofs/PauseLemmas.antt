@@ -68,7 +68,8 @@ module _ (cut : Cut) (digest : Digest) where
       ∙ after_expiring before r b (first cut) (one cut digest)
 
   -- what a pick of the first day's commit is made from is handed out
-  pub handed : (given : VersionsGiven) → IsOk (prepare_reply (quiet_lake cut digest) given quickstart main (Some (sides.Pick (first cut) (first_commit cut digest))))
+  pub handed : (given : VersionsGiven)
+      → IsOk (prepare_reply (quiet_lake cut digest) given quickstart main (Some (sides.Pick (first cut) (first_commit cut digest))))
   handed given =
       let at = ap (λ (s : State). prepare_reply s given quickstart main (Some (sides.Pick (first cut) (first_commit cut digest)))) quiet_is
       ∙ ap (λ (id : Digest). prepare_reply quiet given quickstart main (Some (sides.Pick (first cut) id))) (first_is cut digest) in
@@ -82,9 +83,11 @@ module _ (cut : Cut) (digest : Digest) where
 
       told : prepare_reply quiet given quickstart main pick ≡ Ok (preparation quiet given quickstart main pick (of_main r b) b)
       told =
-          ap (λ (o : Option Repository). option_map_or (λ (q : Repository). option_map_or (answer q) (get q.branches main) (Err NoRef)) o (Err NoRepo)) (repo_there (of_main r b))
+          ap (λ (o : Option Repository). option_map_or (λ (q : Repository). option_map_or (answer q) (get q.branches main) (Err NoRef)) o (Err NoRepo))
+          (repo_there (of_main r b))
           ∙ ap (λ (o : Option Branch). option_map_or (answer (of_main r b)) o (Err NoRef)) (main_there b)
-          ∙ ap (λ (t : Bool). unless_refused (cond t (Some (Expired (one cut digest))) None) (preparation quiet given quickstart main pick (of_main r b) b)) (live_one cut digest).1
+          ∙ ap (λ (t : Bool). unless_refused (cond t (Some (Expired (one cut digest))) None) (preparation quiet given quickstart main pick (of_main r b) b))
+          (live_one cut digest).1
 
   -- it may expire
   pub expires : AreApart cut digest → Allows (quiet_lake cut digest) (expire_entry (older_commits cut digest))
@@ -92,7 +95,10 @@ module _ (cut : Cut) (digest : Digest) where
       subst (λ (l : State). Allows l (expire_entry (older_commits cut digest))) (sym quiet_is)
       (subst (λ (id : Digest). Allows quiet (expire_entry (commit id ∷ commit (first cut) ∷ []))) (sym (first_is cut digest))
       (may before r b 1 (operation.Expire 1300000 (commit (one cut digest) ∷ commit (first cut) ∷ [])) refl (omega arith) (record {
-        distinct = (λ has. early (ap (λ (c : RepositoryCommit). c.commit) (only_element (commit (first cut)) (commit (one cut digest)) has)), (λ has. absurd (omega (arith, has.1)), tt));
+        distinct = (
+          λ has. early (ap (λ (c : RepositoryCommit). c.commit) (only_element (commit (first cut)) (commit (one cut digest)) has)),
+          (λ has. absurd (omega (arith, has.1)), tt),
+        );
         all = λ one_of. (
           listed_expirable before (r2 cut digest) b refl (dated cut digest) (first cut) (one cut digest)
               (live_first cut digest) (live_one cut digest) (only cut digest) ends late one_of,
@@ -153,9 +159,12 @@ module _ (cut : Cut) (digest : Digest) (given : VersionsGiven) (version settings
       passed causes.repository _ has_repository ∙ passed causes.reference _ has_branch ∙ passed causes.version _ has_versions
       ∙ ap (λ o. first_of (o ∷ causes.clash ∷ [])) has_expired
 
-  pub refused : first_cause (swap_causes (quiet_lake_after cut digest) given quickstart main version settings (swap_rule (Pick (first cut) (first_commit cut digest) strategy) about) clash)
+  pub refused : first_cause (swap_causes (quiet_lake_after cut digest) given quickstart main version settings
+      (swap_rule (Pick (first cut) (first_commit cut digest) strategy) about) clash)
       ≡ Some (Expired (first_commit cut digest))
   refused =
-      ap (λ (s : State). first_cause (swap_causes s given quickstart main version settings (swap_rule (Pick (first cut) (first_commit cut digest) strategy) about) clash)) (expired_quiet_is cut digest)
-      ∙ ap (λ (id : Digest). first_cause (swap_causes now given quickstart main version settings (swap_rule (Pick (first cut) id strategy) about) clash)) (first_is cut digest)
+      ap (λ (s : State). first_cause (swap_causes s given quickstart main version settings
+      (swap_rule (Pick (first cut) (first_commit cut digest) strategy) about) clash)) (expired_quiet_is cut digest)
+      ∙ ap (λ (id : Digest). first_cause (swap_causes now given quickstart main version settings (swap_rule (Pick (first cut) id strategy) about) clash))
+      (first_is cut digest)
       ∙ first_is_expired ∙ ap (λ (id : Digest). Some (Expired id)) (sym (first_is cut digest))

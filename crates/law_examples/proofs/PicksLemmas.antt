@@ -32,7 +32,8 @@ use Rattle.lake_model.specs.Uncommitted.{copied_map, with_staged}
 use Rattle.lake_model.specs.History.{Allows, after, replay}
 use Rattle.law_examples.specs.HistoryWords.{quickstart, main, first, outside, head_of, entry_of, put_entry, seal_entry, commit_entry}
 use Rattle.law_examples.specs.RefusedLakes.{a, b, ready_lake}
-use Rattle.law_examples.specs.Picks.{IsPickAdmissible, asking_lake, barred_lake, barred_pick_lake, committed_lake, copy_entry, expired_head_lake, new_commit, new_pick, pick_entry, reason, reason_wanted, sealed_lake, with_reason, without_metadata}
+use Rattle.law_examples.specs.Picks.{IsPickAdmissible, asking_lake, barred_lake, barred_pick_lake, committed_lake, copy_entry, expired_head_lake, new_commit}
+use Rattle.law_examples.specs.Picks.{new_pick, pick_entry, reason, reason_wanted, sealed_lake, with_reason, without_metadata}
 use Rattle.law_examples.proofs.SceneLemmas.{scene, counted, get_one, in_quickstart, main_there, on_main, the_main}
 use Rattle.law_examples.proofs.BranchesLemmas.{head_in, in_draft, with_drafted}
 use Rattle.law_examples.proofs.EntriesLemmas.{after_put_outside, after_seal_of_one, apply_nothing, first_repository, may}
@@ -53,7 +54,8 @@ same_settled : (base map : KeyMapValue) → is_refused Refuse base map map ≡ f
 same_settled base map = elim (cases_Bool (is_refused Refuse base map map)) [
   | inl refused ↦
       let found = refused_from base map map Refuse refused in
-      absurd (same_side (same_value (get map found.1.0) (get base found.1.0)) (same_value (get map found.1.0) (get map found.1.0)) (same_as_itself (get map found.1.0)) found.1.1)
+      absurd (same_side (same_value (get map found.1.0) (get base found.1.0)) (same_value (get map found.1.0) (get map found.1.0))
+      (same_as_itself (get map found.1.0)) found.1.1)
   | inr free ↦ free
 ]
 
@@ -82,7 +84,8 @@ module _ (cut : Cut) (about : AboutValue) where
   new_is = ap head_of committed_scene ∙ head_scene s r1 b1
 
   pub first_there : HasCommit r1 (first cut)
-  first_there = stands r0.commits k.0 (new_record (second_state cut) r0 (a_sealed cut) about) (first cut).0 (ap is_some (get_put empty (first cut).0 (record_of cut empty (first_draft 0))))
+  first_there = stands r0.commits k.0 (new_record (second_state cut) r0 (a_sealed cut) about)
+      (first cut).0 (ap is_some (get_put empty (first cut).0 (record_of cut empty (first_draft 0))))
 
   new_live : HasLiveCommit r1 k
   new_live = (ap is_some (get_put r0.commits k.0 (new_record (second_state cut) r0 (a_sealed cut) about)), ap is_some (get-empty {X = Unit {0}} byte_order k.0))
@@ -102,7 +105,8 @@ module _ (cut : Cut) (about : AboutValue) where
 
   first_lacks : (first cut ≡ k → ⊥) → get (map_of r1 (first cut)) a ≡ None
   first_lacks apart =
-      ap (λ (o : Option KeyMapValue). get (unwrap_or o empty) a) (get_other r0.maps k.0 (sealed_map r0 (a_sealed cut)) (first cut).0 (λ is. apart (same_digest (first cut) k is)))
+      ap (λ (o : Option KeyMapValue). get (unwrap_or o empty) a)
+      (get_other r0.maps k.0 (sealed_map r0 (a_sealed cut)) (first cut).0 (λ is. apart (same_digest (first cut) k is)))
       ∙ ap (λ (m : KeyMapValue). get m a) (first_map cut (first cut)) ∙ no_entry a
 
   -- the repository with other settings
@@ -121,7 +125,11 @@ module _ (cut : Cut) (about : AboutValue) where
           changed = apart_at (map_of r1 k) (map_of r1 (first cut)) a outside new_has (first_lacks apart);
           settled = same_settled (map_of r1 (first cut)) (map_of r1 k);
         };
-        head = record { allowed = free; admissible = the_main (λ r x. IsAdmissible (scene t (noted notes) b1) r (pick_draft (first cut) k Refuse other r x)) t (noted notes) b1 admissible };
+        head = record {
+          allowed = free;
+          admissible =
+              the_main (λ r x. IsAdmissible (scene t (noted notes) b1) r (pick_draft (first cut) k Refuse other r x)) t (noted notes) b1 admissible;
+        };
       }))
 
   -- a lake that is a scene, and the new commit by its id
@@ -134,16 +142,20 @@ module _ (cut : Cut) (about : AboutValue) where
   pub apart_k : (first cut ≡ new_commit cut about → ⊥) → first cut ≡ k → ⊥
   apart_k apart is = apart (is ∙ sym new_is)
 
-  pub pick_allowed : (other : AboutValue) → (first cut ≡ new_commit cut about → ⊥) → IsPickAdmissible (committed_lake cut about) (first cut) (new_commit cut about) Refuse other
+  pub pick_allowed : (other : AboutValue) → (first cut ≡ new_commit cut about → ⊥)
+      → IsPickAdmissible (committed_lake cut about) (first cut) (new_commit cut about) Refuse other
       → Allows (committed_lake cut about) (pick_entry (first cut) (new_commit cut about) Refuse other)
   pick_allowed other apart admissible = of_scene (λ (l : State) (id : Digest). Allows l (pick_entry (first cut) id Refuse other)) committed_scene
-      (pick_where s r1.notes other refl (omega arith) (apart_k apart) refl (to_scene (λ (l : State) (id : Digest). IsPickAdmissible l (first cut) id Refuse other) committed_scene admissible))
+      (pick_where s r1.notes other refl (omega arith)
+      (apart_k apart) refl (to_scene (λ (l : State) (id : Digest). IsPickAdmissible l (first cut) id Refuse other) committed_scene admissible))
 
-  pub without_base : (other : AboutValue) (id : Digest) → (first cut ≡ id → ⊥) → (new_commit cut about ≡ id → ⊥) → Allows (committed_lake cut about) (pick_entry id (new_commit cut about) Refuse other) → ⊥
+  pub without_base : (other : AboutValue) (id : Digest) → (first cut ≡ id → ⊥) → (new_commit cut about ≡ id → ⊥)
+      → Allows (committed_lake cut about) (pick_entry id (new_commit cut about) Refuse other) → ⊥
   without_base other id not_first not_new = refuses_by (pick_entry id (new_commit cut about) Refuse other) committed_scene (λ allowed.
       one_of_two id (the_main (IsPick (scene s r1 b1) main id (new_commit cut about) Refuse other) s r1 b1 allowed.possible).there not_first not_new)
 
-  pub without_source : (other : AboutValue) (id : Digest) → (first cut ≡ id → ⊥) → (new_commit cut about ≡ id → ⊥) → Allows (committed_lake cut about) (pick_entry (first cut) id Refuse other) → ⊥
+  pub without_source : (other : AboutValue) (id : Digest) → (first cut ≡ id → ⊥) → (new_commit cut about ≡ id → ⊥)
+      → Allows (committed_lake cut about) (pick_entry (first cut) id Refuse other) → ⊥
   without_source other id not_first not_new = refuses_by (pick_entry (first cut) id Refuse other) committed_scene (λ allowed.
       one_of_two id (the_main (IsPick (scene s r1 b1) main (first cut) id Refuse other) s r1 b1 allowed.possible).live.0 not_first not_new)
 
@@ -186,7 +198,8 @@ module _ (cut : Cut) (about : AboutValue) where
 
   pub over_sealed : (other : AboutValue) → Allows (sealed_lake cut about) (pick_entry (first cut) (new_commit cut about) Refuse other) → ⊥
   over_sealed other = refuses_by (pick_entry (first cut) (new_commit cut about) Refuse other) sealed_scene (λ allowed.
-      let clean = (the_main (IsPick (scene (counted (counted s)) r1 resealed) main (first cut) (new_commit cut about) Refuse other) (counted (counted s)) r1 resealed allowed.possible).sides.clean in
+      let clean = (the_main (IsPick (scene (counted (counted s)) r1 resealed) main (first cut) (new_commit cut about) Refuse other)
+      (counted (counted s)) r1 resealed allowed.possible).sides.clean in
       apart_at (sealed_map r1 resealed) (head_map r1 resealed) b outside sealed_has head_lacks clean)
 
   -- what a copy from a commit finds, by whether it is there and whether it is expired
@@ -208,7 +221,8 @@ module _ (cut : Cut) (about : AboutValue) where
   copy_refused allowed =
       let moved = to_scene (λ (l : State) (id : Digest). Allows l (copy_entry id a)) expired_head_scene allowed in
       let has = (the_main (IsCopy k a) s (with_expired k r1) b1 moved.possible).1 in
-      let none : found k a true true ≡ Some outside = sym (ap (λ (t : Bool). found k a t (is_expired (with_expired k r1) k)) new_live.0 ∙ ap (found k a true) new_lost) ∙ has in
+      let none : found k a true true ≡ Some outside =
+      sym (ap (λ (t : Bool). found k a t (is_expired (with_expired k r1) k)) new_live.0 ∙ ap (found k a true) new_lost) ∙ has in
       absurd cc
 
   pub copy_of_nothing : Allows (committed_lake cut about) (copy_entry (new_commit cut about) b) → ⊥
@@ -237,10 +251,12 @@ module _ (cut : Cut) (about : AboutValue) where
       ∙ ap counted (in_quickstart (with_notes reason_wanted name.Hooks) s r1 b1)
 
   -- what the hook says of a pick
-  told : (other : AboutValue) → denied_by asked.notes.hooks main (head_map r1 b1) (pick_draft (first cut) k Refuse other r1 b1) ≡ position (λ (x : ℕ). is_none (find byte_order reason other.metadata)) (0 ∷ [])
+  told : (other : AboutValue) → denied_by asked.notes.hooks main (head_map r1 b1) (pick_draft (first cut) k Refuse other r1 b1)
+      ≡ position (λ (x : ℕ). is_none (find byte_order reason other.metadata)) (0 ∷ [])
   told other = ap (λ (t : Bool). position (λ (x : ℕ). t && is_none (find byte_order reason other.metadata)) (0 ∷ [])) main_itself
 
-  pub reasoned : (other : AboutValue) → (first cut ≡ new_commit cut about → ⊥) → IsPickAdmissible (asking_lake cut about) (first cut) (new_commit cut about) Refuse (with_reason other)
+  pub reasoned : (other : AboutValue) → (first cut ≡ new_commit cut about → ⊥)
+      → IsPickAdmissible (asking_lake cut about) (first cut) (new_commit cut about) Refuse (with_reason other)
       → Allows (asking_lake cut about) (pick_entry (first cut) (new_commit cut about) Refuse (with_reason other))
   reasoned other apart admissible = of_scene (λ (l : State) (id : Digest). Allows l (pick_entry (first cut) id Refuse (with_reason other))) asking_scene
       (pick_where (counted s) asked.notes (with_reason other) refl (omega arith) (apart_k apart) (told (with_reason other))
@@ -249,7 +265,8 @@ module _ (cut : Cut) (about : AboutValue) where
   pub unreasoned : (other : AboutValue) → Allows (asking_lake cut about) (pick_entry (first cut) (new_commit cut about) Refuse (without_metadata other)) → ⊥
   unreasoned other allowed =
       let moved = to_scene (λ (l : State) (id : Digest). Allows l (pick_entry (first cut) id Refuse (without_metadata other))) asking_scene allowed in
-      let free = (the_main (IsPick (scene (counted s) asked b1) main (first cut) k Refuse (without_metadata other)) (counted s) asked b1 moved.possible).head.allowed in
+      let free =
+      (the_main (IsPick (scene (counted s) asked b1) main (first cut) k Refuse (without_metadata other)) (counted s) asked b1 moved.possible).head.allowed in
       absurd (cc (sym (told (without_metadata other)) ∙ free))
 
   -- the lake before the commit, whose id is expired
@@ -264,7 +281,8 @@ module _ (cut : Cut) (about : AboutValue) where
 
   pub expired_commit : Allows (barred_lake cut about) (commit_entry about) → ⊥
   expired_commit = refuses_by (commit_entry about) barred_scene (λ allowed.
-      let kept = (the_main (IsCommittable (scene (second_state cut) barred (a_sealed cut)) main about) (second_state cut) barred (a_sealed cut) allowed.possible).head.admissible.live in
+      let kept = (the_main (IsCommittable (scene (second_state cut) barred (a_sealed cut)) main about)
+      (second_state cut) barred (a_sealed cut) allowed.possible).head.admissible.live in
       let lost = ap is_some (get_put {X = Unit {0}} empty k.0 tt) in
       absurd (cc (sym kept ∙ lost)))
 
@@ -279,7 +297,8 @@ module _ (cut : Cut) (about : AboutValue) where
     picked_is : head_of (after (committed_lake cut about) (new_pick cut about other)) ≡ picked
     picked_is = of_scene (λ (l : State) (id : Digest). head_of (after l (pick_entry (first cut) id Refuse other)) ≡ picked) committed_scene
         (ap (λ (l : State). head_of (counted l)) (in_draft s r1 (insert empty main b1) main b1 (main_there b1) picking)
-        ∙ head_in (counted s) (with_drafted s r1 (picking r1 b1)) (insert (insert empty main b1) main (with_head picked b1)) main (with_head picked b1) (get_put (insert empty main b1) main (with_head picked b1)))
+        ∙ head_in (counted s) (with_drafted s r1 (picking r1 b1)) (insert (insert empty main b1) main (with_head picked b1)) main (with_head picked b1)
+        (get_put (insert empty main b1) main (with_head picked b1)))
 
     abbrev lost_pick : Repository
     lost_pick = with_expired picked r1

@@ -47,7 +47,8 @@ module _ (lake : State) (fork : Fork) (path : List ℕ) (entry : EntryValue) (at
   -- a commit that is expired
   pub expired_source : (id : Digest) → Allows (in_repository quickstart (with_expired id) lake) (merge_entry id Refuse about) → ⊥
   expired_source id = refuses_by (merge_entry id Refuse about) (expired_scene lake fork path entry at id) (λ allowed.
-      let kept = (the_branch at.s (with_expired id at.r) at.bs main two at.main_there (IsMerge (spread at.s (with_expired id at.r) at.bs) main id Refuse about) allowed.possible).live.1 in
+      let kept = (the_branch at.s (with_expired id at.r) at.bs main two at.main_there (IsMerge (spread at.s (with_expired id at.r) at.bs) main id Refuse about)
+      allowed.possible).live.1 in
       let lost = ap is_some (get_put {X = Unit {0}} at.r.expired id.0 tt) in
       absurd (cc (sym kept ∙ lost)))
 
@@ -58,13 +59,15 @@ module _ (lake : State) (fork : Fork) (path : List ℕ) (entry : EntryValue) (at
     -- the first commit, which is the base
     pub same_map : Allows lake (merge_entry (first fork.cut) Refuse about) → ⊥
     same_map = refuses_by (merge_entry (first fork.cut) Refuse about) at.scene
-        (merges.same_map at.s at.r at.bs two at.main_there (first fork.cut) (first fork.cut) (base_behind at.r.commits (first fork.cut) forked.fork at.two forked.of_two) Refuse about refl)
+        (merges.same_map at.s at.r at.bs two at.main_there (first fork.cut) (first fork.cut)
+        (base_behind at.r.commits (first fork.cut) forked.fork at.two forked.of_two) Refuse about refl)
 
     pub based : base at.r.commits at.two at.one ≡ Some (first fork.cut)
     based = between at.s at.r at.bs two at.main_there (first fork.cut) at.one path entry forked Refuse about
 
     -- sides in conflict
-    pub conflict : is_refused Refuse empty (insert empty path entry) (insert empty a outside) ≡ true → Allows lake (merge_entry (dev_head lake) Refuse about) → ⊥
+    pub conflict : is_refused Refuse empty (insert empty path entry) (insert empty a outside) ≡ true
+        → Allows lake (merge_entry (dev_head lake) Refuse about) → ⊥
     conflict refused allowed =
         let settled = merges.settled_of at.s at.r at.bs two at.main_there at.one (first fork.cut) based Refuse about
         (moved (λ (l : State) (id : Digest). Allows l (merge_entry id Refuse about)) (sym at.scene) (sym at.dev_is) allowed) in
@@ -78,8 +81,10 @@ module _ (lake : State) (fork : Fork) (path : List ℕ) (entry : EntryValue) (at
     pub expired_merge : (id : Digest) → id ≡ k → Allows (in_repository quickstart (with_expired id) lake) (merge_entry (dev_head lake) Refuse about) → ⊥
     expired_merge id is allowed =
         let found : Allows (spread at.s (with_expired k at.r) at.bs) (merge_entry at.one Refuse about) =
-        moved (λ (l : State) (d : Digest). Allows l (merge_entry d Refuse about)) (sym (ap (λ (d : Digest). in_repository quickstart (with_expired d) lake) is ∙ expired_scene lake fork path entry at k)) (sym at.dev_is) allowed in
-        let kept = (the_branch at.s (with_expired k at.r) at.bs main two at.main_there (IsMerge (spread at.s (with_expired k at.r) at.bs) main at.one Refuse about) found.possible).head.admissible.live in
+        moved (λ (l : State) (d : Digest). Allows l (merge_entry d Refuse about))
+        (sym (ap (λ (d : Digest). in_repository quickstart (with_expired d) lake) is ∙ expired_scene lake fork path entry at k)) (sym at.dev_is) allowed in
+        let kept = (the_branch at.s (with_expired k at.r) at.bs main two at.main_there
+        (IsMerge (spread at.s (with_expired k at.r) at.bs) main at.one Refuse about) found.possible).head.admissible.live in
         let lost = ap is_some (get_put {X = Unit {0}} at.r.expired k.0 tt) in
         absurd (cc (sym kept ∙ lost))
 
@@ -113,25 +118,32 @@ module _ (fork : Fork) (about : AboutValue) where
     pub over_sealed : Allows (resealed_lake b fork) (merge_entry (dev_head (diverged_lake fork)) Refuse about) → ⊥
     over_sealed = refuses_by (merge_entry (dev_head (diverged_lake fork)) Refuse about) (resealed_scene b) (λ allowed.
         let clean = (the_branch (counted (counted at.s)) at.r (insert at.bs main (resealed b)) main (resealed b) (get_put at.bs main (resealed b))
-        (IsMerge (spread (counted (counted at.s)) at.r (insert at.bs main (resealed b))) main (dev_head (diverged_lake fork)) Refuse about) allowed.possible).sides.clean in
+        (IsMerge (spread (counted (counted at.s)) at.r (insert at.bs main (resealed b))) main (dev_head (diverged_lake fork)) Refuse about)
+        allowed.possible).sides.clean in
         apart_at (sealed_map at.r (resealed b)) (map_of at.r at.two) b outside sealed_b lacks_b clean)
 
     clean_a : sealed_map at.r (resealed a) ≡ map_of at.r at.two
     clean_a = ap (apply (insert empty a (Put outside))) sides.dest ∙ put_twice a outside ∙ sym sides.dest
 
-    pub over_same : IsMergeAdmissible (resealed_lake a fork) (dev_head (diverged_lake fork)) Refuse about → Allows (resealed_lake a fork) (merge_entry (dev_head (diverged_lake fork)) Refuse about)
+    pub over_same : IsMergeAdmissible (resealed_lake a fork) (dev_head (diverged_lake fork)) Refuse about
+        → Allows (resealed_lake a fork) (merge_entry (dev_head (diverged_lake fork)) Refuse about)
     over_same admissible = moved (λ (l : State) (id : Digest). Allows l (merge_entry id Refuse about)) (resealed_scene a) at.dev_is
-        (may_fork (counted (counted at.s)) at.r (insert at.bs main (resealed a)) (resealed a) (get_put at.bs main (resealed a)) (first fork.cut) at.one b outside sides Refuse about
+        (may_fork (counted (counted at.s)) at.r (insert at.bs main (resealed a)) (resealed a) (get_put at.bs main (resealed a))
+        (first fork.cut) at.one b outside sides Refuse about
         at.running (let n = at.count in omega (arith, n))
-        (no_hooks (counted (counted at.s)) at.r (insert at.bs main (resealed a)) (resealed a) (get_put at.bs main (resealed a)) (first fork.cut) at.one b outside sides Refuse about at.free)
+        (no_hooks (counted (counted at.s)) at.r (insert at.bs main (resealed a)) (resealed a) (get_put at.bs main (resealed a))
+        (first fork.cut) at.one b outside sides Refuse about at.free)
         clean_a (kept (diverged_lake fork) fork b outside at Refuse about distinct) settled_apart
         (moved (λ (l : State) (id : Digest). IsMergeAdmissible l id Refuse about) (sym (resealed_scene a)) (sym at.dev_is) admissible))
 
     -- the commit that the merge would make
     pub merge_commit_is : merge_commit about fork ≡ k (diverged_lake fork) fork b outside at about distinct
-    merge_commit_is = moved (λ (l : State) (id : Digest). head_of (after l (merge_entry id Refuse about)) ≡ k (diverged_lake fork) fork b outside at about distinct) at.scene at.dev_is
-        (merges.merged_head at.s at.r at.bs main_branch at.main_there at.one (first fork.cut) (based (diverged_lake fork) fork b outside at about distinct) Refuse about)
+    merge_commit_is = moved (λ (l : State) (id : Digest). head_of (after l (merge_entry id Refuse about))
+        ≡ k (diverged_lake fork) fork b outside at about distinct) at.scene at.dev_is
+        (merges.merged_head at.s at.r at.bs main_branch at.main_there at.one (first fork.cut)
+        (based (diverged_lake fork) fork b outside at about distinct) Refuse about)
 
 -- a merge whose commit isn't admissible
-pub inadmissible : (state : State) (source : Digest) (strategy : Strategy) (about : AboutValue) → (IsMergeAdmissible state source strategy about → ⊥) → Allows state (merge_entry source strategy about) → ⊥
+pub inadmissible : (state : State) (source : Digest) (strategy : Strategy) (about : AboutValue) → (IsMergeAdmissible state source strategy about → ⊥)
+    → Allows state (merge_entry source strategy about) → ⊥
 inadmissible state source strategy about none allowed = let may = allowed.possible in none (may.0, may.1, (may.2.0, may.2.1, may.2.2.head.admissible))

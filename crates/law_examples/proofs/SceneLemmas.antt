@@ -67,15 +67,18 @@ pub replay_both : (s t : State) (entries later : List HistoryEntry) → replay s
 replay_both s t [] later comes = ap (λ (x : State). replay x later) comes
 replay_both s t (entry ∷ entries) later comes = replay_both (after s entry) t entries later comes
 
-pub leads_on : {s : State} {entries : List HistoryEntry} {t : State} {later : List HistoryEntry} {u : State} → Leads s entries t → Leads t later u → Leads s (entries ++ later) u
+pub leads_on : {s : State} {entries : List HistoryEntry} {t : State} {later : List HistoryEntry} {u : State} → Leads s entries t → Leads t later u
+    → Leads s (entries ++ later) u
 leads_on {s = s} {entries = entries} {t = t} {later = later} first second = record {
   legal = legal_both s t entries later first.legal first.comes second.legal;
   comes = replay_both s t entries later first.comes ∙ second.comes;
 }
 
 -- one more entry, which is legal or may not be
-pub legal_more : {s : State} {entries : List HistoryEntry} {t : State} {entry : HistoryEntry} → Leads s entries t → Allows t entry → IsLegal s (entries ++ entry ∷ [])
+pub legal_more : {s : State} {entries : List HistoryEntry} {t : State} {entry : HistoryEntry} → Leads s entries t → Allows t entry
+    → IsLegal s (entries ++ entry ∷ [])
 legal_more {s = s} {entries = entries} {t = t} {entry = entry} first may = legal_both s t entries (entry ∷ []) first.legal first.comes (may, tt)
 
-pub comes_more : {s : State} {entries : List HistoryEntry} {t : State} (entry : HistoryEntry) {u : State} → Leads s entries t → after t entry ≡ u → replay s (entries ++ entry ∷ []) ≡ u
+pub comes_more : {s : State} {entries : List HistoryEntry} {t : State} (entry : HistoryEntry) {u : State} → Leads s entries t → after t entry ≡ u
+    → replay s (entries ++ entry ∷ []) ≡ u
 comes_more {s = s} {entries = entries} {t = t} entry first is = replay_both s t entries (entry ∷ []) first.comes ∙ is

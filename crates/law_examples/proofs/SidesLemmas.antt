@@ -53,11 +53,14 @@ settled_apart = settled_by empty (insert empty b outside) (insert empty a outsid
   where
     by : (path : List ℕ) (t : Bool) → eq_by_cmp byte_order path b ≡ t → IsConflict empty (insert empty b outside) (insert empty a outside) path → ⊥
     by path true tie conflict =
-        let none : get (insert {R = byte_order} empty a outside) path ≡ None = ap (get (insert {R = byte_order} empty a outside)) (same_path path b tie) ∙ get_one a outside b in
-        only_source (get (insert {R = byte_order} empty b outside) path) (sym (λ i. side_of (no_entry path i) (get (insert {R = byte_order} empty b outside) path) (none i)) ∙ conflict)
+        let none : get (insert {R = byte_order} empty a outside) path ≡ None =
+        ap (get (insert {R = byte_order} empty a outside)) (same_path path b tie) ∙ get_one a outside b in
+        only_source (get (insert {R = byte_order} empty b outside) path)
+        (sym (λ i. side_of (no_entry path i) (get (insert {R = byte_order} empty b outside) path) (none i)) ∙ conflict)
     by path false tie conflict =
         let none : get (insert {R = byte_order} empty b outside) path ≡ None = get_one b outside path ∙ ap (λ (t : Bool). cond t (Some outside) None) tie in
-        only_dest (get (insert {R = byte_order} empty a outside) path) (sym (λ i. side_of (no_entry path i) (none i) (get (insert {R = byte_order} empty a outside) path)) ∙ conflict)
+        only_dest (get (insert {R = byte_order} empty a outside) path)
+        (sym (λ i. side_of (no_entry path i) (none i) (get (insert {R = byte_order} empty a outside) path)) ∙ conflict)
 
 -- what is merged at a path, of two maps of one entry over the empty one
 pub merged_of_one : (strategy : Strategy) (path : List ℕ) (entry : EntryValue) (q : List ℕ)
@@ -67,23 +70,29 @@ merged_of_one strategy path entry q = λ i. merged_value strategy (no_entry q i)
 
 -- the merge of different paths changes that of the source
 merged_change : (path : List ℕ) (t : Bool) → eq_by_cmp byte_order path b ≡ t
-    → change_between (merged_value Refuse None (cond t (Some outside) None) (cond (eq_by_cmp byte_order path a) (Some outside) None)) (cond (eq_by_cmp byte_order path a) (Some outside) None)
+    → change_between (merged_value Refuse None (cond t (Some outside) None) (cond (eq_by_cmp byte_order path a) (Some outside) None))
+    (cond (eq_by_cmp byte_order path a) (Some outside) None)
     ≡ cond t (Some (Put outside)) None
-merged_change path true tie = ap (λ (q : List ℕ). change_between (merged_value Refuse None (Some outside) (cond (eq_by_cmp byte_order q a) (Some outside) None)) (cond (eq_by_cmp byte_order q a) (Some outside) None)) (same_path path b tie)
-merged_change path false tie = ap (λ (t : Bool). if t then None else Some (change_to (cond (eq_by_cmp byte_order path a) (Some outside) None))) (same_as_itself (cond (eq_by_cmp byte_order path a) (Some outside) None))
+merged_change path true tie = ap (λ (q : List ℕ). change_between (merged_value Refuse None (Some outside) (cond (eq_by_cmp byte_order q a) (Some outside) None))
+    (cond (eq_by_cmp byte_order q a) (Some outside) None)) (same_path path b tie)
+merged_change path false tie = ap (λ (t : Bool). if t then None else Some (change_to (cond (eq_by_cmp byte_order path a) (Some outside) None)))
+    (same_as_itself (cond (eq_by_cmp byte_order path a) (Some outside) None))
 
-pub merged_changes : (merged dest : KeyMapValue) → ((q : List ℕ) → get merged q ≡ merged_value Refuse None (cond (eq_by_cmp byte_order q b) (Some outside) None) (cond (eq_by_cmp byte_order q a) (Some outside) None))
+pub merged_changes : (merged dest : KeyMapValue) → ((q : List ℕ)
+    → get merged q ≡ merged_value Refuse None (cond (eq_by_cmp byte_order q b) (Some outside) None) (cond (eq_by_cmp byte_order q a) (Some outside) None))
     → dest ≡ insert empty a outside → differences merged dest ≡ insert empty b (Put outside)
 merged_changes merged dest has is = same _ _ (λ q.
     get_differences merged dest q
     ∙ (λ i. change_between (has q i) (get (is i) q))
-    ∙ ap (change_between (merged_value Refuse None (cond (eq_by_cmp byte_order q b) (Some outside) None) (cond (eq_by_cmp byte_order q a) (Some outside) None))) (get_one a outside q)
+    ∙ ap (change_between (merged_value Refuse None (cond (eq_by_cmp byte_order q b) (Some outside) None) (cond (eq_by_cmp byte_order q a) (Some outside) None)))
+    (get_one a outside q)
     ∙ merged_change q (eq_by_cmp byte_order q b) refl
     ∙ sym (get_one b (Put outside) q))
 
 -- a map of one thing has the length 1
 pub len_one : {X : Type 0} (path : List ℕ) (x : X) → len (insert {R = byte_order} empty path x) ≡ 1
-len_one {X = X} path x = len-insert nat_list_cmp_total empty path x ∙ (λ i. cond (is_some (get-empty {X = X} byte_order path i)) (len-empty byte_order X i) (len-empty byte_order X i + 1))
+len_one {X = X} path x = len-insert nat_list_cmp_total empty path x
+    ∙ (λ i. cond (is_some (get-empty {X = X} byte_order path i)) (len-empty byte_order X i) (len-empty byte_order X i + 1))
 
 -- two objects at one path conflict
 pub neither_side : side_of None (Some larger_object) (Some outside) ≡ Neither

@@ -95,7 +95,8 @@ module _ (cut : Cut) where
 
     in_head : (P : KeyMapValue → Type 0) → P (sealed_map (first_repository cut) with_b) → HasBranch (lake cut about) quickstart main (λ x y. P (head_map x y))
     in_head P p = subst (λ (x : State). HasBranch x quickstart main (λ x y. P (head_map x y))) (sym comes)
-        (on_main (λ x y. P (head_map x y)) (counted third_state) new_repository new_branch (subst P (sym (new_map third_state (first_repository cut) with_b about)) p))
+        (on_main (λ x y. P (head_map x y))
+        (counted third_state) new_repository new_branch (subst P (sym (new_map third_state (first_repository cut) with_b about)) p))
 
     pub in_commit : HasBranch (lake cut about) quickstart main (λ x y. get (head_map x y) a ≡ Some outside)
     in_commit = in_head (λ (m : KeyMapValue). get m a ≡ Some outside) has_a
@@ -103,11 +104,13 @@ module _ (cut : Cut) where
     pub not_in_commit : HasBranch (lake cut about) quickstart main (λ x y. get (head_map x y) b ≡ None)
     not_in_commit = in_head (λ (m : KeyMapValue). get m b ≡ None) lacks_b
 
-    reads : (path : List ℕ) → read_at (lake cut about) path ≡ value_after (get {R = byte_order} (insert empty b (Put outside)) path) (value_after (get {R = byte_order} empty path) (get (sealed_map (first_repository cut) with_b) path))
+    reads : (path : List ℕ) → read_at (lake cut about) path ≡ value_after (get {R = byte_order} (insert empty b (Put outside)) path)
+        (value_after (get {R = byte_order} empty path) (get (sealed_map (first_repository cut) with_b) path))
     reads path =
         ap (λ (x : State). read_at x path) comes
         ∙ read_scene (counted third_state) new_repository new_branch path
-        ∙ ap (λ (m : KeyMapValue). value_after (get (insert {R = byte_order} empty b (Put outside)) path) (value_after (get {R = byte_order} empty path) (get m path))) (new_map third_state (first_repository cut) with_b about)
+        ∙ ap (λ (m : KeyMapValue). value_after (get (insert {R = byte_order} empty b (Put outside)) path)
+        (value_after (get {R = byte_order} empty path) (get m path))) (new_map third_state (first_repository cut) with_b about)
 
     pub reads_a : read_at (lake cut about) a ≡ Some outside
     reads_a = reads a ∙ simp (get_one b (Put outside) a, no_change, has_a)

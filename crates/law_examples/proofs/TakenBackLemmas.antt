@@ -46,7 +46,8 @@ module _ (cut : Cut) (digest : Digest) where
       (on_main (λ r b. IsUnprotected r main) (fresh cut) (first_repository cut) (first_branch cut) refl, refl))
       refl
 
-  second_entry : Leads (scene given_out (first_repository cut) (first_branch cut)) (put_entry a (own digest 0) ∷ []) (scene used (first_repository cut) uploaded)
+  second_entry :
+      Leads (scene given_out (first_repository cut) (first_branch cut)) (put_entry a (own digest 0) ∷ []) (scene used (first_repository cut) uploaded)
   second_entry = leads_one
       (may given_out (first_repository cut) (first_branch cut) 1 (Stage quickstart main a (Put (own digest 0))) refl (omega arith)
       (on_main (λ r b. IsUnprotected r main) given_out (first_repository cut) (first_branch cut) refl, get-insert nat_cmp_total empty 0 1 0))
@@ -57,7 +58,8 @@ module _ (cut : Cut) (digest : Digest) where
       (may used (first_repository cut) uploaded 1 (Stage quickstart main a Delete) refl (omega arith)
       (on_main (λ r b. IsUnprotected r main) used (first_repository cut) uploaded refl, tt))
       (after_deletion used (first_repository cut) uploaded a
-      ∙ ap (λ (x : ChangesValue). scene (counted used) (first_repository cut) (record (first_branch cut) { staged = x })) (put_again empty a (Put (own digest 0)) Delete))
+      ∙ ap (λ (x : ChangesValue). scene (counted used) (first_repository cut) (record (first_branch cut) { staged = x }))
+      (put_again empty a (Put (own digest 0)) Delete))
 
   fourth_entry : Leads (scene (counted used) (first_repository cut) dropped) (seal_entry ∷ []) (scene (counted (counted used)) (first_repository cut) emptied)
   fourth_entry = leads_one
@@ -83,18 +85,21 @@ module _ (cut : Cut) (digest : Digest) where
   reads =
       ap (λ (x : State). read_at x a) course.comes
       ∙ read_scene (counted (counted used)) (first_repository cut) emptied a
-      ∙ ap (λ (o : Option Change). value_after o (value_after (get {R = byte_order} (insert empty a Delete) a) (get (head_map (first_repository cut) emptied) a))) (get-empty byte_order a)
+      ∙ ap (λ (o : Option Change).
+      value_after o (value_after (get {R = byte_order} (insert empty a Delete) a) (get (head_map (first_repository cut) emptied) a))) (get-empty byte_order a)
       ∙ ap (λ (o : Option Change). value_after o (get (head_map (first_repository cut) emptied) a)) (get_one a Delete a)
 
   pub named : IsNamed (lake_of_upload cut digest) 0
   named = subst (λ (x : State). IsNamed x 0) (sym to_upload.comes)
-      (named_staged used (first_repository cut) uploaded 0 (record { path = a; change = Put (own digest 0); stands = get_one a (Put (own digest 0)) a; names = refl }))
+      (named_staged used (first_repository cut) uploaded 0
+      (record { path = a; change = Put (own digest 0); stands = get_one a (Put (own digest 0)) a; names = refl }))
 
   pub garbage : IsGarbage (lake_of_deletion cut digest) 0
   garbage = subst (λ (x : State). IsGarbage x 0) (sym to_deletion.comes) (record {
     given_out = omega arith;
     unnamed = unnamed (counted used) (first_repository cut) dropped 0
-        (λ id live has. let none : get (empty {R = byte_order}) has.path ≡ Some has.entry = subst (λ (m : KeyMapValue). get m has.path ≡ Some has.entry) (first_map cut id) has.stands in
+        (λ id live has. let none : get (empty {R = byte_order}) has.path
+        ≡ Some has.entry = subst (λ (m : KeyMapValue). get m has.path ≡ Some has.entry) (first_map cut id) has.stands in
         absurd (cc (sym (get-empty byte_order has.path) ∙ none)))
         (empty_puts_none empty 0 (get-empty byte_order))
         put_none

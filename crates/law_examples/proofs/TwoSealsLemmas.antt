@@ -35,7 +35,8 @@ module _ (cut : Cut) where
   abbrev third_state : State
   third_state = counted (second_state cut)
 
-  third_entry : Leads (scene (second_state cut) (first_repository cut) (a_sealed cut)) (seal_entry ∷ []) (scene third_state (first_repository cut) (a_sealed cut))
+  third_entry :
+      Leads (scene (second_state cut) (first_repository cut) (a_sealed cut)) (seal_entry ∷ []) (scene third_state (first_repository cut) (a_sealed cut))
   third_entry = leads_one
       (may (second_state cut) (first_repository cut) (a_sealed cut) 1 (Seal quickstart main seal.Commit) refl (omega arith)
       (on_main (λ r b. IsUnprotected r main) (second_state cut) (first_repository cut) (a_sealed cut) refl))
@@ -68,6 +69,8 @@ module _ (cut : Cut) where
     same = subst (λ (x : State). HasBranch x quickstart main (λ r b. sealed_map r b ≡ head_map r b)) (sym comes)
         (on_main (λ r b. sealed_map r b ≡ head_map r b) (counted third_state) new_repository new_branch (apply_nothing _))
 
-    pub late : (other : AboutValue) (clash : Option Clash) → first_cause (swap_causes (lake cut about) (versions about) quickstart main 3 0 (commit_rule other) clash) ≡ Some (Changed 4 0)
-    late other clash = subst (λ (x : State). first_cause (swap_causes x (versions about) quickstart main 3 0 (commit_rule other) clash) ≡ Some (Changed 4 0)) (sym comes)
+    pub late : (other : AboutValue) (clash : Option Clash)
+        → first_cause (swap_causes (lake cut about) (versions about) quickstart main 3 0 (commit_rule other) clash) ≡ Some (Changed 4 0)
+    late other clash =
+        subst (λ (x : State). first_cause (swap_causes x (versions about) quickstart main 3 0 (commit_rule other) clash) ≡ Some (Changed 4 0)) (sym comes)
         (simp (repo_there, main_there, fourth about, no_settings (versions about) refl))

@@ -43,9 +43,11 @@ uploaded s number = counted (used s number)
 
 module _ (s : State) (r : Repository) (head : Digest) (running : s.stopped ≡ false) (room : s.entries < 1000) (unprotected : IsUnprotected r main) where
   -- a path is deleted
-  pub deletion : (path : List ℕ) → Leads (scene s r (branch_with head empty empty)) (delete_entry path ∷ []) (scene (counted s) r (branch_with head empty (insert empty path Delete)))
+  pub deletion : (path : List ℕ)
+      → Leads (scene s r (branch_with head empty empty)) (delete_entry path ∷ []) (scene (counted s) r (branch_with head empty (insert empty path Delete)))
   deletion path = leads_one
-      (may s r (branch_with head empty empty) 1 (Stage quickstart main path Delete) running (omega arith) (on_main (λ r b. IsUnprotected r main) s r (branch_with head empty empty) unprotected, tt))
+      (may s r (branch_with head empty empty) 1 (Stage quickstart main path Delete) running (omega arith)
+      (on_main (λ r b. IsUnprotected r main) s r (branch_with head empty empty) unprotected, tt))
       (after_deletion s r (branch_with head empty empty) path)
 
   module _ (m : ChangesValue) (number : ℕ) (path : List ℕ) (digest : Digest) where
@@ -57,14 +59,16 @@ module _ (s : State) (r : Repository) (head : Digest) (running : s.stopped ≡ f
     abbrev changes : ChangesValue
     changes = insert m path (Put (own digest number))
 
-    putting : Leads (scene (out s number) r (branch_with head empty m)) (put_entry path (own digest number) ∷ []) (scene (used s number) r (branch_with head empty changes))
+    putting : Leads (scene (out s number) r (branch_with head empty m)) (put_entry path (own digest number) ∷ [])
+        (scene (used s number) r (branch_with head empty changes))
     putting = leads_one
         (may (out s number) r (branch_with head empty m) 1 (Stage quickstart main path (Put (own digest number))) running (omega arith)
         (on_main (λ r b. IsUnprotected r main) (out s number) r (branch_with head empty m) unprotected, on_ticket))
         (after_put_own (out s number) r (branch_with head empty m) path digest number)
       where
         on_ticket : get (out s number).tickets number ≡ Some 1
-        on_ticket = get-insert nat_cmp_total s.tickets number 1 number ∙ ap (λ (b : Bool). cond b (Some 1) (get s.tickets number)) ((eq_by_cmp_equiv nat_cmp_total).refl number)
+        on_ticket = get-insert nat_cmp_total s.tickets number 1 number
+            ∙ ap (λ (b : Bool). cond b (Some 1) (get s.tickets number)) ((eq_by_cmp_equiv nat_cmp_total).refl number)
 
     sealing : Leads (scene (used s number) r (branch_with head empty changes)) (seal_entry ∷ []) (scene (uploaded s number) r (branch_with head changes empty))
     sealing = leads_one
@@ -73,5 +77,6 @@ module _ (s : State) (r : Repository) (head : Digest) (running : s.stopped ≡ f
         (after_sealing (used s number) r (branch_with head empty changes) 1 seal.Commit
         ∙ ap (λ (x : ChangesValue). scene (uploaded s number) r (branch_with head x empty)) (over_none changes))
 
-    pub upload : number ≡ s.next_number → Leads (scene s r (branch_with head empty m)) (ticket_entry number ∷ put_entry path (own digest number) ∷ seal_entry ∷ []) (scene (uploaded s number) r (branch_with head changes empty))
+    pub upload : number ≡ s.next_number → Leads (scene s r (branch_with head empty m))
+        (ticket_entry number ∷ put_entry path (own digest number) ∷ seal_entry ∷ []) (scene (uploaded s number) r (branch_with head changes empty))
     upload next = leads_on (taking next (branch_with head empty m)) (leads_on putting sealing)

@@ -12,13 +12,15 @@ use Rattle.law_examples.specs.HistoryWords.{quickstart, main}
 pub version_given : (given : VersionsGiven) → branch_version (with_branch_version quickstart main given) quickstart main ≡ given.next
 version_given given =
     let names = unwrap_or (get given.branches quickstart) empty in
-    ap (λ (o : Option (ByteMap ℕ)). unwrap_or (option_and_then (λ (m : ByteMap ℕ). get m main) o) 0) (get-insert nat_list_cmp_total given.branches quickstart (insert names main given.next) quickstart)
+    ap (λ (o : Option (ByteMap ℕ)). unwrap_or (option_and_then (λ (m : ByteMap ℕ). get m main) o) 0)
+    (get-insert nat_list_cmp_total given.branches quickstart (insert names main given.next) quickstart)
     ∙ ap (λ (o : Option ℕ). unwrap_or o 0) (get-insert nat_list_cmp_total names main given.next main)
 
 -- the first version of `main`
 pub first_version : branch_version fresh_versions quickstart main ≡ 1
 first_version =
-    ap (λ (o : Option (ByteMap ℕ)). unwrap_or (option_and_then (λ (m : ByteMap ℕ). get m main) o) 0) (get-insert nat_list_cmp_total empty quickstart (insert empty main 1) quickstart)
+    ap (λ (o : Option (ByteMap ℕ)). unwrap_or (option_and_then (λ (m : ByteMap ℕ). get m main) o) 0)
+    (get-insert nat_list_cmp_total empty quickstart (insert empty main 1) quickstart)
     ∙ ap (λ (o : Option ℕ). unwrap_or o 0) (get-insert nat_list_cmp_total empty main 1 main)
 
 pub no_settings : (given : VersionsGiven) → given.settings ≡ empty → settings_version given quickstart ≡ 0

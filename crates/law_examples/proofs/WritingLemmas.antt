@@ -26,18 +26,22 @@ use Rattle.lake_model.specs.NoteChanges.{IsNoteChange}
 use Rattle.lake_model.specs.Uncommitted.{MaySeal, after_ticket_take, copied_map}
 use Rattle.lake_model.specs.History.{Allows, IsPossible, accepted_entry, after, faulted_entry}
 use Rattle.lake_model.specs.Soundness.{fresh}
-use Rattle.law_examples.specs.HistoryWords.{quickstart, main, outside, own, entry_of, entry_by, ticket_entry, put_entry, delete_entry, seal_entry, commit_entry, IsCommitAdmissible}
-use Rattle.law_examples.specs.RefusedLakes.{a, b, fault_of, mail, one_day, stopped_lake, lake_of_entries, ticket_lake, retaining_lake, ready_lake, protected_lake}
+use Rattle.law_examples.specs.HistoryWords.{quickstart, main, outside, own, entry_of, entry_by, ticket_entry, put_entry, delete_entry, seal_entry, commit_entry}
+use Rattle.law_examples.specs.HistoryWords.{IsCommitAdmissible}
+use Rattle.law_examples.specs.RefusedLakes.{a, b, fault_of, mail, one_day, stopped_lake, lake_of_entries, ticket_lake, retaining_lake, ready_lake}
+use Rattle.law_examples.specs.RefusedLakes.{protected_lake}
 use Rattle.law_examples.proofs.SceneLemmas.{scene, of_main, counted, get_one, main_there, on_main, the_main}
 use Rattle.law_examples.proofs.EntriesLemmas.{first_repository, first_branch, may}
 use Rattle.law_examples.proofs.CommitsLemmas.{may_commit, apart_at}
 use Rattle.law_examples.proofs.MapsLemmas.{first_map, get_now, no_change, no_entry}
 use Rattle.law_examples.proofs.StaysStagedLemmas.{a_sealed, second_state, has_a, lacks_a}
-use Rattle.law_examples.proofs.LakesLemmas.{on_quickstart, the_quickstart, allows_by, refuses_by, with_notes, retaining_scene, ready_scene, guarded, protected_scene, main_matches}
+use Rattle.law_examples.proofs.LakesLemmas.{on_quickstart, the_quickstart, allows_by, refuses_by, with_notes, retaining_scene, ready_scene, guarded}
+use Rattle.law_examples.proofs.LakesLemmas.{protected_scene, main_matches}
 
 -- what a copy from `main` finds
 copied : (r : Repository) (x : Branch) (path : List ℕ)
-    → option_and_then (λ (map : KeyMapValue). get map path) (copied_map (of_main r x) (source.Branch main)) ≡ value_after (get x.staged path) (value_after (get x.sealed path) (get (head_map r x) path))
+    → option_and_then (λ (map : KeyMapValue). get map path) (copied_map (of_main r x) (source.Branch main))
+    ≡ value_after (get x.staged path) (value_after (get x.sealed path) (get (head_map r x) path))
 copied r x path =
     ap (λ (o : Option Branch). option_and_then (λ (map : KeyMapValue). get map path) (option_map (now_map (of_main r x)) o)) (main_there x)
     ∙ get_now x.staged x.sealed (head_map r x) path
@@ -66,13 +70,15 @@ module _ (cut : Cut) where
   stopped_refused may = let running = may.running in absurd cc
 
   pub running_allowed : Allows (record (stopped_lake cut) { stopped = false }) seal_entry
-  running_allowed = may (counted (fresh cut)) r0 b0 1 (Seal quickstart main seal.Commit) refl (omega arith) (on_main (λ r x. IsUnprotected r main) (counted (fresh cut)) r0 b0 refl)
+  running_allowed = may (counted (fresh cut)) r0 b0 1 (Seal quickstart main seal.Commit) refl (omega arith)
+      (on_main (λ r x. IsUnprotected r main) (counted (fresh cut)) r0 b0 refl)
 
   abbrev numbered : ℕ → State
   numbered entries = record (fresh cut) { entries = entries }
 
   pub last_allowed : Allows (lake_of_entries 4194303 cut) seal_entry
-  last_allowed = may (numbered 4194303) r0 b0 1 (Seal quickstart main seal.Commit) refl (omega arith) (on_main (λ r x. IsUnprotected r main) (numbered 4194303) r0 b0 refl)
+  last_allowed =
+      may (numbered 4194303) r0 b0 1 (Seal quickstart main seal.Commit) refl (omega arith) (on_main (λ r x. IsUnprotected r main) (numbered 4194303) r0 b0 refl)
 
   pub full_refused : Allows (lake_of_entries 4194304 cut) seal_entry → ⊥
   full_refused may = let room = may.room in absurd (omega arith)
@@ -107,7 +113,8 @@ module _ (cut : Cut) where
   first_again may = let next : 0 ≡ 1 = may.possible.1 in absurd (omega (arith, next))
 
   pub put_allowed : (digest : Digest) → Allows (ticket_lake cut) (put_entry a (own digest 0))
-  put_allowed digest = may ticketed r0 b0 1 (Stage quickstart main a (Put (own digest 0))) refl (omega arith) (on_main (λ r x. IsUnprotected r main) ticketed r0 b0 refl, on_ticket)
+  put_allowed digest = may ticketed r0 b0 1 (Stage quickstart main a (Put (own digest 0))) refl (omega arith)
+      (on_main (λ r x. IsUnprotected r main) ticketed r0 b0 refl, on_ticket)
 
   pub put_by_other : (digest : Digest) → Allows (ticket_lake cut) (entry_by 2 (Stage quickstart main a (Put (own digest 0)))) → ⊥
   put_by_other digest may = not_on_other may.possible.1
@@ -153,7 +160,8 @@ module _ (cut : Cut) where
       let places = ap (λ (x : EntryValue). x.place) same in absurd cc)
 
   from_mail : option_and_then (λ (map : KeyMapValue). get map a) (copied_map (of_main r0 (a_sealed cut)) (source.Branch mail)) ≡ None
-  from_mail = ap (λ (o : Option Branch). option_and_then (λ (map : KeyMapValue). get map a) (option_map (now_map (of_main r0 (a_sealed cut))) o)) (get_one main (a_sealed cut) mail)
+  from_mail = ap (λ (o : Option Branch). option_and_then (λ (map : KeyMapValue). get map a) (option_map (now_map (of_main r0 (a_sealed cut))) o))
+      (get_one main (a_sealed cut) mail)
 
   abbrev OfMail : Repository → Branch → Type 0
   OfMail r x = IsUnprotected r main × (option_and_then (λ (map : KeyMapValue). get map a) (copied_map r (source.Branch mail)) ≡ Some outside)
@@ -188,7 +196,8 @@ module _ (cut : Cut) where
   not_free : IsUnprotected (of_main (guarded cut) (a_sealed cut)) main → ⊥
   not_free is = absurd (cc (sym main_matches ∙ is))
 
-  barred : (P : Repository → Branch → Type 0) → ((r : Repository) (x : Branch) → P r x → IsUnprotected r main) → HasBranch (scene (counted (second_state cut)) (guarded cut) (a_sealed cut)) quickstart main P → ⊥
+  barred : (P : Repository → Branch → Type 0) → ((r : Repository) (x : Branch) → P r x → IsUnprotected r main)
+      → HasBranch (scene (counted (second_state cut)) (guarded cut) (a_sealed cut)) quickstart main P → ⊥
   barred P free has = not_free (free _ _ (the_main P (counted (second_state cut)) (guarded cut) (a_sealed cut) has))
 
   pub ready_take : Allows (ready_lake cut) (ticket_entry 0)
@@ -210,13 +219,15 @@ module _ (cut : Cut) where
   barred_deletion = refuses_by (delete_entry a) (protected_scene cut) (λ may. barred (λ r x. IsUnprotected r main) (λ r x is. is) may.possible.0)
 
   pub barred_copy : Allows (protected_lake cut) (entry_of (Copy quickstart main b (source.Branch main) a outside)) → ⊥
-  barred_copy = refuses_by (entry_of (Copy quickstart main b (source.Branch main) a outside)) (protected_scene cut) (λ may. barred (Copied a outside) (λ r x is. is.0) may.possible)
+  barred_copy = refuses_by (entry_of (Copy quickstart main b (source.Branch main) a outside)) (protected_scene cut)
+      (λ may. barred (Copied a outside) (λ r x is. is.0) may.possible)
 
   pub ready_reset : Allows (ready_lake cut) (entry_of (Reset quickstart main what.All))
   ready_reset = ready (Reset quickstart main what.All) ready_free
 
   pub barred_reset : Allows (protected_lake cut) (entry_of (Reset quickstart main what.All)) → ⊥
-  barred_reset = refuses_by (entry_of (Reset quickstart main what.All)) (protected_scene cut) (λ may. barred (λ r x. IsUnprotected r main) (λ r x is. is) may.possible)
+  barred_reset =
+      refuses_by (entry_of (Reset quickstart main what.All)) (protected_scene cut) (λ may. barred (λ r x. IsUnprotected r main) (λ r x is. is) may.possible)
 
   pub ready_seal : Allows (ready_lake cut) seal_entry
   ready_seal = ready (Seal quickstart main seal.Commit) ready_free

@@ -12,12 +12,16 @@ ghost use Rattle.lake_format.specs.declared.cut.Cut.{Cut};
 ghost use Rattle.lake_model.specs.declared.history.Operation.TheVariants.{RepoCreate};
 ghost use Rattle.lake_model.specs.State.{HasBranch, Repository, State, is_expired, map_of};
 ghost use Rattle.lake_model.specs.Branches.{IsUnprotected};
-ghost use Rattle.lake_model.specs.Commits.{AreKept, Draft, IsAdmissible, MayBecomeHead, StandsBefore, bare_repository, bytes_of, commit_draft, first_draft, record_of};
+ghost use Rattle.lake_model.specs.Commits.{AreKept, Draft, IsAdmissible, MayBecomeHead, StandsBefore, bare_repository};
+ghost use Rattle.lake_model.specs.Commits.{bytes_of, commit_draft, first_draft, record_of};
 ghost use Rattle.lake_model.specs.History.{Allows};
 ghost use Rattle.law_examples.specs.HistoryWords.{quickstart, main, first, commit_entry, entry_of, IsCommitAdmissible};
 ghost use Rattle.law_examples.specs.Nothing as nothing;
 ghost use Rattle.law_examples.specs.RefusedLakes.{a, b, ready_lake};
-ghost use Rattle.law_examples.specs.Picks.{AreThree, IsPickAdmissible, asking_lake, barred_lake, barred_pick_lake, committed_lake, copy_entry, expired_head_lake, limited_lake, new_commit, new_pick, pick_entry, sealed_lake, twice_committed_lake, with_reason, without_metadata};
+ghost use Rattle.law_examples.specs.Picks.{AreThree, IsPickAdmissible, asking_lake, barred_lake, barred_pick_lake};
+ghost use Rattle.law_examples.specs.Picks.{committed_lake, copy_entry, expired_head_lake, limited_lake, new_commit};
+ghost use Rattle.law_examples.specs.Picks.{new_pick, pick_entry, sealed_lake, twice_committed_lake, with_reason};
+ghost use Rattle.law_examples.specs.Picks.{without_metadata};
 
 /// Nothing is sealed that changes the head's map, though all else that a commit asks holds. The premise is that no file
 /// of it shares its name with other bytes.
@@ -64,7 +68,8 @@ pub fn inadmissible_entry()
         → Allows state (entry_of (RepoCreate repo branch date)) → ⊥ }
     ensures commit { (state : State) (about : AboutValue) → (IsCommitAdmissible state about → ⊥)
         → Allows state (commit_entry about) → ⊥ }
-    ensures expired_commit { (cut : Cut) (about : AboutValue) → Allows (barred_lake cut about) (commit_entry about) → ⊥ }
+    ensures expired_commit { (cut : Cut) (about : AboutValue)
+        → Allows (barred_lake cut about) (commit_entry about) → ⊥ }
     ensures pick { (state : State) (base source : Digest) (strategy : Strategy) (about : AboutValue)
         → (IsPickAdmissible state base source strategy about → ⊥)
         → Allows state (pick_entry base source strategy about) → ⊥ }
@@ -99,7 +104,8 @@ pub fn pick_of_commit()
         → (first cut ≡ id → ⊥) → (new_commit cut about ≡ id → ⊥)
         → Allows (committed_lake cut about) (pick_entry (first cut) id strategy.Refuse other) → ⊥ }
     ensures expired_source { (cut : Cut) (about other : AboutValue)
-        → Allows (expired_head_lake cut about) (pick_entry (first cut) (new_commit cut about) strategy.Refuse other) → ⊥ }
+        → Allows (expired_head_lake cut about) (pick_entry (first cut) (new_commit cut about) strategy.Refuse other)
+        → ⊥ }
     ensures same_map { (cut : Cut) (about other : AboutValue)
         → Allows (committed_lake cut about) (pick_entry (first cut) (first cut) strategy.Refuse other) → ⊥ }
     ensures over_sealed { (cut : Cut) (about other : AboutValue)

@@ -16,7 +16,9 @@ ghost use Rattle.lake_model.specs.declared.fault.StepFault.TheVariants.{Expired}
 ghost use Rattle.lake_model.specs.declared.reply.Sides.TheVariants as sides;
 ghost use Rattle.lake_model.specs.declared.reply.SwapKind.TheVariants.{Pick};
 ghost use Rattle.law_examples.specs.HistoryWords.{first, main, quickstart, IsCommitAdmissible};
-ghost use Rattle.law_examples.specs.Days.{AreApart, commit, entries, expire_entry, first_commit, lake, lake_after, lake_before_first, lake_before_second, older_commits, quiet_lake, quiet_lake_after, said_at, second_commit};
+ghost use Rattle.law_examples.specs.Days.{AreApart, commit, entries, expire_entry, first_commit, lake, lake_after};
+ghost use Rattle.law_examples.specs.Days.{lake_before_first, lake_before_second, older_commits, quiet_lake};
+ghost use Rattle.law_examples.specs.Days.{quiet_lake_after, said_at, second_commit};
 
 /// Commits are kept for a day. At the moment 1,300,000 those expire that are no branch's head, as all are dated before
 /// the moment 1,213,600. Then the number 0, of an object that was deleted in the second commit, is garbage and is
@@ -45,7 +47,8 @@ pub fn expiry_of_others()
         (expire_entry (commit (first_commit cut digest) ∷ commit (first cut) ∷ commit (first cut) ∷ [])) → ⊥ }
     ensures head { (cut : Cut) (digest : Digest)
         → Allows (lake cut digest)
-        (expire_entry (commit (first_commit cut digest) ∷ commit (first cut) ∷ commit (second_commit cut digest) ∷ [])) → ⊥ }
+        (expire_entry (commit (first_commit cut digest) ∷ commit (first cut) ∷ commit (second_commit cut digest) ∷ []))
+        → ⊥ }
     ensures no_commit { (cut : Cut) (digest id : Digest)
         → (first cut ≡ id → ⊥) → (first_commit cut digest ≡ id → ⊥) → (second_commit cut digest ≡ id → ⊥)
         → Allows (lake cut digest)
@@ -60,9 +63,9 @@ pub fn expiry_again()
         → Allows (lake_after cut digest) (expire_entry (commit (first cut) ∷ [])) → ⊥ }
 {}
 
-/// Nothing is sealed on `main` and the commit of the first day isn't expired, so what a pick of it is made from is handed
-/// out. It expires in the pause before the swap, and by versions that are those now the swap is refused: the first cause
-/// is that this commit is expired. The premise of the expiry is that the ids of the three commits differ.
+/// Nothing is sealed on `main` and the commit of the first day isn't expired, so what a pick of it is made from is
+/// handed out. It expires in the pause before the swap, and by versions that are those now the swap is refused: the
+/// first cause is that this commit is expired. The premise of the expiry is that the ids of the three commits differ.
 pub fn pick_in_the_pause()
     ensures handed { (cut : Cut) (digest : Digest) (given : VersionsGiven)
         → IsOk (prepare_reply (quiet_lake cut digest) given quickstart main

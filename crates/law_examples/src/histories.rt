@@ -14,7 +14,8 @@ ghost use Rattle.lake_model.specs.Readings.{look_reply};
 ghost use Rattle.lake_model.specs.Refusals.{Clash, first_cause};
 ghost use Rattle.lake_model.specs.Steps.{swap_causes, stage_reply};
 ghost use Rattle.lake_model.specs.Versions.{count_versions, fresh_versions, settings_version};
-ghost use Rattle.law_examples.specs.HistoryWords.{quickstart, main, at_main, outside, read_at, main_version, IsCommitAdmissible};
+ghost use Rattle.law_examples.specs.HistoryWords.{quickstart, main, at_main, outside, read_at, main_version};
+ghost use Rattle.law_examples.specs.HistoryWords.{IsCommitAdmissible};
 ghost use Rattle.law_examples.specs.Nothing as nothing;
 ghost use Rattle.law_examples.specs.TakenBack as taken_back;
 ghost use Rattle.law_examples.specs.Guard as guard;
@@ -83,7 +84,8 @@ pub fn two_seals()
     ensures third { main_version (count_versions fresh_versions seals.until_second) ≡ 3 }
     ensures fourth { (about : AboutValue) → main_version (seals.versions about) ≡ 4 }
     ensures late { (cut : Cut) (about other : AboutValue) (clash : Option Clash)
-        → first_cause (swap_causes (seals.lake cut about) (seals.versions about) quickstart main 3 0 (seals.commit_rule other) clash)
+        → first_cause
+        (swap_causes (seals.lake cut about) (seals.versions about) quickstart main 3 0 (seals.commit_rule other) clash)
         ≡ Some (Changed 4 0) }
     ensures unsealed { (cut : Cut) (about : AboutValue)
         → HasBranch (seals.lake cut about) quickstart main (λ r b. b.sealed ≡ empty) }

@@ -14,7 +14,9 @@ ghost use Rattle.lake_model.specs.Soundness.{fresh};
 ghost use Rattle.law_examples.specs.HistoryWords.{quickstart, main, first, outside, head_of};
 ghost use Rattle.law_examples.specs.RefusedLakes.{a, b};
 ghost use Rattle.law_examples.specs.Picks.{larger_object};
-ghost use Rattle.law_examples.specs.Merges.{AreChangesAdmissible, Fork, IsMergeAdmissible, ahead_lake, dev_head, dev_merge, diverged_lake, fork_entries, hooked_lake, lake_of_expired, merge_commit, merge_entry, resealed_lake, rival_lake, three_commits};
+ghost use Rattle.law_examples.specs.Merges.{AreChangesAdmissible, Fork, IsMergeAdmissible, ahead_lake, dev_head};
+ghost use Rattle.law_examples.specs.Merges.{dev_merge, diverged_lake, fork_entries, hooked_lake, lake_of_expired};
+ghost use Rattle.law_examples.specs.Merges.{merge_commit, merge_entry, resealed_lake, rival_lake, three_commits};
 
 /// `main` is still at the first commit, at which `dev` began, and the head of `dev` is merged: a commit of two parents
 /// is made all the same. The premises are that the ids differ, and that no file of the new commit shares its name with

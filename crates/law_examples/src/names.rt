@@ -2,13 +2,15 @@
 ghost use Rattle.std.specs.Prelude.{◌≡◌};
 ghost use Rattle.lake_base.specs.declared.digest.Digest.{Digest};
 ghost use Rattle.lake_format.specs.declared.cut.Cut.{Cut};
-ghost use Rattle.lake_model.specs.declared.history.Operation.TheVariants.{RepoCreate, BranchCreate, BranchDelete, TagCreate, TagDelete, Seal};
+ghost use Rattle.lake_model.specs.declared.history.Operation.TheVariants.{RepoCreate, BranchCreate, BranchDelete};
+ghost use Rattle.lake_model.specs.declared.history.Operation.TheVariants.{TagCreate, TagDelete, Seal};
 ghost use Rattle.lake_model.specs.declared.history.SealFor.TheVariants as seal;
 ghost use Rattle.lake_model.specs.Commits.{IsAdmissible, bare_repository, first_draft};
 ghost use Rattle.lake_model.specs.History.{Allows, after};
 ghost use Rattle.lake_model.specs.Soundness.{fresh};
 ghost use Rattle.law_examples.specs.HistoryWords.{quickstart, main, first, entry_of, seal_entry};
-ghost use Rattle.law_examples.specs.RefusedLakes.{elsewhere, mail, one, two, like_id, protect_entry, branched_lake, tagged_lake, expired_lake};
+ghost use Rattle.law_examples.specs.RefusedLakes.{elsewhere, mail, one, two, like_id, protect_entry, branched_lake};
+ghost use Rattle.law_examples.specs.RefusedLakes.{tagged_lake, expired_lake};
 
 /// There is no such repository.
 pub fn no_repository()
@@ -42,7 +44,8 @@ pub fn no_commit()
 pub fn expired_commit()
     ensures refused_branch { (cut : Cut)
         → Allows (expired_lake cut) (entry_of (BranchCreate quickstart mail (first cut))) → ⊥ }
-    ensures refused_tag { (cut : Cut) → Allows (expired_lake cut) (entry_of (TagCreate quickstart one (first cut))) → ⊥ }
+    ensures refused_tag { (cut : Cut)
+        → Allows (expired_lake cut) (entry_of (TagCreate quickstart one (first cut))) → ⊥ }
 {}
 
 /// The name stands already. Of a new repository the premise is that no file of its first commit shares its name with
@@ -52,7 +55,8 @@ pub fn name_that_stands()
         → Allows (fresh cut) (entry_of (RepoCreate elsewhere main 0)) }
     ensures refused_repository { (cut : Cut) → Allows (fresh cut) (entry_of (RepoCreate quickstart main 0)) → ⊥ }
     ensures allowed_branch { (cut : Cut) → Allows (fresh cut) (entry_of (BranchCreate quickstart mail (first cut))) }
-    ensures refused_branch { (cut : Cut) → Allows (fresh cut) (entry_of (BranchCreate quickstart main (first cut))) → ⊥ }
+    ensures refused_branch { (cut : Cut)
+        → Allows (fresh cut) (entry_of (BranchCreate quickstart main (first cut))) → ⊥ }
     ensures allowed_tag { (cut : Cut) → Allows (tagged_lake cut) (entry_of (TagCreate quickstart two (first cut))) }
     ensures refused_tag { (cut : Cut) → Allows (tagged_lake cut) (entry_of (TagCreate quickstart one (first cut))) → ⊥ }
 {}
@@ -60,7 +64,8 @@ pub fn name_that_stands()
 /// The name is like an id: 64 hex digits. (Another name is allowed: `name_that_stands`.)
 pub fn name_like_an_id()
     ensures refused_repository { (cut : Cut) → Allows (fresh cut) (entry_of (RepoCreate elsewhere like_id 0)) → ⊥ }
-    ensures refused_branch { (cut : Cut) → Allows (fresh cut) (entry_of (BranchCreate quickstart like_id (first cut))) → ⊥ }
+    ensures refused_branch { (cut : Cut)
+        → Allows (fresh cut) (entry_of (BranchCreate quickstart like_id (first cut))) → ⊥ }
     ensures refused_tag { (cut : Cut) → Allows (fresh cut) (entry_of (TagCreate quickstart like_id (first cut))) → ⊥ }
 {}
 

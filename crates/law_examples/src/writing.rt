@@ -11,15 +11,19 @@ ghost use Rattle.lake_model.specs.declared.history.By.{By};
 ghost use Rattle.lake_model.specs.declared.history.CopySource.TheVariants as source;
 ghost use Rattle.lake_model.specs.declared.history.HistoryEntry.{HistoryEntry};
 ghost use Rattle.lake_model.specs.declared.history.Operation.{Operation};
-ghost use Rattle.lake_model.specs.declared.history.Operation.TheVariants.{Copy, NoteSet, Reset, Seal, Stage, TicketDrop, TicketTake};
+ghost use Rattle.lake_model.specs.declared.history.Operation.TheVariants.{Copy, NoteSet, Reset, Seal, Stage};
+ghost use Rattle.lake_model.specs.declared.history.Operation.TheVariants.{TicketDrop, TicketTake};
 ghost use Rattle.lake_model.specs.declared.history.SealFor.TheVariants as seal;
 ghost use Rattle.lake_model.specs.State.{Branch, Repository, State};
 ghost use Rattle.lake_model.specs.Commits.{IsMerge, IsPick};
 ghost use Rattle.lake_model.specs.Uncommitted.{MaySeal};
 ghost use Rattle.lake_model.specs.History.{Allows, accepted_entry, after, faulted_entry};
 ghost use Rattle.lake_model.specs.Soundness.{fresh};
-ghost use Rattle.law_examples.specs.HistoryWords.{quickstart, main, outside, own, entry_of, entry_by, ticket_entry, put_entry, delete_entry, seal_entry, commit_entry, IsCommitAdmissible};
-ghost use Rattle.law_examples.specs.RefusedLakes.{a, b, fault_of, mail, one_day, stopped_lake, lake_of_entries, ticket_lake, retaining_lake, ready_lake, protected_lake};
+ghost use Rattle.law_examples.specs.HistoryWords.{quickstart, main, outside, own, entry_of, entry_by, ticket_entry};
+ghost use Rattle.law_examples.specs.HistoryWords.{put_entry, delete_entry, seal_entry, commit_entry};
+ghost use Rattle.law_examples.specs.HistoryWords.{IsCommitAdmissible};
+ghost use Rattle.law_examples.specs.RefusedLakes.{a, b, fault_of, mail, one_day, stopped_lake, lake_of_entries};
+ghost use Rattle.law_examples.specs.RefusedLakes.{ticket_lake, retaining_lake, ready_lake, protected_lake};
 
 /// Nothing comes after a fault of the store, though it be possible, and be allowed were the lake not stopped.
 pub fn stopped()

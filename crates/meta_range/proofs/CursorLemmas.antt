@@ -1,5 +1,6 @@
 -- What a cursor over the ranges of a tree has left.
-use Rattle.std.proofs.Common.{T, ◌≡◌, ℕ, zero, suc, ◌-◌, ◌<◌, ◌≤◌, Bool, true, false, cond, not, List, [], ◌∷◌, ◌++◌, length, get_or, take, drop, Some, None, refl, sym, ap, subst, ◌∙◌, arith}
+use Rattle.std.proofs.Common.{T, ◌≡◌, ℕ, zero, suc, ◌-◌, ◌<◌, ◌≤◌, Bool, true, false, cond, not, List, [], ◌∷◌, ◌++◌, length, get_or, take, drop, Some, None}
+use Rattle.std.proofs.Common.{refl, sym, ap, subst, ◌∙◌, arith}
 use Rattle.std.specs.List.{filter, AllByRecursion, AllWithin}
 use Rattle.std.specs.List.Sorted.{IsPartitionedBy}
 use Rattle.std.specs.Ordering.{is_lt, is_eq}
@@ -35,43 +36,51 @@ below_append key [] b h = (tt, h)
 below_append key (row ∷ a) b h = let more = below_append key a b (second _ _ h) in (both _ _ (first _ _ h) more.0, more.1)
 
 -- a key below all rows is below the last
-below_last : (key : List ℕ) (rows : List RowValue) → 0 < length rows → T (below_all byte_order key rows) → byte_order key (path_at rows (length rows - 1)) ≡ Less
+below_last : (key : List ℕ) (rows : List RowValue) → 0 < length rows → T (below_all byte_order key rows)
+    → byte_order key (path_at rows (length rows - 1)) ≡ Less
 below_last key [] some h = absurd (omega arith)
 below_last key (row ∷ rows) some h =
     sym (ap (byte_order key) (path_is (row ∷ rows) (length (row ∷ rows) - 1) row (omega arith)))
     ∙ below_at key (row ∷ rows) (length (row ∷ rows) - 1) row h (omega arith)
 
 -- and below the last of each range
-below_end : (key : List ℕ) (ranges : List (List RowValue)) (j : ℕ) (d : List RowValue) → j < length ranges → AllByRecursion IsRange ranges → T (below_all byte_order key (rows_of ranges))
+below_end : (key : List ℕ) (ranges : List (List RowValue)) (j : ℕ) (d : List RowValue) → j < length ranges → AllByRecursion IsRange ranges
+    → T (below_all byte_order key (rows_of ranges))
     → byte_order key (path_at (get_or ranges j d) (length (get_or ranges j d) - 1)) ≡ Less
 below_end key [] j d lt each h = absurd (omega arith)
 below_end key (range ∷ ranges) zero d lt each h = below_last key range (omega (arith, each.0.some)) (below_append key range (rows_of ranges) h).0
 below_end key (range ∷ ranges) (suc j) d lt each h = below_end key ranges j d (omega arith) each.1 (below_append key range (rows_of ranges) h).1
 
 -- where a range ends below, so do those before it
-pub ranges_parted : (least : List ℕ) (ranges : List (List RowValue)) → AllByRecursion IsRange ranges → HasAscendingKeys (rows_of ranges) → IsPartitionedBy (ends_low least) ranges
+pub ranges_parted : (least : List ℕ) (ranges : List (List RowValue)) → AllByRecursion IsRange ranges → HasAscendingKeys (rows_of ranges)
+    → IsPartitionedBy (ends_low least) ranges
 ranges_parted least [] each h i j d le lt passed = absurd (omega arith)
 ranges_parted least (range ∷ ranges) each h zero zero d le lt passed = passed
 ranges_parted least (range ∷ ranges) each h zero (suc j) d le lt passed =
     below_down least (path_at range (length range - 1)) (path_at (get_or ranges j d) (length (get_or ranges j d) - 1))
     (below_end (path_at range (length range - 1)) ranges j d (omega arith) each.1 (last_below range (rows_of ranges) (omega (arith, each.0.some)) h)) passed
 ranges_parted least (range ∷ ranges) each h (suc i) zero d le lt passed = absurd (omega arith)
-ranges_parted least (range ∷ ranges) each h (suc i) (suc j) d le lt passed = ranges_parted least ranges each.1 (ascend_back range (rows_of ranges) h) i j d (omega arith) (omega arith) passed
+ranges_parted least (range ∷ ranges) each h (suc i) (suc j) d le lt passed =
+    ranges_parted least ranges each.1 (ascend_back range (rows_of ranges) h) i j d (omega arith) (omega arith) passed
 
 -- each row of rows that end below is below
-all_low : (least : List ℕ) (rows : List RowValue) → HasAscendingKeys rows → 0 < length rows → ends_low least rows ≡ true → AllByRecursion (λ row. not (is_low least row) ≡ false) rows
+all_low : (least : List ℕ) (rows : List RowValue) → HasAscendingKeys rows → 0 < length rows → ends_low least rows ≡ true
+    → AllByRecursion (λ row. not (is_low least row) ≡ false) rows
 all_low least [] h some low = absurd (omega arith)
 all_low least (row ∷ []) h some low = (ap not low, tt)
 all_low least (row ∷ next ∷ rows) h some low =
     let later : ends_low least (next ∷ rows) ≡ true = sym (ap (λ path. is_lt (byte_order path least)) (last_of_more row next rows)) ∙ low in (
-      ap not (below_down least row.0 (path_at (next ∷ rows) (length (next ∷ rows) - 1)) (below_last row.0 (next ∷ rows) (omega arith) (head_below row (next ∷ rows) h)) later),
+      ap not (below_down least row.0 (path_at (next ∷ rows) (length (next ∷ rows) - 1))
+          (below_last row.0 (next ∷ rows) (omega arith) (head_below row (next ∷ rows) h)) later),
       all_low least (next ∷ rows) (tail_ascends row (next ∷ rows) h) (omega arith) later,
     )
 
-ranges_low : (least : List ℕ) (ranges : List (List RowValue)) → AllByRecursion IsRange ranges → AllByRecursion (λ range. ends_low least range ≡ true) ranges → AllByRecursion (λ row. not (is_low least row) ≡ false) (rows_of ranges)
+ranges_low : (least : List ℕ) (ranges : List (List RowValue)) → AllByRecursion IsRange ranges → AllByRecursion (λ range. ends_low least range ≡ true) ranges
+    → AllByRecursion (λ row. not (is_low least row) ≡ false) (rows_of ranges)
 ranges_low least [] each low = tt
 ranges_low least (range ∷ ranges) each low =
-    all_append (λ row. not (is_low least row) ≡ false) range (rows_of ranges) (all_low least range each.0.ascend (omega (arith, each.0.some)) low.0) (ranges_low least ranges each.1 low.1)
+    all_append (λ row. not (is_low least row) ≡ false) range (rows_of ranges) (all_low least range each.0.ascend (omega (arith, each.0.some)) low.0)
+    (ranges_low least ranges each.1 low.1)
 
 pub each_front : {X : Type 0} (P : X → Type 0) (n : ℕ) (xs : List X) → AllByRecursion P xs → AllByRecursion P (take n xs)
 each_front P zero xs all = tt
@@ -84,31 +93,37 @@ each_back P (suc n) [] all = tt
 each_back P (suc n) (x ∷ xs) all = each_back P n xs all.1
 
 -- the ranges that end below are passed
-pub ranges_passed : (least : List ℕ) (ranges : List (List RowValue)) (at : ℕ) → at ≤ length ranges → AllByRecursion IsRange ranges → AllWithin (λ range. ends_low least range ≡ true) ranges 0 at
+pub ranges_passed : (least : List ℕ) (ranges : List (List RowValue)) (at : ℕ) → at ≤ length ranges → AllByRecursion IsRange ranges
+    → AllWithin (λ range. ends_low least range ≡ true) ranges 0 at
     → entries_from least (rows_of (drop at ranges)) ≡ entries_from least (rows_of ranges)
 ranges_passed least ranges at le each low =
     let p : RowValue → Bool = λ row. not (is_low least row) in
     sym (
     ap (λ rs. filter p (rows_of rs)) (sym (take-append-drop at ranges))
     ∙ ap (filter p) (rows_append (take at ranges) (drop at ranges))
-    ∙ front_lost p (rows_of (take at ranges)) (rows_of (drop at ranges)) (ranges_low least (take at ranges) (each_front IsRange at ranges each) (part_front (λ range. ends_low least range ≡ true) ranges at le low))
+    ∙ front_lost p (rows_of (take at ranges)) (rows_of (drop at ranges))
+    (ranges_low least (take at ranges) (each_front IsRange at ranges each) (part_front (λ range. ends_low least range ≡ true) ranges at le low))
     )
 
 -- ---- the range in which a seek ends
 
-kept_all : (least : List ℕ) (rows : List RowValue) → AllByRecursion (λ row. is_low least row ≡ false) rows → AllByRecursion (λ row. not (is_low least row) ≡ true) rows
+kept_all : (least : List ℕ) (rows : List RowValue) → AllByRecursion (λ row. is_low least row ≡ false) rows
+    → AllByRecursion (λ row. not (is_low least row) ≡ true) rows
 kept_all least [] all = tt
 kept_all least (row ∷ rows) all = (ap not all.0, kept_all least rows all.1)
 
 -- rows above a path that isn't below stay
-stay_above : (least path : List ℕ) (rows : List RowValue) → is_lt (byte_order path least) ≡ false → T (below_all byte_order path rows) → entries_from least rows ≡ rows
+stay_above : (least path : List ℕ) (rows : List RowValue) → is_lt (byte_order path least) ≡ false → T (below_all byte_order path rows)
+    → entries_from least rows ≡ rows
 stay_above least path rows never h = all_kept (λ row. not (is_low least row)) rows (kept_all least rows (none_passed least path rows never h))
 
-pub in_range : (least : List ℕ) (range : List RowValue) (after : List (List RowValue)) → 0 < length range → HasAscendingKeys (range ++ rows_of after) → ends_low least range ≡ false
+pub in_range : (least : List ℕ) (range : List RowValue) (after : List (List RowValue)) → 0 < length range → HasAscendingKeys (range ++ rows_of after)
+    → ends_low least range ≡ false
     → entries_from least range ++ rows_of after ≡ entries_from least (range ++ rows_of after)
 in_range least range after some h never =
     sym (filter-append (λ row. not (is_low least row)) range (rows_of after)
-    ∙ ap (λ l. entries_from least range ++ l) (stay_above least (path_at range (length range - 1)) (rows_of after) never (last_below range (rows_of after) some h)))
+    ∙ ap (λ l. entries_from least range ++ l)
+    (stay_above least (path_at range (length range - 1)) (rows_of after) never (last_below range (rows_of after) some h)))
 
 -- what stands first from a place on
 at_drop : {X : Type 0} (xs : List X) (at : ℕ) (x : X) (rest : List X) → drop at xs ≡ x ∷ rest → (at < length xs) × (get_or xs at x ≡ x)
@@ -118,21 +133,26 @@ at_drop (y ∷ xs) zero x rest e = let is : y ≡ x = cc in (omega arith, is)
 at_drop (y ∷ xs) (suc at) x rest e = let more = at_drop xs at x rest e in (omega (arith, more.0), more.1)
 
 -- a seek among ranges ends in the first that doesn't end below
-pub ranges_sought : (least : List ℕ) (ranges : List (List RowValue)) (at : ℕ) (range : List RowValue) (after : List (List RowValue)) → at ≤ length ranges → AllByRecursion IsRange ranges → HasAscendingKeys (rows_of ranges)
-    → AllWithin (λ range. ends_low least range ≡ true) ranges 0 at → AllWithin (λ range. ends_low least range ≡ false) ranges at (length ranges) → drop at ranges ≡ range ∷ after
+pub ranges_sought : (least : List ℕ) (ranges : List (List RowValue)) (at : ℕ) (range : List RowValue) (after : List (List RowValue)) → at ≤ length ranges
+    → AllByRecursion IsRange ranges → HasAscendingKeys (rows_of ranges)
+    → AllWithin (λ range. ends_low least range ≡ true) ranges 0 at → AllWithin (λ range. ends_low least range ≡ false) ranges at (length ranges)
+    → drop at ranges ≡ range ∷ after
     → entries_from least range ++ rows_of after ≡ entries_from least (rows_of ranges)
 ranges_sought least ranges at range after le each h low never is =
     let here = at_drop ranges at range after is in
     let ends : ends_low least range ≡ false = subst (λ r. ends_low least r ≡ false) here.1 (never at range (omega arith) here.0) in
-    let back : HasAscendingKeys (rows_of (take at ranges) ++ rows_of (drop at ranges)) = subst HasAscendingKeys (ap rows_of (sym (take-append-drop at ranges)) ∙ rows_append (take at ranges) (drop at ranges)) h in
-    let rest : HasAscendingKeys (range ++ rows_of after) = subst (λ rs. HasAscendingKeys (rows_of rs)) is (ascend_back (rows_of (take at ranges)) (rows_of (drop at ranges)) back) in
+    let back : HasAscendingKeys (rows_of (take at ranges) ++ rows_of (drop at ranges)) =
+    subst HasAscendingKeys (ap rows_of (sym (take-append-drop at ranges)) ∙ rows_append (take at ranges) (drop at ranges)) h in
+    let rest : HasAscendingKeys (range ++ rows_of after) =
+    subst (λ rs. HasAscendingKeys (rows_of rs)) is (ascend_back (rows_of (take at ranges)) (rows_of (drop at ranges)) back) in
     let some = subst (AllByRecursion IsRange) is (each_back IsRange at ranges each) in
     in_range least range after (omega (arith, some.0.some)) rest ends
     ∙ sym (ap (λ rs. entries_from least (rows_of rs)) is)
     ∙ ranges_passed least ranges at le each low
 
 -- and it passes all where each ends below
-pub none_sought : (least : List ℕ) (ranges : List (List RowValue)) (at : ℕ) → at ≤ length ranges → AllByRecursion IsRange ranges → AllWithin (λ range. ends_low least range ≡ true) ranges 0 at → length (drop at ranges) ≡ 0
+pub none_sought : (least : List ℕ) (ranges : List (List RowValue)) (at : ℕ) → at ≤ length ranges → AllByRecursion IsRange ranges
+    → AllWithin (λ range. ends_low least range ≡ true) ranges 0 at → length (drop at ranges) ≡ 0
     → rows_of (drop at ranges) ≡ entries_from least (rows_of ranges)
 none_sought least ranges at le each low none =
     let gone = none_left (drop at ranges) none in
@@ -143,7 +163,8 @@ none_sought least ranges at le each low none =
     none_left (x ∷ xs) e = absurd (omega arith)
 
 -- where some of the rows stay, so do all after them
-pub rows_stay : (least : List ℕ) (rows more : List RowValue) → HasAscendingKeys (rows ++ more) → 0 < length (entries_from least rows) → entries_from least rows ++ more ≡ entries_from least (rows ++ more)
+pub rows_stay : (least : List ℕ) (rows more : List RowValue) → HasAscendingKeys (rows ++ more) → 0 < length (entries_from least rows)
+    → entries_from least rows ++ more ≡ entries_from least (rows ++ more)
 rows_stay least rows more h some = sym (filter-append (λ row. not (is_low least row)) rows more ∙ ap (λ l. entries_from least rows ++ l) (after rows h some))
   where
     after : (rows : List RowValue) → HasAscendingKeys (rows ++ more) → 0 < length (entries_from least rows) → entries_from least more ≡ more
@@ -159,11 +180,13 @@ pub rows_gone : (least : List ℕ) (rows more : List RowValue) → entries_from 
 rows_gone least rows more none = sym (filter-append (λ row. not (is_low least row)) rows more ∙ ap (λ l. l ++ entries_from least more) none)
 
 -- what is left after a seek ascends
-pub left_from : (least : List ℕ) (all rows : List RowValue) (ranges : List (List RowValue)) → HasAscendingKeys all → rows ++ rows_of ranges ≡ entries_from least all → AllByRecursion IsRange ranges → AreLeft rows ranges
+pub left_from : (least : List ℕ) (all rows : List RowValue) (ranges : List (List RowValue)) → HasAscendingKeys all
+    → rows ++ rows_of ranges ≡ entries_from least all → AllByRecursion IsRange ranges → AreLeft rows ranges
 left_from least all rows ranges h is each = record { ascend = subst HasAscendingKeys (sym is) (ascends_from least all h); each = each }
 
 -- what is left behind a row
-pub left_behind : (row : RowValue) (all rows : List RowValue) (ranges : List (List RowValue)) → HasAscendingKeys all → all ≡ row ∷ (rows ++ rows_of ranges) → AllByRecursion IsRange ranges → AreLeft rows ranges
+pub left_behind : (row : RowValue) (all rows : List RowValue) (ranges : List (List RowValue)) → HasAscendingKeys all → all ≡ row ∷ (rows ++ rows_of ranges)
+    → AllByRecursion IsRange ranges → AreLeft rows ranges
 left_behind row all rows ranges h is each = record { ascend = tail_ascends row (rows ++ rows_of ranges) (subst HasAscendingKeys is h); each = each }
 
 -- ---- the rows above a path
@@ -173,7 +196,8 @@ pub from_again : (least : List ℕ) (rows : List RowValue) → HasAscendingKeys 
 from_again least [] h = refl
 from_again least (row ∷ rows) h = by (is_low least row) refl (from_again least rows (tail_ascends row rows h))
   where
-    by : (b : Bool) → is_low least row ≡ b → entries_from least (entries_from least rows) ≡ entries_from least rows → entries_from least (entries_from least (row ∷ rows)) ≡ entries_from least (row ∷ rows)
+    by : (b : Bool) → is_low least row ≡ b → entries_from least (entries_from least rows) ≡ entries_from least rows
+        → entries_from least (entries_from least (row ∷ rows)) ≡ entries_from least (row ∷ rows)
     by true low rest = ap (entries_from least) (seek_passes least row rows low) ∙ rest ∙ sym (seek_passes least row rows low)
     by false never rest = ap (entries_from least) (seek_stays least row rows h never)
 
@@ -196,11 +220,13 @@ all_above path rows h = all_kept (λ row. is_lt (byte_order path row.0)) rows (e
     each (row ∷ rows) h = (ap is_lt (less _ (first _ _ h)), each rows (second _ _ h))
 
 -- the row at the path isn't above it
-pub above_passed : (path : List ℕ) (row : RowValue) (rows : List RowValue) → HasAscendingKeys (row ∷ rows) → bytes_eq row.0 path ≡ true → rows ≡ rows_above (Some path) (row ∷ rows)
+pub above_passed : (path : List ℕ) (row : RowValue) (rows : List RowValue) → HasAscendingKeys (row ∷ rows) → bytes_eq row.0 path ≡ true
+    → rows ≡ rows_above (Some path) (row ∷ rows)
 above_passed path row rows h same =
     let is : row.0 ≡ path = (bytes_eq-Decides row.0 path).0 same in
     let itself : is_lt (byte_order path row.0) ≡ false = ap (λ p. is_lt (byte_order p row.0)) (sym is) ∙ ap is_lt (tied_itself nat_list_cmp_total row.0) in
-    sym (ap (λ b. cond b (row ∷ rows_above (Some path) rows) (rows_above (Some path) rows)) itself ∙ all_above path rows (subst (λ p. T (below_all byte_order p rows)) is (head_below row rows h)))
+    sym (ap (λ b. cond b (row ∷ rows_above (Some path) rows) (rows_above (Some path) rows)) itself
+    ∙ all_above path rows (subst (λ p. T (below_all byte_order p rows)) is (head_below row rows h)))
 
 -- a row that is neither below nor at the path is above it
 above_when : (path key : List ℕ) (o : Ordering) → byte_order key path ≡ o → is_lt o ≡ false → is_eq o ≡ false → byte_order path key ≡ Less
@@ -208,17 +234,20 @@ above_when path key Less is low tie = absurd cc
 above_when path key Equal is low tie = absurd cc
 above_when path key Greater is low tie = turned key path Greater is
 
-pub above_stays : (path : List ℕ) (row : RowValue) (rows : List RowValue) → HasAscendingKeys (row ∷ rows) → is_low path row ≡ false → bytes_eq row.0 path ≡ false → row ∷ rows ≡ rows_above (Some path) (row ∷ rows)
+pub above_stays : (path : List ℕ) (row : RowValue) (rows : List RowValue) → HasAscendingKeys (row ∷ rows) → is_low path row ≡ false
+    → bytes_eq row.0 path ≡ false → row ∷ rows ≡ rows_above (Some path) (row ∷ rows)
 above_stays path row rows h never other =
     let above : byte_order path row.0 ≡ Less = above_when path row.0 (byte_order row.0 path) refl never (is_eq-slice_cmp row.0 path ∙ other) in
-    sym (ap (λ b. cond b (row ∷ rows_above (Some path) rows) (rows_above (Some path) rows)) (ap is_lt above) ∙ ap (λ l. row ∷ l) (all_above path rows (less_more path row.0 rows above (head_below row rows h))))
+    sym (ap (λ b. cond b (row ∷ rows_above (Some path) rows) (rows_above (Some path) rows)) (ap is_lt above)
+    ∙ ap (λ l. row ∷ l) (all_above path rows (less_more path row.0 rows above (head_below row rows h))))
 
 -- what is above a path is what is above it from there on
 pub above_from : (path : List ℕ) (rows : List RowValue) → HasAscendingKeys rows → rows_above (Some path) (entries_from path rows) ≡ rows_above (Some path) rows
 above_from path [] h = refl
 above_from path (row ∷ rows) h = by (is_low path row) refl (above_from path rows (tail_ascends row rows h))
   where
-    by : (b : Bool) → is_low path row ≡ b → rows_above (Some path) (entries_from path rows) ≡ rows_above (Some path) rows → rows_above (Some path) (entries_from path (row ∷ rows)) ≡ rows_above (Some path) (row ∷ rows)
+    by : (b : Bool) → is_low path row ≡ b → rows_above (Some path) (entries_from path rows) ≡ rows_above (Some path) rows
+        → rows_above (Some path) (entries_from path (row ∷ rows)) ≡ rows_above (Some path) (row ∷ rows)
     by true low rest =
         let behind : byte_order path row.0 ≡ Greater = turned row.0 path Less (lt_is (byte_order row.0 path) low) in
         ap (rows_above (Some path)) (seek_passes path row rows low) ∙ rest
@@ -232,7 +261,8 @@ pub find_from : (path : List ℕ) (rows : List RowValue) → HasAscendingKeys ro
 find_from path [] h = refl
 find_from path (row ∷ rows) h = by (is_low path row) refl (find_from path rows (tail_ascends row rows h))
   where
-    by : (b : Bool) → is_low path row ≡ b → find byte_order path rows ≡ find byte_order path (entries_from path rows) → find byte_order path (row ∷ rows) ≡ find byte_order path (entries_from path (row ∷ rows))
+    by : (b : Bool) → is_low path row ≡ b → find byte_order path rows ≡ find byte_order path (entries_from path rows)
+        → find byte_order path (row ∷ rows) ≡ find byte_order path (entries_from path (row ∷ rows))
     by true low rest =
         let behind : byte_order path row.0 ≡ Greater = turned row.0 path Less (lt_is (byte_order row.0 path) low) in
         ap (λ o. cond (is_eq o) (Some row.1) (find byte_order path rows)) behind ∙ rest
@@ -243,10 +273,12 @@ find_from path (row ∷ rows) h = by (is_low path row) refl (find_from path rows
 pub find_first : (path : List ℕ) (row : RowValue) (rows : List RowValue) → bytes_eq row.0 path ≡ true → find byte_order path (row ∷ rows) ≡ Some row.1
 find_first path row rows same =
     let is : row.0 ≡ path = (bytes_eq-Decides row.0 path).0 same in
-    ap (λ p. cond (is_eq (byte_order p row.0)) (Some row.1) (find byte_order path rows)) (sym is) ∙ ap (λ o. cond (is_eq o) (Some row.1) (find byte_order path rows)) (tied_itself nat_list_cmp_total row.0)
+    ap (λ p. cond (is_eq (byte_order p row.0)) (Some row.1) (find byte_order path rows)) (sym is)
+    ∙ ap (λ o. cond (is_eq o) (Some row.1) (find byte_order path rows)) (tied_itself nat_list_cmp_total row.0)
 
 -- nothing is found where the first row that isn't below is another
-pub find_other : (path : List ℕ) (row : RowValue) (rows : List RowValue) → HasAscendingKeys (row ∷ rows) → is_low path row ≡ false → bytes_eq row.0 path ≡ false → find byte_order path (row ∷ rows) ≡ None
+pub find_other : (path : List ℕ) (row : RowValue) (rows : List RowValue) → HasAscendingKeys (row ∷ rows) → is_low path row ≡ false → bytes_eq row.0 path ≡ false
+    → find byte_order path (row ∷ rows) ≡ None
 find_other path row rows h never other =
     let above : byte_order path row.0 ≡ Less = above_when path row.0 (byte_order row.0 path) refl never (is_eq-slice_cmp row.0 path ∙ other) in
     ap (λ o. cond (is_eq o) (Some row.1) (find byte_order path rows)) above ∙ find_none path rows (less_more path row.0 rows above (head_below row rows h))

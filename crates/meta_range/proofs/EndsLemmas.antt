@@ -1,8 +1,10 @@
 -- A range of a tree is what its map has from the first to the last of its paths.
-use Rattle.std.proofs.Common.{T, ◌≡◌, ℕ, zero, suc, ◌-◌, ◌<◌, ◌&&◌, Bool, true, false, cond, not, List, [], ◌∷◌, ◌++◌, length, get_or, Option, Some, None, refl, sym, ap, subst, ◌∙◌, arith}
+use Rattle.std.proofs.Common.{T, ◌≡◌, ℕ, zero, suc, ◌-◌, ◌<◌, ◌&&◌, Bool, true, false, cond, not, List, [], ◌∷◌, ◌++◌, length, get_or, Option, Some, None, refl}
+use Rattle.std.proofs.Common.{sym, ap, subst, ◌∙◌, arith}
 use Rattle.std.specs.List.{AllByRecursion}
 use Rattle.std.specs.Ordering.{is_lt, is_eq}
-use Rattle.std.specs.FinMap.{find, get, from_sorted, entries, get-from_sorted, entries-from_sorted, same_map, slice_cmp-IsAntisymmetric, nat_cmp-IsAntisymmetric}
+use Rattle.std.specs.FinMap.{find, get, from_sorted, entries, get-from_sorted, entries-from_sorted, same_map, slice_cmp-IsAntisymmetric}
+use Rattle.std.specs.FinMap.{nat_cmp-IsAntisymmetric}
 use Rattle.std.specs.FinMap.Entries.{below_all}
 use Rattle.std.specs.declared.cmp.Ordering.{Ordering}
 use Rattle.std.specs.declared.cmp.Ordering.TheVariants.{Less, Equal, Greater}
@@ -52,7 +54,8 @@ reaches low mid path less never = by (byte_order path mid) refl
     by Greater is = nat_list_cmp_total.trans low mid path less (turned path mid Greater is)
 
 -- a path that isn't above one that is below all rows is below all of them
-pub below_rows : {X : Type 0} (last path : List ℕ) (rows : List (List ℕ × X)) → is_lt (byte_order last path) ≡ false → T (below_all byte_order last rows) → T (below_all byte_order path rows)
+pub below_rows : {X : Type 0} (last path : List ℕ) (rows : List (List ℕ × X)) → is_lt (byte_order last path) ≡ false → T (below_all byte_order last rows)
+    → T (below_all byte_order path rows)
 below_rows last path rows never all = by (byte_order last path) refl
   where
     by : (o : Ordering) → byte_order last path ≡ o → T (below_all byte_order path rows)
@@ -67,9 +70,11 @@ none_after path (row ∷ []) h above = ap (λ o. cond (is_eq o) (Some row.1) Non
 none_after path (row ∷ next ∷ rows) h above =
     let later : byte_order (last_of (next ∷ rows)) path ≡ Less = sym (ap (λ k. byte_order k path) (last_of_more row next rows)) ∙ above in
     let low : byte_order row.0 path ≡ Less = below_last row next rows h later in
-    ap (λ o. cond (is_eq o) (Some row.1) (find byte_order path (next ∷ rows))) (turned row.0 path Less low) ∙ none_after path (next ∷ rows) (tail_ascends row (next ∷ rows) h) later
+    ap (λ o. cond (is_eq o) (Some row.1) (find byte_order path (next ∷ rows))) (turned row.0 path Less low)
+    ∙ none_after path (next ∷ rows) (tail_ascends row (next ∷ rows) h) later
   where
-    below_last : (row next : RowValue) (rows : List RowValue) → HasAscendingKeys (row ∷ next ∷ rows) → byte_order (last_of (next ∷ rows)) path ≡ Less → byte_order row.0 path ≡ Less
+    below_last : (row next : RowValue) (rows : List RowValue) → HasAscendingKeys (row ∷ next ∷ rows) → byte_order (last_of (next ∷ rows)) path ≡ Less
+        → byte_order row.0 path ≡ Less
     below_last row next [] h later = nat_list_cmp_total.trans row.0 next.0 path (less _ (first _ _ (head_below row (next ∷ []) h))) later
     below_last row next (more ∷ rows) h later =
         nat_list_cmp_total.trans row.0 next.0 path (less _ (first _ _ (head_below row (next ∷ more ∷ rows) h)))
@@ -111,7 +116,8 @@ module _ (path : List ℕ) where
           less_more_all : byte_order path row.0 ≡ Less → T (below_all byte_order path range)
           less_more_all lt = both _ _ (subst (λ o. T (is_lt o)) (sym lt) tt) (less_more path row.0 rows lt (head_below row rows is.ascend))
       by false low true above = none_after path range is.ascend (less _ (subst T (sym above) tt))
-      by false low false above = sym (find_front path range more (find_none path more (below_rows (last_of range) path more above (last_below range more is.some h))))
+      by false low false above =
+          sym (find_front path range more (find_none path more (below_rows (last_of range) path more above (last_below range more is.some h))))
 
   pub found_within : (ranges : List (List RowValue)) (at : ℕ) (range : List RowValue) → at < length ranges → range ≡ get_or ranges at range
       → AllByRecursion IsRange ranges → HasAscendingKeys (rows_of ranges)
@@ -125,11 +131,13 @@ module _ (path : List ℕ) where
       ∙ by (is_lt (byte_order path (first_of range))) refl (not (is_lt (byte_order (last_of range) path)))
     where
       by : (low : Bool) → is_lt (byte_order path (first_of range)) ≡ low → (within : Bool)
-          → cond (not low && within) (find byte_order path (rows_of ranges)) None ≡ cond (not low && within) (find byte_order path (before ++ rows_of ranges)) None
+          → cond (not low && within) (find byte_order path (rows_of ranges)) None
+          ≡ cond (not low && within) (find byte_order path (before ++ rows_of ranges)) None
       by true low more = refl
       by false low false = refl
       by false low true =
-          let apart : byte_order (last_of before) (first_of range) ≡ Less = below_first (last_of before) ranges at range (omega arith) is each.1 (last_below before (rows_of ranges) each.0.some h) in
+          let apart : byte_order (last_of before) (first_of range) ≡ Less =
+          below_first (last_of before) ranges at range (omega arith) is each.1 (last_below before (rows_of ranges) each.0.some h) in
           sym (find_behind path before (rows_of ranges) (none_after path before each.0.ascend (reaches (last_of before) (first_of range) path apart low)))
 
 -- ---- ranges of trees
@@ -175,7 +183,8 @@ same_rows_found rows others h k found =
 
 module _ (tree other : TreeValue) (place at : ℕ) (first last : List ℕ) (one : HasEnds tree place first last) (two : HasEnds other at first last) where
   -- what is found in a range with these ends
-  between : (t : TreeValue) (p : ℕ) (e : HasEnds t p first last) (path : List ℕ) → find byte_order path e.range ≡ cond (is_between first last path) (get t.map path) None
+  between : (t : TreeValue) (p : ℕ) (e : HasEnds t p first last) (path : List ℕ)
+      → find byte_order path e.range ≡ cond (is_between first last path) (get t.map path) None
   between t p e path =
       found_is t p e.range e.at path
       ∙ ap (λ f. cond (is_between f (last_of e.range) path) (get t.map path) None) e.begins

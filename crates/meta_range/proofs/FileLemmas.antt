@@ -66,7 +66,8 @@ module _ (tree : TreeValue) (ranges : List (List RowValue)) (here : tree ≡ tre
 
 module _ (tree other : TreeValue) (ranges others : List (List RowValue)) (here : tree ≡ tree_of ranges) (there : other ≡ tree_of others)
     (are : AreRanges ranges) (also : AreRanges others) where
-  pub same_files_at : (place place_there : ℕ) (range two : List RowValue) → 0 < place → 0 < place_there → place < length tree.files → place_there < length other.files
+  pub same_files_at : (place place_there : ℕ) (range two : List RowValue) → 0 < place → 0 < place_there → place < length tree.files
+      → place_there < length other.files
       → range ≡ get_or ranges (place - 1) range → two ≡ get_or others (place_there - 1) two
       → same_rows range two ≡ bytes_eq (file_at tree.files place) (file_at other.files place_there)
   same_files_at place place_there range two behind after within inside is also_is =

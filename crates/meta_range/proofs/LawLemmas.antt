@@ -27,7 +27,8 @@ first_is cut objects = refl
 
 -- ---- the ranges of a map that fits a tree
 
-cut_ranges : (cut : Cut) (n : ℕ) (rows : List RowValue) → length rows < 2 ^ 32 → HasAscendingKeys rows → AllByRecursion IsRow rows → AllByRecursion IsRange (ranges_within n cut rows)
+cut_ranges : (cut : Cut) (n : ℕ) (rows : List RowValue) → length rows < 2 ^ 32 → HasAscendingKeys rows → AllByRecursion IsRow rows
+    → AllByRecursion IsRange (ranges_within n cut rows)
 cut_ranges cut zero rows few h each = tt
 cut_ranges cut (suc n) [] few h each = tt
 cut_ranges cut (suc n) (row ∷ rows) few h each =
@@ -76,7 +77,8 @@ same_more file all others (inr clash) = inr (record {
 })
 
 -- the first files have one name
-same_first : (file other : List ℕ) (all others : List (List ℕ)) → file_name file ≡ file_name other → (file ≡ other → Same all others) → Same (file ∷ all) (other ∷ others)
+same_first : (file other : List ℕ) (all others : List (List ℕ)) → file_name file ≡ file_name other → (file ≡ other → Same all others)
+    → Same (file ∷ all) (other ∷ others)
 same_first file other all others named rest =
     elim (cases_Bool (bytes_eq file other)) [
       | inl equal ↦
@@ -108,10 +110,12 @@ same_ranges (range ∷ all) (other ∷ others) e =
     (ap (λ (line : RangeLine). line.name) (head_is (line_of range) (line_of other) (map line_of all) (map line_of others) e))
     (λ is. same_ranges all others (tail_is (line_of range) (line_of other) (map line_of all) (map line_of others) e))
 
-pub same_files : (cut : Cut) (objects others : KeyMapValue) → FitsTree objects → FitsTree others → tree_id cut objects ≡ tree_id cut others → (files cut objects ≡ files cut others) ⊎ Clash (files cut objects) (files cut others)
+pub same_files : (cut : Cut) (objects others : KeyMapValue) → FitsTree objects → FitsTree others → tree_id cut objects ≡ tree_id cut others
+    → (files cut objects ≡ files cut others) ⊎ Clash (files cut objects) (files cut others)
 unfolding files tree_id
 same_files cut objects others fits fit named =
     let all = ranges cut (entries objects) in
     let due = ranges cut (entries others) in
     same_first (metarange_spelling (map line_of all)) (metarange_spelling (map line_of due)) (map range_spelling all) (map range_spelling due) named
-    (λ is. same_ranges all due (apart (map line_of all) (map line_of due) (is_metarange all (ranges_are cut objects fits)) (is_metarange due (ranges_are cut others fit)) is))
+    (λ is. same_ranges all due
+    (apart (map line_of all) (map line_of due) (is_metarange all (ranges_are cut objects fits)) (is_metarange due (ranges_are cut others fit)) is))

@@ -1,5 +1,6 @@
 -- What is read of ranges is what was written of them, and what was written is read again.
-use Rattle.std.proofs.Common.{◌≡◌, ℕ, zero, suc, ◌-◌, ◌+◌, ◌^◌, ◌<◌, ◌≤◌, Bool, true, false, cond, eqb, List, [], ◌∷◌, ◌++◌, length, option_map, Result, Ok, Err, refl, sym, ap, subst, ◌∙◌, append_assoc, arith}
+use Rattle.std.proofs.Common.{◌≡◌, ℕ, zero, suc, ◌-◌, ◌+◌, ◌^◌, ◌<◌, ◌≤◌, Bool, true, false, cond, eqb, List, [], ◌∷◌, ◌++◌, length, option_map, Result, Ok}
+use Rattle.std.proofs.Common.{Err, refl, sym, ap, subst, ◌∙◌, append_assoc, arith}
 use Rattle.std.proofs.lemmas.Bool.{eqb-true, eqb-false, ne_eqb}
 use Rattle.std.proofs.lemmas.List.{append-nil, length-append}
 use Rattle.std.proofs.lemmas.List.Concat.{flat_map-cons, flat_map-append}
@@ -15,7 +16,8 @@ use Rattle.lake_format.specs.Reading.{read_number, read_bytes, read_path, is_nex
 use Rattle.lake_format.specs.Spelling.{short_text, line_spelling, metarange_spelling, AreBytes, IsDigest, IsLine, FollowOn, IsMetarange}
 use Rattle.lake_format.specs.declared.fields.FieldFault.{FieldFault}
 use Rattle.lake_format.specs.declared.range_line.RangeLine.{RangeLine}
-use Rattle.lake_format.proofs.FieldsLemmas.{Takes, takes_then, wide32, number_takes, number_again, bytes_take, bytes_takes, bytes_again, text_limits, text_takes, text_again, path_of_text, text_of_path}
+use Rattle.lake_format.proofs.FieldsLemmas.{Takes, takes_then, wide32, number_takes, number_again, bytes_take, bytes_takes, bytes_again, text_limits}
+use Rattle.lake_format.proofs.FieldsLemmas.{text_takes, text_again, path_of_text, text_of_path}
 use Rattle.meta_range.specs.ReadingSteps.{◌>>=◌}
 use Rattle.meta_range.specs.Metarange.{Fails, field, last_of, read_head, read_first, read_last, read_line, read_lines, read_count, metarange_from}
 use Rattle.meta_range.specs.declared.fault.MetaFault.{MetaFault}
@@ -53,21 +55,25 @@ failed : {A B : Type 0} (e : MetaFault) (r : Result A MetaFault) (f : A → Resu
 failed NoMemory r f h = tt
 failed e r f h = ap (λ x. x >>= f) h
 
-pub goes_on : (n count i : ℕ) (before : List RangeLine) (bytes : List ℕ) (line : RangeLine) (after : List ℕ) (all : Result (List RangeLine × List ℕ) MetaFault) → i < count → read_line n before bytes ≡ Ok (line, after)
+pub goes_on : (n count i : ℕ) (before : List RangeLine) (bytes : List ℕ) (line : RangeLine) (after : List ℕ) (all : Result (List RangeLine × List ℕ) MetaFault)
+    → i < count → read_line n before bytes ≡ Ok (line, after)
     → read_lines n (count - i) before bytes ≡ all → read_lines n (count - (i + 1)) (before ++ line ∷ []) after ≡ all
 unfolding read_lines
 goes_on n count i before bytes line after all lt here so_far =
     let k : count - i ≡ suc (count - (i + 1)) = omega arith in
     sym (ap (λ r. r >>= λ line. read_lines n (count - (i + 1)) (before ++ line.0 ∷ []) line.1) here) ∙ ap (λ m. read_lines n m before bytes) (sym k) ∙ so_far
 
-pub ends : (e : MetaFault) (n count i : ℕ) (before : List RangeLine) (bytes : List ℕ) (all : Result (List RangeLine × List ℕ) MetaFault) → i < count → Fails e (read_line n before bytes)
+pub ends : (e : MetaFault) (n count i : ℕ) (before : List RangeLine) (bytes : List ℕ) (all : Result (List RangeLine × List ℕ) MetaFault) → i < count
+    → Fails e (read_line n before bytes)
     → read_lines n (count - i) before bytes ≡ all → Fails e all
 unfolding read_lines
 ends e n count i before bytes all lt fails so_far =
     let k : count - i ≡ suc (count - (i + 1)) = omega arith in
-    subst (Fails e) (ap (λ m. read_lines n m before bytes) (sym k) ∙ so_far) (failed e (read_line n before bytes) (λ line. read_lines n (count - (i + 1)) (before ++ line.0 ∷ []) line.1) fails)
+    subst (Fails e) (ap (λ m. read_lines n m before bytes) (sym k) ∙ so_far)
+    (failed e (read_line n before bytes) (λ line. read_lines n (count - (i + 1)) (before ++ line.0 ∷ []) line.1) fails)
 
-pub is_done : (n count i : ℕ) (before : List RangeLine) (bytes : List ℕ) (all : Result (List RangeLine × List ℕ) MetaFault) → count ≤ i → read_lines n (count - i) before bytes ≡ all → all ≡ Ok (before, bytes)
+pub is_done : (n count i : ℕ) (before : List RangeLine) (bytes : List ℕ) (all : Result (List RangeLine × List ℕ) MetaFault) → count ≤ i
+    → read_lines n (count - i) before bytes ≡ all → all ≡ Ok (before, bytes)
 unfolding read_lines
 is_done n count i before bytes all le so_far =
     let k : count - i ≡ 0 = omega arith in
@@ -85,7 +91,8 @@ follow_more [] line h next = (tt, tt)
 follow_more (a ∷ []) line h next = (lt_is _ next, (tt, tt))
 follow_more (a ∷ b ∷ lines) line h next = (h.0, follow_more (b ∷ lines) line h.1 (ap (λ last. is_next last line.first) (sym (last_of_two a b lines)) ∙ next))
 
-next_of_follow : (before : List RangeLine) (line : RangeLine) (more : List RangeLine) → FollowOn (before ++ line ∷ more) → is_next (last_of before) line.first ≡ true
+next_of_follow : (before : List RangeLine) (line : RangeLine) (more : List RangeLine) → FollowOn (before ++ line ∷ more)
+    → is_next (last_of before) line.first ≡ true
 next_of_follow [] line more h = refl
 next_of_follow (a ∷ []) line more h = ap is_lt h.0
 next_of_follow (a ∷ b ∷ lines) line more h = ap (λ last. is_next last line.first) (last_of_two a b lines) ∙ next_of_follow (b ∷ lines) line more h.1
@@ -104,8 +111,10 @@ record HeadRead (bytes : List ℕ) (name : Digest) (rows : ℕ) (rest : List ℕ
 head_read : (n i : ℕ) (bytes : List ℕ) (head : (Digest × ℕ) × List ℕ) → AreBytes bytes → read_head n i bytes ≡ Ok head → HeadRead bytes head.0.0 head.0.1 head.1
 unfolding read_head
 head_read n i bytes head fits h =
-    let a = bind_ok (field n i (read_bytes 32 bytes)) (λ name. field n i (read_number w32 name.1) >>= λ rows. cond (eqb rows.0 0) (Err (BadRange i)) (Ok ((record { 0 = name.0 }, rows.0), rows.1))) head h in
-    let b = bind_ok (field n i (read_number w32 a.0.1)) (λ rows. cond (eqb rows.0 0) (Err (BadRange i)) (Ok ((record { 0 = a.0.0 }, rows.0), rows.1))) head a.2 in
+    let a = bind_ok (field n i (read_bytes 32 bytes))
+    (λ name. field n i (read_number w32 name.1) >>= λ rows. cond (eqb rows.0 0) (Err (BadRange i)) (Ok ((record { 0 = name.0 }, rows.0), rows.1))) head h in
+    let b =
+    bind_ok (field n i (read_number w32 a.0.1)) (λ rows. cond (eqb rows.0 0) (Err (BadRange i)) (Ok ((record { 0 = a.0.0 }, rows.0), rows.1))) head a.2 in
     let g = guard_ok (eqb b.0.0 0) (BadRange i) (Ok ((record { 0 = a.0.0 }, b.0.0), b.0.1)) head b.2 in
     let name_read = field_ok n i (read_bytes 32 bytes) a.0 a.1 in
     let rows_read = field_ok n i (read_number w32 a.0.1) b.0 b.1 in
@@ -127,34 +136,42 @@ record PathRead (bytes path rest : List ℕ) : Type 0 where
   pub limits : path_fault path ≡ None
 
 path_read : (bytes path rest : List ℕ) → AreBytes bytes → read_path bytes ≡ Ok (path, rest) → PathRead bytes path rest
-path_read bytes path rest fits h = record { takes = text_takes 1 1024 bytes path rest fits h; limits = path_of_text path (text_limits 1 1024 bytes path rest h) }
+path_read bytes path rest fits h =
+    record { takes = text_takes 1 1024 bytes path rest fits h; limits = path_of_text path (text_limits 1 1024 bytes path rest h) }
 
-first_read : (n : ℕ) (before : List RangeLine) (bytes : List ℕ) (path : List ℕ × List ℕ) → AreBytes bytes → read_first n before bytes ≡ Ok path → PathRead bytes path.0 path.1 × (is_next (last_of before) path.0 ≡ true)
+first_read : (n : ℕ) (before : List RangeLine) (bytes : List ℕ) (path : List ℕ × List ℕ) → AreBytes bytes → read_first n before bytes ≡ Ok path
+    → PathRead bytes path.0 path.1 × (is_next (last_of before) path.0 ≡ true)
 unfolding read_first
 first_read n before bytes path fits h =
     let i = length before in
     let p = bind_ok (field n i (read_path bytes)) (λ path. cond (is_next (last_of before) path.0) (Ok path) (Err (BadRange i))) path h in
     let t = test_ok (is_next (last_of before) p.0.0) (BadRange i) (Ok p.0) path p.2 in
-    subst (λ (x : List ℕ × List ℕ). PathRead bytes x.0 x.1 × (is_next (last_of before) x.0 ≡ true)) (ok_is p.0 path t.1) (path_read bytes p.0.0 p.0.1 fits (field_ok n i (read_path bytes) p.0 p.1), t.0)
+    subst (λ (x : List ℕ × List ℕ). PathRead bytes x.0 x.1 × (is_next (last_of before) x.0 ≡ true)) (ok_is p.0 path t.1)
+    (path_read bytes p.0.0 p.0.1 fits (field_ok n i (read_path bytes) p.0 p.1), t.0)
 
-last_read : (n i : ℕ) (first bytes : List ℕ) (path : List ℕ × List ℕ) → AreBytes bytes → read_last n i first bytes ≡ Ok path → PathRead bytes path.0 path.1 × (is_gt (byte_order first path.0) ≡ false)
+last_read : (n i : ℕ) (first bytes : List ℕ) (path : List ℕ × List ℕ) → AreBytes bytes → read_last n i first bytes ≡ Ok path
+    → PathRead bytes path.0 path.1 × (is_gt (byte_order first path.0) ≡ false)
 unfolding read_last
 last_read n i first bytes path fits h =
     let p = bind_ok (field n i (read_path bytes)) (λ path. cond (is_gt (byte_order first path.0)) (Err (BadRange i)) (Ok path)) path h in
     let t = guard_ok (is_gt (byte_order first p.0.0)) (BadRange i) (Ok p.0) path p.2 in
-    subst (λ (x : List ℕ × List ℕ). PathRead bytes x.0 x.1 × (is_gt (byte_order first x.0) ≡ false)) (ok_is p.0 path t.1) (path_read bytes p.0.0 p.0.1 fits (field_ok n i (read_path bytes) p.0 p.1), t.0)
+    subst (λ (x : List ℕ × List ℕ). PathRead bytes x.0 x.1 × (is_gt (byte_order first x.0) ≡ false)) (ok_is p.0 path t.1)
+    (path_read bytes p.0.0 p.0.1 fits (field_ok n i (read_path bytes) p.0 p.1), t.0)
 
 record LineRead (before : List RangeLine) (bytes : List ℕ) (line : RangeLine) (rest : List ℕ) : Type 0 where
   pub takes : Takes bytes (line_spelling line) rest
   pub limits : IsLine line
   pub next : is_next (last_of before) line.first ≡ true
 
-line_read : (n : ℕ) (before : List RangeLine) (bytes : List ℕ) (x : RangeLine × List ℕ) → AreBytes bytes → read_line n before bytes ≡ Ok x → LineRead before bytes x.0 x.1
+line_read : (n : ℕ) (before : List RangeLine) (bytes : List ℕ) (x : RangeLine × List ℕ) → AreBytes bytes → read_line n before bytes ≡ Ok x
+    → LineRead before bytes x.0 x.1
 unfolding read_line line_spelling
 line_read n before bytes x fits h =
     let i = length before in
-    let a = bind_ok (read_head n i bytes) (λ head. read_first n before head.1 >>= λ first. read_last n i first.0 first.1 >>= λ last. Ok (record { name = head.0.0; rows = head.0.1; first = first.0; last = last.0 }, last.1)) x h in
-    let b = bind_ok (read_first n before a.0.1) (λ first. read_last n i first.0 first.1 >>= λ last. Ok (record { name = a.0.0.0; rows = a.0.0.1; first = first.0; last = last.0 }, last.1)) x a.2 in
+    let a = bind_ok (read_head n i bytes) (λ head. read_first n before head.1 >>= λ first. read_last n i first.0 first.1 >>= λ last.
+    Ok (record { name = head.0.0; rows = head.0.1; first = first.0; last = last.0 }, last.1)) x h in
+    let b = bind_ok (read_first n before a.0.1)
+    (λ first. read_last n i first.0 first.1 >>= λ last. Ok (record { name = a.0.0.0; rows = a.0.0.1; first = first.0; last = last.0 }, last.1)) x a.2 in
     let c = bind_ok (read_last n i b.0.0 b.0.1) (λ last. Ok (record { name = a.0.0.0; rows = a.0.0.1; first = b.0.0; last = last.0 }, last.1)) x b.2 in
     let head = head_read n i bytes a.0 fits a.1 in
     let first = first_read n before a.0.1 b.0 head.takes_rows.rest_fits b.1 in
@@ -181,10 +198,12 @@ all_end : (before : List RangeLine) (line : RangeLine) → AllByRecursion IsLine
 all_end [] line each is = (is, tt)
 all_end (a ∷ before) line each is = (each.0, all_end before line each.1 is)
 
-lines_read : (n count : ℕ) (before : List RangeLine) (bytes : List ℕ) (x : List RangeLine × List ℕ) → AreBytes bytes → read_lines n count before bytes ≡ Ok x → LinesRead count before bytes x.0 x.1
+lines_read : (n count : ℕ) (before : List RangeLine) (bytes : List ℕ) (x : List RangeLine × List ℕ) → AreBytes bytes → read_lines n count before bytes ≡ Ok x
+    → LinesRead count before bytes x.0 x.1
 unfolding read_lines
 lines_read n zero before bytes x fits h =
-    subst (λ (y : List RangeLine × List ℕ). LinesRead 0 before bytes y.0 y.1) (ok_is (before, bytes) x h) (record { spelled = refl; rest_fits = fits; count = omega arith; follow = λ a. a; each = λ a. a })
+    subst (λ (y : List RangeLine × List ℕ). LinesRead 0 before bytes y.0 y.1) (ok_is (before, bytes) x h)
+    (record { spelled = refl; rest_fits = fits; count = omega arith; follow = λ a. a; each = λ a. a })
 lines_read n (suc count) before bytes x fits h =
     let a = bind_ok (read_line n before bytes) (λ line. read_lines n count (before ++ line.0 ∷ []) line.1) x h in
     let line = a.0.0 in
@@ -193,7 +212,8 @@ lines_read n (suc count) before bytes x fits h =
     let here : flat_map line_spelling (before ++ line ∷ []) ≡ flat_map line_spelling before ++ line_spelling line =
     flat_map-append line_spelling before (line ∷ []) ∙ ap (λ l. flat_map line_spelling before ++ l) (append-nil (line_spelling line)) in
     record {
-      spelled = ap (λ l. flat_map line_spelling before ++ l) one.takes.parts ∙ sym (append_assoc (flat_map line_spelling before) (line_spelling line) a.0.1) ∙ ap (λ l. l ++ a.0.1) (sym here) ∙ more.spelled;
+      spelled = ap (λ l. flat_map line_spelling before ++ l) one.takes.parts ∙ sym (append_assoc (flat_map line_spelling before) (line_spelling line) a.0.1)
+          ∙ ap (λ l. l ++ a.0.1) (sym here) ∙ more.spelled;
       rest_fits = more.rest_fits;
       count = omega (arith, more.count, length-append before (line ∷ []));
       follow = λ h. more.follow (follow_more before line h one.next);
@@ -221,17 +241,20 @@ none_left : (rest : List ℕ) → length rest ≡ 0 → rest ≡ []
 none_left [] e = refl
 none_left (b ∷ rest) e = absurd (omega arith)
 
-pub found : (bytes : List ℕ) (lines : List RangeLine) → AreBytes bytes → metarange_from bytes ≡ Ok lines → IsMetarange lines × (bytes ≡ metarange_spelling lines)
+pub found : (bytes : List ℕ) (lines : List RangeLine) → AreBytes bytes → metarange_from bytes ≡ Ok lines
+    → IsMetarange lines × (bytes ≡ metarange_spelling lines)
 unfolding metarange_from metarange_spelling
 found bytes lines fits h =
     let n = length bytes in
-    let a = bind_ok (read_count n bytes) (λ count. read_lines n count.0 [] count.1 >>= λ lines. cond (eqb (length lines.1) 0) (Ok lines.0) (Err (Trailing (length lines.1)))) lines h in
+    let a = bind_ok (read_count n bytes)
+    (λ count. read_lines n count.0 [] count.1 >>= λ lines. cond (eqb (length lines.1) 0) (Ok lines.0) (Err (Trailing (length lines.1)))) lines h in
     let b = bind_ok (read_lines n a.0.0 [] a.0.1) (λ lines. cond (eqb (length lines.1) 0) (Ok lines.0) (Err (Trailing (length lines.1)))) lines a.2 in
     let t = test_ok (eqb (length b.0.1) 0) (Trailing (length b.0.1)) (Ok b.0.0) lines b.2 in
     let c = count_read n bytes a.0.0 a.0.1 fits a.1 in
     let r = lines_read n a.0.0 [] a.0.1 b.0 c.takes.rest_fits b.1 in
     let count : a.0.0 ≡ length b.0.0 = omega (arith, r.count) in
-    let body : a.0.1 ≡ flat_map line_spelling b.0.0 = r.spelled ∙ ap (λ l. flat_map line_spelling b.0.0 ++ l) (none_left b.0.1 (eqb-true (length b.0.1) 0 t.0)) ∙ append-nil (flat_map line_spelling b.0.0) in
+    let body : a.0.1 ≡ flat_map line_spelling b.0.0 =
+    r.spelled ∙ ap (λ l. flat_map line_spelling b.0.0 ++ l) (none_left b.0.1 (eqb-true (length b.0.1) 0 t.0)) ∙ append-nil (flat_map line_spelling b.0.0) in
     subst (λ lines. IsMetarange lines × (bytes ≡ metarange_spelling lines)) (ok_is b.0.0 lines t.1) (
       record { few = omega (arith, c.few); each = r.each tt; follow = r.follow tt },
       c.takes.parts ∙ ap (λ k. 1 ∷ (to_be_bytes w32 k ++ a.0.1)) count ∙ ap (λ l. 1 ∷ (to_be_bytes w32 (length b.0.0) ++ l)) body,
@@ -242,7 +265,8 @@ found bytes lines fits h =
 path_again : (path rest : List ℕ) → path_fault path ≡ None → read_path (short_text path ++ rest) ≡ Ok (path, rest)
 path_again path rest is = text_again 1 1024 path rest (omega arith) (text_of_path path is)
 
-line_again : (n : ℕ) (before : List RangeLine) (line : RangeLine) (rest : List ℕ) → IsLine line → is_next (last_of before) line.first ≡ true → read_line n before (line_spelling line ++ rest) ≡ Ok (line, rest)
+line_again : (n : ℕ) (before : List RangeLine) (line : RangeLine) (rest : List ℕ) → IsLine line → is_next (last_of before) line.first ≡ true
+    → read_line n before (line_spelling line ++ rest) ≡ Ok (line, rest)
 unfolding read_line line_spelling read_head read_first read_last
 line_again n before line rest is next =
     let rows = to_be_bytes w32 line.rows in
@@ -251,17 +275,28 @@ line_again n before line rest is next =
     let regrouped : line.name.0 ++ (rows ++ (short_text line.first ++ short_text line.last)) ++ rest ≡ line.name.0 ++ (rows ++ low) = simp append_assoc in
     let some : eqb line.rows 0 ≡ false = ne_eqb line.rows 0 (λ none. omega (arith, is.span.some)) in
     ap (read_line n before) regrouped
-    ∙ rw (bytes_again 32 line.name.0 (rows ++ low) is.name.long, number_again w32 (2 ^ 32) wide32 line.rows low is.wide, some, path_again line.first high is.first, next, path_again line.last rest is.last, is.span.order) refl
+    ∙ rw (
+      bytes_again 32 line.name.0 (rows ++ low) is.name.long,
+      number_again w32 (2 ^ 32) wide32 line.rows low is.wide,
+      some,
+      path_again line.first high is.first,
+      next,
+      path_again line.last rest is.last,
+      is.span.order,
+    ) refl
 
-lines_again : (n : ℕ) (before lines : List RangeLine) (rest : List ℕ) → FollowOn (before ++ lines) → AllByRecursion IsLine lines → read_lines n (length lines) before (flat_map line_spelling lines ++ rest) ≡ Ok (before ++ lines, rest)
+lines_again : (n : ℕ) (before lines : List RangeLine) (rest : List ℕ) → FollowOn (before ++ lines) → AllByRecursion IsLine lines
+    → read_lines n (length lines) before (flat_map line_spelling lines ++ rest) ≡ Ok (before ++ lines, rest)
 unfolding read_lines
 lines_again n before [] rest h each = ap (λ (l : List RangeLine). Ok (l, rest)) (sym (append-nil before))
 lines_again n before (line ∷ lines) rest h each =
     let tail = flat_map line_spelling lines ++ rest in
-    let regrouped : flat_map line_spelling (line ∷ lines) ++ rest ≡ line_spelling line ++ tail = ap (λ l. l ++ rest) (flat_map-cons line_spelling line lines) ∙ append_assoc (line_spelling line) (flat_map line_spelling lines) rest in
+    let regrouped : flat_map line_spelling (line ∷ lines) ++ rest ≡ line_spelling line ++ tail =
+    ap (λ l. l ++ rest) (flat_map-cons line_spelling line lines) ∙ append_assoc (line_spelling line) (flat_map line_spelling lines) rest in
     let together : (before ++ line ∷ []) ++ lines ≡ before ++ line ∷ lines = append_assoc before (line ∷ []) lines in
     ap (read_lines n (suc (length lines)) before) regrouped
-    ∙ ap (λ r. r >>= λ line. read_lines n (length lines) (before ++ line.0 ∷ []) line.1) (line_again n before line tail each.0 (next_of_follow before line lines h))
+    ∙ ap (λ r. r >>= λ line. read_lines n (length lines) (before ++ line.0 ∷ []) line.1)
+    (line_again n before line tail each.0 (next_of_follow before line lines h))
     ∙ lines_again n (before ++ line ∷ []) lines rest (subst FollowOn (sym together) h) each.1
     ∙ ap (λ (l : List RangeLine). Ok (l, rest)) together
 
@@ -269,7 +304,8 @@ pub again : (lines : List RangeLine) → IsMetarange lines → metarange_from (m
 unfolding metarange_from metarange_spelling read_count
 again lines is =
     let n = length (metarange_spelling lines) in
-    let body : read_lines n (length lines) [] (flat_map line_spelling lines) ≡ Ok (lines, []) = ap (read_lines n (length lines) []) (sym (append-nil (flat_map line_spelling lines))) ∙ lines_again n [] lines [] is.follow is.each in
+    let body : read_lines n (length lines) [] (flat_map line_spelling lines) ≡ Ok (lines, []) =
+    ap (read_lines n (length lines) []) (sym (append-nil (flat_map line_spelling lines))) ∙ lines_again n [] lines [] is.follow is.each in
     rw (number_again w32 (2 ^ 32) wide32 (length lines) (flat_map line_spelling lines) is.few, body) refl
 
 pub apart : (lines others : List RangeLine) → IsMetarange lines → IsMetarange others → metarange_spelling lines ≡ metarange_spelling others → lines ≡ others

@@ -1,5 +1,6 @@
 -- Tables that tell where names stand first, and ranges that match those of their names.
-use Rattle.std.proofs.Common.{◌≡◌, ℕ, suc, ◌+◌, ◌<◌, ◌≤◌, Bool, true, false, cond, eqb, ltb, ◌&&◌, List, [], ◌∷◌, ◌++◌, length, get_or, take, drop, Option, Some, None, refl, sym, ap, subst, ◌∙◌, inl, inr, add-one, drop-cons, arith, Bor}
+use Rattle.std.proofs.Common.{◌≡◌, ℕ, suc, ◌+◌, ◌<◌, ◌≤◌, Bool, true, false, cond, eqb, ltb, ◌&&◌, List, [], ◌∷◌, ◌++◌, length, get_or, take, drop, Option}
+use Rattle.std.proofs.Common.{Some, None, refl, sym, ap, subst, ◌∙◌, inl, inr, add-one, drop-cons, arith, Bor}
 use Rattle.std.specs.Bool.{OnTrue, Decides}
 use Rattle.std.specs.List.{slice_get, find, position, position_from, position_or_len, list_all}
 use Rattle.std.specs.Option.{option_and_then, option_copied, option_map_or, option_or, is_some}
@@ -23,7 +24,8 @@ use Rattle.meta_range.specs.RangeNames.{place_in, first_named, TellsFirst, PutsF
 -- ---- places
 
 -- the first place in a list with one item more
-from_more : {X : Type 0} (p : X → Bool) (i : ℕ) (xs : List X) (x : X) (n : ℕ) → i + length xs ≡ n → position_from p i (xs ++ x ∷ []) ≡ option_or (position_from p i xs) (cond (p x) (Some n) None)
+from_more : {X : Type 0} (p : X → Bool) (i : ℕ) (xs : List X) (x : X) (n : ℕ) → i + length xs ≡ n
+    → position_from p i (xs ++ x ∷ []) ≡ option_or (position_from p i xs) (cond (p x) (Some n) None)
 from_more p i [] x n e =
     let same : i ≡ n = omega arith in
     ap (λ k. cond (p x) (Some k) None) same
@@ -34,7 +36,8 @@ from_more p i (y ∷ xs) x n e = by (p y) (from_more p (i + 1) xs x n (omega ari
     by true so = refl
     by false so = so
 
-place_more : {X : Type 0} (p : X → Bool) (xs : List X) (x : X) (n : ℕ) → length xs ≡ n → position p (xs ++ x ∷ []) ≡ option_or (position p xs) (cond (p x) (Some n) None)
+place_more : {X : Type 0} (p : X → Bool) (xs : List X) (x : X) (n : ℕ) → length xs ≡ n
+    → position p (xs ++ x ∷ []) ≡ option_or (position p xs) (cond (p x) (Some n) None)
 place_more p xs x n long =
     position_from-zero p (xs ++ x ∷ []) ∙ from_more p 0 xs x n (omega arith) ∙ ap (λ o. option_or o (cond (p x) (Some n) None)) (sym (position_from-zero p xs))
 
@@ -74,7 +77,8 @@ module _ (table : List (Digest × ℕ)) (name : Digest) (at : ℕ) where
       ]
 
   -- another is put
-  pub puts_new : (new : List (Digest × ℕ)) → is_some (place_in table name) ≡ false → ((other : Digest) → place_in new other ≡ cond (eq_by_cmp id_order name other) (Some at) (place_in table other)) → PutsFirst table new name at
+  pub puts_new : (new : List (Digest × ℕ)) → is_some (place_in table name) ≡ false
+      → ((other : Digest) → place_in new other ≡ cond (eq_by_cmp id_order name other) (Some at) (place_in table other)) → PutsFirst table new name at
   puts_new new absent put other =
       let tie : eq_by_cmp id_order name other ≡ same_id name other = is_eq-slice_cmp name.0 other.0 in
       put other ∙ ap (λ b. cond b (Some at) (place_in table other)) tie ∙ by (same_id name other) refl
@@ -84,11 +88,13 @@ module _ (table : List (Digest × ℕ)) (name : Digest) (at : ℕ) where
       none (Some x) e = absurd cc
 
       by : (b : Bool) → same_id name other ≡ b → cond b (Some at) (place_in table other) ≡ option_or (place_in table other) (cond b (Some at) None)
-      by true same = sym (ap (λ o. option_or o (Some at)) (none (place_in table other) (subst (λ n. is_some (place_in table n) ≡ false) (id_same name other same) absent)))
+      by true same =
+          sym (ap (λ o. option_or o (Some at)) (none (place_in table other) (subst (λ n. is_some (place_in table n) ≡ false) (id_same name other same) absent)))
       by false apart = or_none (place_in table other)
 
 -- one item more
-pub tells_more : {X : Type 0} (name_of : X → Digest) (old new : List (Digest × ℕ)) (items : List X) (i : ℕ) (item : X) → i < length items → item ≡ get_or items i item → TellsFirst name_of old (take i items) → PutsFirst old new (name_of item) i
+pub tells_more : {X : Type 0} (name_of : X → Digest) (old new : List (Digest × ℕ)) (items : List X) (i : ℕ) (item : X) → i < length items
+    → item ≡ get_or items i item → TellsFirst name_of old (take i items) → PutsFirst old new (name_of item) i
     → TellsFirst name_of new (take (i + 1) items)
 tells_more name_of old new items i item lt is tells put name =
     let long : length (take i items) ≡ i = omega (arith, length-take i items) in
@@ -99,11 +105,13 @@ tells_more name_of old new items i item lt is tells put name =
     ∙ sym (ap (position (λ x. same_id (name_of x) name)) whole)
 
 -- what is found by name stands where the table tells
-pub named_at : {X : Type 0} (name_of : X → Digest) (table : List (Digest × ℕ)) (items : List X) (name : Digest) (o : Option ℕ) → TellsFirst name_of table items → o ≡ place_in table name → option_and_then (slice_get items) o ≡ first_named name_of name items
+pub named_at : {X : Type 0} (name_of : X → Digest) (table : List (Digest × ℕ)) (items : List X) (name : Digest) (o : Option ℕ) → TellsFirst name_of table items
+    → o ≡ place_in table name → option_and_then (slice_get items) o ≡ first_named name_of name items
 named_at name_of table items name o tells is = ap (option_and_then (slice_get items)) (is ∙ tells name) ∙ sym (found_at (λ x. same_id (name_of x) name) items)
 
 -- one at the place that the table tells is found by its name
-pub is_first_named : {X : Type 0} (name_of : X → Digest) (table : List (Digest × ℕ)) (items : List X) (item : X) (first at : ℕ) → TellsFirst name_of table items → Some first ≡ place_in table (name_of item) → slice_get items at ≡ Some item
+pub is_first_named : {X : Type 0} (name_of : X → Digest) (table : List (Digest × ℕ)) (items : List X) (item : X) (first at : ℕ) → TellsFirst name_of table items
+    → Some first ≡ place_in table (name_of item) → slice_get items at ≡ Some item
     → OnTrue (eqb first at) (first_named name_of (name_of item) items ≡ Some item)
 is_first_named name_of table items item first at tells told here = by (eqb first at) refl
   where
@@ -140,12 +148,14 @@ same_row_is row other = (
       let paths = (bytes_eq-Decides row.0 other.0).0 parts.0 in
       let entries = (same_entry_decides row.1 other.1).0 parts.1 in
       λ i. (paths i, entries i),
-  λ e. subst (λ r. same_row row r ≡ true) e (ap (λ b. b && same_entry row.1 row.1) ((bytes_eq-Decides row.0 row.0).1 refl) ∙ (same_entry_decides row.1 row.1).1 refl),
+  λ e. subst (λ r. same_row row r ≡ true) e
+      (ap (λ b. b && same_entry row.1 row.1) ((bytes_eq-Decides row.0 row.0).1 refl) ∙ (same_entry_decides row.1 row.1).1 refl),
 )
 
 pub same_rows_are : (rows others : List RowValue) → Decides (same_rows rows others) (rows ≡ others)
 same_rows_are rows others = slice_eq-Decides same_row_is rows others (same_rows rows others) refl
 
 -- a range that is the first of its name matches
-pub first_matches : (others : List (List RowValue)) (range : List RowValue) → first_named range_name (range_name range) others ≡ Some range → is_matched others range ≡ true
+pub first_matches : (others : List (List RowValue)) (range : List RowValue) → first_named range_name (range_name range) others ≡ Some range
+    → is_matched others range ≡ true
 first_matches others range first = ap (λ o. option_map_or (same_rows range) o true) first ∙ (same_rows_are range range).1 refl

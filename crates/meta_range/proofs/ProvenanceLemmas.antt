@@ -37,7 +37,8 @@ unchanged first last changes old new made none path within =
 source_left : (strategy : Strategy) (base source dest : Option EntryValue) → source ≡ base → merged_value strategy base source dest ≡ dest
 source_left strategy base source dest is =
     ap (λ s. merged_value strategy base s dest) is
-    ∙ ap (λ b. side_value strategy base dest (cond b Destination (cond (same_value dest base) Source (cond (same_value base dest) Source Neither)))) (same_as_itself base)
+    ∙ ap (λ b. side_value strategy base dest (cond b Destination (cond (same_value dest base) Source (cond (same_value base dest) Source Neither))))
+    (same_as_itself base)
 
 same_value_is : (value other : Option EntryValue) → same_value value other ≡ true → value ≡ other
 same_value_is None None e = refl
@@ -82,7 +83,8 @@ abbrev pub DoAgree : Type 0
 DoAgree = (tree other : TreeValue) (place at : ℕ) (first last : List ℕ) → HasEnds tree place first last → HasEnds other at first last
     → file_at tree.files place ≡ file_at other.files at → AgreeBetween first last tree.map other.map
 
-pub range_kept : AreSame → (tree old : TreeValue) (place at : ℕ) (first last : List ℕ) (changes : ChangesValue) → HasEnds tree place first last → HasEnds old at first last
+pub range_kept : AreSame → (tree old : TreeValue) (place at : ℕ) (first last : List ℕ) (changes : ChangesValue) → HasEnds tree place first last
+    → HasEnds old at first last
     → at < length old.files → tree.map ≡ apply changes old.map
     → (none : Bool) → OnTrue none ((path : List ℕ) → is_between first last path ≡ true → get changes path ≡ None)
     → OnTrue none (Contains old.files (file_at tree.files place))
@@ -92,7 +94,8 @@ range_kept same tree old place at first last changes here there within made true
     (file_there old at within)
 
 module _ (same : AreSame) (agree : DoAgree) (tree base source dest : TreeValue) (first last : List ℕ) (place base_place source_place dest_place : ℕ)
-    (here : HasEnds tree place first last) (in_base : HasEnds base base_place first last) (in_source : HasEnds source source_place first last) (in_dest : HasEnds dest dest_place first last)
+    (here : HasEnds tree place first last) (in_base : HasEnds base base_place first last) (in_source : HasEnds source source_place first last)
+    (in_dest : HasEnds dest dest_place first last)
     (base_within : base_place < length base.files) (source_within : source_place < length source.files) (dest_within : dest_place < length dest.files)
     (made : IsMerged base.map source.map dest.map tree.map) (apart : AreKnownByName (IsTrioFile base source dest)) where
   abbrev base_file : List ℕ
@@ -107,16 +110,20 @@ module _ (same : AreSame) (agree : DoAgree) (tree base source dest : TreeValue) 
   -- the source left the range as it was
   pub source_is_base : file_name source_file ≡ file_name base_file → IsTrioFile base source dest (file_at tree.files place)
   source_is_base named =
-      let is : source_file ≡ base_file = apart source_file base_file (inr (inl (file_there source source_place source_within))) (inl (file_there base base_place base_within)) named in
-      let stays = dest_stays first last base.map source.map dest.map tree.map made (agree source base source_place base_place first last in_source in_base is) in
+      let is : source_file ≡ base_file =
+      apart source_file base_file (inr (inl (file_there source source_place source_within))) (inl (file_there base base_place base_within)) named in
+      let stays =
+      dest_stays first last base.map source.map dest.map tree.map made (agree source base source_place base_place first last in_source in_base is) in
       inr (inr (subst (Contains dest.files) (sym (same tree dest place dest_place first last here in_dest stays)) (file_there dest dest_place dest_within)))
 
   -- the destination did
   pub dest_is_base : file_name dest_file ≡ file_name base_file → IsTrioFile base source dest (file_at tree.files place)
   dest_is_base named =
-      let is : dest_file ≡ base_file = apart dest_file base_file (inr (inr (file_there dest dest_place dest_within))) (inl (file_there base base_place base_within)) named in
+      let is : dest_file ≡ base_file =
+      apart dest_file base_file (inr (inr (file_there dest dest_place dest_within))) (inl (file_there base base_place base_within)) named in
       let taken = source_taken first last base.map source.map dest.map tree.map made (agree dest base dest_place base_place first last in_dest in_base is) in
-      inr (inl (subst (Contains source.files) (sym (same tree source place source_place first last here in_source taken)) (file_there source source_place source_within)))
+      inr (inl (subst (Contains source.files) (sym (same tree source place source_place first last here in_source taken))
+      (file_there source source_place source_within)))
 
 pub on_true : {P : Type 0} (test : Bool) → (test ≡ true → P) → OnTrue test P
 on_true true holds = holds refl

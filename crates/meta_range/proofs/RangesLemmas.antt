@@ -1,5 +1,6 @@
 -- The ranges of a tree: their rows together, what is said of them, and the cut.
-use Rattle.std.proofs.Common.{T, ◌≡◌, ℕ, zero, suc, ◌-◌, ◌+◌, ◌^◌, ◌<◌, ◌≤◌, false, List, [], ◌∷◌, ◌++◌, length, get_or, take, drop, map, refl, sym, ap, subst, ◌∙◌, append_assoc, arith}
+use Rattle.std.proofs.Common.{T, ◌≡◌, ℕ, zero, suc, ◌-◌, ◌+◌, ◌^◌, ◌<◌, ◌≤◌, false, List, [], ◌∷◌, ◌++◌, length, get_or, take, drop, map, refl, sym, ap, subst}
+use Rattle.std.proofs.Common.{◌∙◌, append_assoc, arith}
 use Rattle.std.specs.Prelude.{slice_index, None}
 use Rattle.std.specs.Int.{w32, to_be_bytes, byte_at, bytes_high_first}
 use Rattle.std.specs.List.{flat_map, AllByRecursion}
@@ -67,7 +68,8 @@ length_map f [] = refl
 length_map f (x ∷ xs) = omega (arith, length_map f xs)
 
 -- what is written piece by piece
-pub four : (out name count first last o1 o2 o3 all : List ℕ) → o1 ≡ out ++ name → o2 ≡ o1 ++ count → o3 ≡ o2 ++ first → all ≡ o3 ++ last → all ≡ out ++ (name ++ (count ++ (first ++ last)))
+pub four : (out name count first last o1 o2 o3 all : List ℕ) → o1 ≡ out ++ name → o2 ≡ o1 ++ count → o3 ≡ o2 ++ first → all ≡ o3 ++ last
+    → all ≡ out ++ (name ++ (count ++ (first ++ last)))
 four out name count first last o1 o2 o3 all e1 e2 e3 e4 = rw (e4, e3, e2, e1) (simp append_assoc)
 
 -- ---- rows of ranges
@@ -77,7 +79,8 @@ rows_append [] b = refl
 rows_append (range ∷ a) b = ap (λ l. range ++ l) (rows_append a b) ∙ sym (append_assoc range (rows_of a) (rows_of b))
 
 -- one more range
-pub rows_more : (ranges : List (List RowValue)) (i : ℕ) (range : List RowValue) → i < length ranges → range ≡ get_or ranges i range → length (rows_of (take (i + 1) ranges)) ≡ length (rows_of (take i ranges)) + length range
+pub rows_more : (ranges : List (List RowValue)) (i : ℕ) (range : List RowValue) → i < length ranges → range ≡ get_or ranges i range
+    → length (rows_of (take (i + 1) ranges)) ≡ length (rows_of (take i ranges)) + length range
 rows_more ranges i range lt is =
     let whole : take (i + 1) ranges ≡ take i ranges ++ range ∷ [] = take_more ranges i range lt ∙ ap (λ r. take i ranges ++ r ∷ []) (sym is) in
     ap (λ rs. length (rows_of rs)) whole ∙ ap length (rows_append (take i ranges) (range ∷ [])) ∙ length-append (rows_of (take i ranges)) (range ++ [])
@@ -134,7 +137,8 @@ path_is [] i d lt = absurd (omega arith)
 path_is (row ∷ rows) zero d lt = refl
 path_is (row ∷ rows) (suc i) d lt = path_is rows i d (omega arith)
 
-pub last_of_more : (row next : RowValue) (rows : List RowValue) → path_at (row ∷ next ∷ rows) (length (row ∷ next ∷ rows) - 1) ≡ path_at (next ∷ rows) (length (next ∷ rows) - 1)
+pub last_of_more : (row next : RowValue) (rows : List RowValue)
+    → path_at (row ∷ next ∷ rows) (length (row ∷ next ∷ rows) - 1) ≡ path_at (next ∷ rows) (length (next ∷ rows) - 1)
 last_of_more row next rows =
     let place : length (row ∷ next ∷ rows) - 1 ≡ suc (length (next ∷ rows) - 1) = omega arith in
     ap (path_at (row ∷ next ∷ rows)) place
@@ -147,7 +151,8 @@ last_below (row ∷ next ∷ a) b some h =
     subst (λ path. T (below_all byte_order path b)) (sym (last_of_more row next a)) (last_below (next ∷ a) b (omega arith) (tail_ascends row (next ∷ a ++ b) h))
 
 -- no path of rows that ascend is below the first
-at_least_first : (rows : List RowValue) (i : ℕ) (d : RowValue) → HasAscendingKeys rows → i < length rows → is_gt (byte_order (get_or rows 0 d).0 (get_or rows i d).0) ≡ false
+at_least_first : (rows : List RowValue) (i : ℕ) (d : RowValue) → HasAscendingKeys rows → i < length rows
+    → is_gt (byte_order (get_or rows 0 d).0 (get_or rows i d).0) ≡ false
 at_least_first [] i d h lt = absurd (omega arith)
 at_least_first (row ∷ rows) zero d h lt = ap is_gt (tied_itself nat_list_cmp_total row.0)
 at_least_first (row ∷ rows) (suc i) d h lt = ap is_gt (below_at row.0 rows i d (head_below row rows h) (omega arith))
@@ -181,7 +186,8 @@ lines_within [] each = tt
 lines_within (range ∷ ranges) each = (line_within range each.0, lines_within ranges each.1)
 
 -- rows above a path, the first of which begins the next range
-above_next : (path : List ℕ) (ranges : List (List RowValue)) → AllByRecursion IsRange ranges → T (below_all byte_order path (rows_of ranges)) → IsBelowNext path (map line_of ranges)
+above_next : (path : List ℕ) (ranges : List (List RowValue)) → AllByRecursion IsRange ranges → T (below_all byte_order path (rows_of ranges))
+    → IsBelowNext path (map line_of ranges)
 unfolding line_of
 above_next path [] each h = tt
 above_next path ([] ∷ ranges) each h = absurd (omega (arith, each.0.some))
@@ -204,6 +210,7 @@ is_metarange ranges are = record {
 }
 
 -- what is said of rows, part by part
-pub line_is : (rows : List RowValue) (line : RangeLine) → line.name.0 ≡ sha256 (range_spelling rows) → line.rows ≡ length rows → line.first ≡ path_at rows 0 → line.last ≡ path_at rows (length rows - 1) → line ≡ line_of rows
+pub line_is : (rows : List RowValue) (line : RangeLine) → line.name.0 ≡ sha256 (range_spelling rows) → line.rows ≡ length rows → line.first ≡ path_at rows 0
+    → line.last ≡ path_at rows (length rows - 1) → line ≡ line_of rows
 unfolding line_of
 line_is rows line name len low high = λ i. record { name = record { 0 = name i }; rows = len i; first = low i; last = high i }

@@ -1,5 +1,6 @@
 -- A tree that is read has the files that were given, and a tree whose files are given is read.
-use Rattle.std.proofs.Common.{T, inl, inr, ◌≡◌, ℕ, zero, suc, ◌+◌, ◌-◌, ◌<◌, ◌≤◌, ◌^◌, Bool, true, false, cond, ◌&&◌, eqb, List, [], ◌∷◌, ◌++◌, length, get_or, take, drop, map, Option, Some, None, Result, Ok, Err, refl, sym, ap, subst, ◌∙◌, append_assoc, drop-cons, add-one, arith}
+use Rattle.std.proofs.Common.{T, inl, inr, ◌≡◌, ℕ, zero, suc, ◌+◌, ◌-◌, ◌<◌, ◌≤◌, ◌^◌, Bool, true, false, cond, ◌&&◌, eqb, List, [], ◌∷◌, ◌++◌, length, get_or}
+use Rattle.std.proofs.Common.{take, drop, map, Option, Some, None, Result, Ok, Err, refl, sym, ap, subst, ◌∙◌, append_assoc, drop-cons, add-one, arith}
 use Rattle.std.specs.List.{AllByRecursion, Contains}
 use Rattle.std.specs.FinMap.{entries, from_sorted, entries-from_sorted, len-entries}
 use Rattle.std.specs.FinMap.Entries.{below_all}
@@ -29,7 +30,8 @@ use Rattle.meta_range.specs.ReadingSteps.{◌>>=◌}
 use Rattle.meta_range.specs.Ranges.{TreeValue, rows_of, metarange_of, files_of, tree_of, AreRanges}
 use Rattle.meta_range.specs.Files.{bytes_named, FitsTree}
 use Rattle.meta_range.specs.Metarange.{metarange_from, Fails as MetaFails}
-use Rattle.meta_range.specs.TreeReading.{Fails, whole, read_file, of_metarange, in_metarange, of_range, in_range, is_said, read_range, read_ranges, first_stray, not_cut, cut_of, tree_from, AreGiven, IsTreeOf, IsGiven, IsRead, AreRead}
+use Rattle.meta_range.specs.TreeReading.{Fails, whole, read_file, of_metarange, in_metarange, of_range, in_range, is_said, read_range, read_ranges, first_stray}
+use Rattle.meta_range.specs.TreeReading.{not_cut, cut_of, tree_from, AreGiven, IsTreeOf, IsGiven, IsRead, AreRead}
 use Rattle.meta_range.specs.declared.file.File.{File}
 use Rattle.meta_range.specs.declared.fault.MetaFault.{MetaFault}
 use Rattle.meta_range.specs.declared.fault.MetaFault.TheVariants.{NoMemory as MetaNoMemory}
@@ -79,18 +81,21 @@ whole_is name (Some other) bytes e =
           let is = ok_is other bytes ok in
           (ap Some is, named name other ((bytes_eq-Decides (sha256 other) name.0).0 same) ∙ ap file_name is)
       | inr apart ↦
-          let bad : refused (Damaged name (file_name other)) ≡ done bytes = sym (ap (λ b. cond b (Ok other) (Err (Damaged name (file_name other)))) apart) ∙ e in
+          let bad : refused (Damaged name (file_name other)) ≡ done bytes =
+          sym (ap (λ b. cond b (Ok other) (Err (Damaged name (file_name other)))) apart) ∙ e in
           absurd cc
     ]
 
-pub file_read : (name : Digest) (given : List File) (bytes : List ℕ) → read_file name given ≡ Ok bytes → (bytes_named name given ≡ Some bytes) × (name ≡ file_name bytes)
+pub file_read : (name : Digest) (given : List File) (bytes : List ℕ) → read_file name given ≡ Ok bytes
+    → (bytes_named name given ≡ Some bytes) × (name ≡ file_name bytes)
 unfolding read_file
 file_read name given bytes = whole_is name (bytes_named name given) bytes
 
 -- a file that is given under its SHA-256 is read
 file_again : (bytes : List ℕ) (given : List File) → bytes_named (file_name bytes) given ≡ Some bytes → read_file (file_name bytes) given ≡ Ok bytes
 unfolding read_file
-file_again bytes given here = ap (whole (file_name bytes)) here ∙ ap (λ b. cond b (Ok bytes) (Err (Damaged (file_name bytes) (file_name bytes)))) ((bytes_eq-Decides (sha256 bytes) (sha256 bytes)).1 refl)
+file_again bytes given here = ap (whole (file_name bytes)) here
+    ∙ ap (λ b. cond b (Ok bytes) (Err (Damaged (file_name bytes) (file_name bytes)))) ((bytes_eq-Decides (sha256 bytes) (sha256 bytes)).1 refl)
 
 -- ---- one range
 
@@ -99,7 +104,8 @@ parts true true c h = (refl, refl, h)
 parts true false c h = absurd cc
 parts false b c h = absurd cc
 
-pub is_read : (given : List File) (line : RangeLine) (bytes : List ℕ) (rows : List RowValue) → read_file line.name given ≡ Ok bytes → IsRange rows × (bytes ≡ range_spelling rows) → is_said line rows ≡ true → IsRead given line rows
+pub is_read : (given : List File) (line : RangeLine) (bytes : List ℕ) (rows : List RowValue) → read_file line.name given ≡ Ok bytes
+    → IsRange rows × (bytes ≡ range_spelling rows) → is_said line rows ≡ true → IsRead given line rows
 is_read given line bytes rows reads is said =
     let file = file_read line.name given bytes reads in
     let tests = parts (eqb (length rows) line.rows) (bytes_eq (path_at rows 0) line.first) (bytes_eq (path_at rows (length rows - 1)) line.last) said in
@@ -118,23 +124,33 @@ itself bytes = (bytes_eq-Decides bytes bytes).1 refl
 range_read : (given : List File) (i : ℕ) (rows : List RowValue) → IsRange rows → IsGiven given rows → read_range given i (line_of rows) ≡ Ok rows
 unfolding read_range line_of
 range_read given i rows is here =
-    rw (file_again (range_spelling rows) given here, range_again rows is, eq-eqb (length rows) (length rows) refl, itself (path_at rows 0), itself (path_at rows (length rows - 1))) refl
+    rw (
+      file_again (range_spelling rows) given here,
+      range_again rows is,
+      eq-eqb (length rows) (length rows) refl,
+      itself (path_at rows 0),
+      itself (path_at rows (length rows - 1)),
+    ) refl
 
 -- ---- range by range
 
-pub goes_on : (given : List File) (before : List (List RowValue)) (lines : List RangeLine) (i : ℕ) (line : RangeLine) (range : List RowValue) (all : Result (List (List RowValue)) TreeFault) → i < length lines → line ≡ get_or lines i line
-    → read_range given (length before) line ≡ Ok range → read_ranges given before (drop i lines) ≡ all → read_ranges given (before ++ range ∷ []) (drop (i + 1) lines) ≡ all
+pub goes_on : (given : List File) (before : List (List RowValue)) (lines : List RangeLine) (i : ℕ) (line : RangeLine) (range : List RowValue)
+    (all : Result (List (List RowValue)) TreeFault) → i < length lines → line ≡ get_or lines i line
+    → read_range given (length before) line ≡ Ok range → read_ranges given before (drop i lines) ≡ all
+    → read_ranges given (before ++ range ∷ []) (drop (i + 1) lines) ≡ all
 unfolding read_ranges
 goes_on given before lines i line range all lt is here so_far =
     let rest : drop i lines ≡ line ∷ drop (i + 1) lines = rw add-one (drop-cons lines i line lt ∙ ap (λ l. l ∷ drop (suc i) lines) (sym is)) in
     sym (ap (λ r. r >>= λ range. read_ranges given (before ++ range ∷ []) (drop (i + 1) lines)) here) ∙ ap (read_ranges given before) (sym rest) ∙ so_far
 
-pub ends : (e : TreeFault) (given : List File) (before : List (List RowValue)) (lines : List RangeLine) (i : ℕ) (line : RangeLine) (all : Result (List (List RowValue)) TreeFault) → i < length lines → line ≡ get_or lines i line
+pub ends : (e : TreeFault) (given : List File) (before : List (List RowValue)) (lines : List RangeLine) (i : ℕ) (line : RangeLine)
+    (all : Result (List (List RowValue)) TreeFault) → i < length lines → line ≡ get_or lines i line
     → Fails e (read_range given (length before) line) → read_ranges given before (drop i lines) ≡ all → Fails e all
 unfolding read_ranges
 ends e given before lines i line all lt is fails so_far =
     let rest : drop i lines ≡ line ∷ drop (i + 1) lines = rw add-one (drop-cons lines i line lt ∙ ap (λ l. l ∷ drop (suc i) lines) (sym is)) in
-    subst (Fails e) (ap (read_ranges given before) (sym rest) ∙ so_far) (failed e (read_range given (length before) line) (λ range. read_ranges given (before ++ range ∷ []) (drop (i + 1) lines)) fails)
+    subst (Fails e) (ap (read_ranges given before) (sym rest) ∙ so_far)
+    (failed e (read_range given (length before) line) (λ range. read_ranges given (before ++ range ∷ []) (drop (i + 1) lines)) fails)
 
 none_after : {X : Type 0} (xs : List X) (i : ℕ) → length xs ≤ i → drop i xs ≡ []
 none_after [] zero le = refl
@@ -142,7 +158,8 @@ none_after [] (suc i) le = refl
 none_after (x ∷ xs) zero le = absurd (omega arith)
 none_after (x ∷ xs) (suc i) le = none_after xs i (omega arith)
 
-pub is_done : (given : List File) (before : List (List RowValue)) (lines : List RangeLine) (i : ℕ) (all : Result (List (List RowValue)) TreeFault) → length lines ≤ i → read_ranges given before (drop i lines) ≡ all → all ≡ Ok before
+pub is_done : (given : List File) (before : List (List RowValue)) (lines : List RangeLine) (i : ℕ) (all : Result (List (List RowValue)) TreeFault)
+    → length lines ≤ i → read_ranges given before (drop i lines) ≡ all → all ≡ Ok before
 unfolding read_ranges
 is_done given before lines i all le so_far = sym so_far ∙ ap (read_ranges given before) (none_after lines i le)
 
@@ -150,17 +167,20 @@ map_end : {X Y : Type 0} (f : X → Y) (xs : List X) (x : X) → map f (xs ++ x 
 map_end f [] x = refl
 map_end f (y ∷ xs) x = ap (λ l. f y ∷ l) (map_end f xs x)
 
-pub read_more : (given : List File) (lines : List RangeLine) (i : ℕ) (line : RangeLine) (before : List (List RowValue)) (range : List RowValue) → i < length lines → line ≡ get_or lines i line
+pub read_more : (given : List File) (lines : List RangeLine) (i : ℕ) (line : RangeLine) (before : List (List RowValue)) (range : List RowValue)
+    → i < length lines → line ≡ get_or lines i line
     → AreRead given (take i lines) before → IsRead given line range → AreRead given (take (i + 1) lines) (before ++ range ∷ [])
 read_more given lines i line before range lt is are one = record {
   each = all_append IsRange before (range ∷ []) are.each (one.valid, tt);
-  said = map_end line_of before range ∙ ap (λ l. l ++ line_of range ∷ []) are.said ∙ ap (λ l. take i lines ++ l ∷ []) (sym one.said ∙ is) ∙ sym (take_more lines i line lt);
+  said = map_end line_of before range ∙ ap (λ l. l ++ line_of range ∷ []) are.said ∙ ap (λ l. take i lines ++ l ∷ []) (sym one.said ∙ is)
+      ∙ sym (take_more lines i line lt);
   given = all_append (IsGiven given) before (range ∷ []) are.given (one.given, tt);
 }
 
 -- ---- ranges that follow each other
 
-ascend_both : (a b : List RowValue) → HasAscendingKeys a → HasAscendingKeys b → (0 < length a → T (below_all byte_order (path_at a (length a - 1)) b)) → HasAscendingKeys (a ++ b)
+ascend_both : (a b : List RowValue) → HasAscendingKeys a → HasAscendingKeys b → (0 < length a → T (below_all byte_order (path_at a (length a - 1)) b))
+    → HasAscendingKeys (a ++ b)
 ascend_both [] b h k seam = k
 ascend_both (row ∷ []) b h k seam = both _ _ (seam (omega arith)) k
 ascend_both (row ∷ next ∷ a) b h k seam =
@@ -170,11 +190,13 @@ ascend_both (row ∷ next ∷ a) b h k seam =
     let lt : byte_order row.0 next.0 ≡ Less = less (byte_order row.0 next.0) (first _ _ (head_below row (next ∷ a) h)) in
     both _ _ (both _ _ (first _ _ (head_below row (next ∷ a) h)) (less_more row.0 next.0 (a ++ b) lt (head_below next (a ++ b) more))) more
 
-above_first : (path : List ℕ) (ranges : List (List RowValue)) → AllByRecursion IsRange ranges → IsBelowNext path (map line_of ranges) → HasAscendingKeys (rows_of ranges) → T (below_all byte_order path (rows_of ranges))
+above_first : (path : List ℕ) (ranges : List (List RowValue)) → AllByRecursion IsRange ranges → IsBelowNext path (map line_of ranges)
+    → HasAscendingKeys (rows_of ranges) → T (below_all byte_order path (rows_of ranges))
 unfolding line_of
 above_first path [] each below h = tt
 above_first path ([] ∷ ranges) each below h = absurd (omega (arith, each.0.some))
-above_first path ((row ∷ rows) ∷ ranges) each below h = both _ _ (subst (λ o. T (is_lt o)) (sym below) tt) (less_more path row.0 (rows ++ rows_of ranges) below (head_below row (rows ++ rows_of ranges) h))
+above_first path ((row ∷ rows) ∷ ranges) each below h =
+    both _ _ (subst (λ o. T (is_lt o)) (sym below) tt) (less_more path row.0 (rows ++ rows_of ranges) below (head_below row (rows ++ rows_of ranges) h))
 
 pub ascend_read : (ranges : List (List RowValue)) → AllByRecursion IsRange ranges → FollowOn (map line_of ranges) → HasAscendingKeys (rows_of ranges)
 unfolding line_of
@@ -184,28 +206,34 @@ ascend_read (range ∷ ranges) each follow =
     ascend_both range (rows_of ranges) each.0.ascend more (λ some. above_first (path_at range (length range - 1)) ranges each.1 follow.0 more)
 
 -- the ranges that were read can be those of a tree
-pub ranges_read : (given : List File) (lines : List RangeLine) (ranges : List (List RowValue)) → IsMetarange lines → AreRead given lines ranges → length (rows_of ranges) < 2 ^ 32 → AreRanges ranges
-ranges_read given lines ranges is are few = record { each = are.each; ascend = ascend_read ranges are.each (subst FollowOn (sym are.said) is.follow); few = few }
+pub ranges_read : (given : List File) (lines : List RangeLine) (ranges : List (List RowValue)) → IsMetarange lines → AreRead given lines ranges
+    → length (rows_of ranges) < 2 ^ 32 → AreRanges ranges
+ranges_read given lines ranges is are few =
+    record { each = are.each; ascend = ascend_read ranges are.each (subst FollowOn (sym are.said) is.follow); few = few }
 
 -- ---- the cut
 
 -- the ranges of the cut, where none is astray
-uncut : (cut : Cut) (i : ℕ) (read : List (List RowValue)) → AllByRecursion IsRange read → first_stray i read (ranges cut (rows_of read)) ≡ None → read ≡ ranges cut (rows_of read)
+uncut : (cut : Cut) (i : ℕ) (read : List (List RowValue)) → AllByRecursion IsRange read → first_stray i read (ranges cut (rows_of read)) ≡ None
+    → read ≡ ranges cut (rows_of read)
 uncut cut i [] each none = sym (ranges_none cut)
 uncut cut i (range ∷ read) each none =
     let rows = range ++ rows_of read in
     let n = first_len cut rows in
     let some : 0 < length rows = omega (arith, each.0.some, length-append range (rows_of read)) in
     let cons = ranges_of cut rows some in
-    let tested : cond (eqb (length range) (length (take n rows))) (first_stray (suc i) read (ranges cut (drop n rows))) (Some i) ≡ None = ap (first_stray i (range ∷ read)) (sym cons) ∙ none in
+    let tested : cond (eqb (length range) (length (take n rows))) (first_stray (suc i) read (ranges cut (drop n rows))) (Some i) ≡ None =
+    ap (first_stray i (range ∷ read)) (sym cons) ∙ none in
     elim (cases_Bool (eqb (length range) (length (take n rows)))) [
       | inl same ↦
           let long : length range ≡ n = omega (arith, eqb-true (length range) (length (take n rows)) same, length-take n rows, first_below cut rows) in
           let front : take n rows ≡ range = ap (λ k. take k rows) (sym long) ∙ take-append_seam range (rows_of read) in
           let back : drop n rows ≡ rows_of read = ap (λ k. drop k rows) (sym long) ∙ drop-append_seam range (rows_of read) in
           let rest : first_stray (suc i) read (ranges cut (rows_of read)) ≡ None =
-          ap (λ l. first_stray (suc i) read (ranges cut l)) (sym back) ∙ sym (ap (λ b. cond b (first_stray (suc i) read (ranges cut (drop n rows))) (Some i)) same) ∙ tested in
-          ap (λ l. range ∷ l) (uncut cut (suc i) read each.1 rest) ∙ sym (cons ∙ ap (λ l. l ∷ ranges cut (drop n rows)) front ∙ ap (λ l. range ∷ ranges cut l) back)
+          ap (λ l. first_stray (suc i) read (ranges cut l)) (sym back)
+          ∙ sym (ap (λ b. cond b (first_stray (suc i) read (ranges cut (drop n rows))) (Some i)) same) ∙ tested in
+          ap (λ l. range ∷ l) (uncut cut (suc i) read each.1 rest)
+          ∙ sym (cons ∙ ap (λ l. l ∷ ranges cut (drop n rows)) front ∙ ap (λ l. range ∷ ranges cut l) back)
       | inr other ↦
           let bad : Some i ≡ None = sym (ap (λ b. cond b (first_stray (suc i) read (ranges cut (drop n rows))) (Some i)) other) ∙ tested in
           absurd cc
@@ -225,7 +253,8 @@ never_stray cut rows = ap (λ l. first_stray 0 (ranges cut rows) (ranges cut l))
 
 -- ---- the tree that was read
 
-with_first : (given : List File) (file : List ℕ) (all : List (List ℕ)) → bytes_named (file_name file) given ≡ Some file → AreGiven all given → AreGiven (file ∷ all) given
+with_first : (given : List File) (file : List ℕ) (all : List (List ℕ)) → bytes_named (file_name file) given ≡ Some file → AreGiven all given
+    → AreGiven (file ∷ all) given
 with_first given file all here rest bytes has = by has.0 has.1 has.2
   where
     by : (k : ℕ) → k < length (file ∷ all) → get_or (file ∷ all) k bytes ≡ bytes → bytes_named (file_name bytes) given ≡ Some bytes
@@ -243,7 +272,8 @@ pub record HasRead (name : Digest) (given : List File) (cut : Cut) (bytes : List
   pub read : AreRead given lines ranges
   pub few : length (rows_of ranges) < 2 ^ 32
 
-module _ (name : Digest) (given : List File) (cut : Cut) (bytes : List ℕ) (lines : List RangeLine) (read : List (List RowValue)) (h : HasRead name given cut bytes lines read) where
+module _ (name : Digest) (given : List File) (cut : Cut) (bytes : List ℕ) (lines : List RangeLine) (read : List (List RowValue))
+    (h : HasRead name given cut bytes lines read) where
   -- the metarange is that of the ranges
   pub metarange_is : bytes ≡ metarange_of read
   metarange_is = h.valid.1 ∙ ap metarange_spelling (sym h.read.said)
@@ -265,7 +295,8 @@ module _ (name : Digest) (given : List File) (cut : Cut) (bytes : List ℕ) (lin
       record {
         named = name_is;
         cut_so = ap files_of cut_is;
-        given = with_first given (metarange_of read) (map range_spelling read) (subst (λ (n : Digest). bytes_named n given ≡ Some (metarange_of read)) name_is ((file_read name given bytes h.file).0 ∙ ap Some metarange_is)) (each_given given read h.read.given);
+        given = with_first given (metarange_of read) (map range_spelling read) (subst (λ (n : Digest). bytes_named n given ≡ Some (metarange_of read)) name_is
+            ((file_read name given bytes h.file).0 ∙ ap Some metarange_is)) (each_given given read h.read.given);
         limits = record {
           each = subst (AllByRecursion IsRow) (sym entries_are) (rows_within read h.read.each);
           few = omega (arith, len-entries (from_sorted {R = byte_order} (rows_of read)), ap length entries_are, h.few);
@@ -274,7 +305,8 @@ module _ (name : Digest) (given : List File) (cut : Cut) (bytes : List ℕ) (lin
 
 -- ---- a tree whose files are given
 
-read_all : (given : List File) (before ranges : List (List RowValue)) → AllByRecursion IsRange ranges → AllByRecursion (IsGiven given) ranges → read_ranges given before (map line_of ranges) ≡ Ok (before ++ ranges)
+read_all : (given : List File) (before ranges : List (List RowValue)) → AllByRecursion IsRange ranges → AllByRecursion (IsGiven given) ranges
+    → read_ranges given before (map line_of ranges) ≡ Ok (before ++ ranges)
 unfolding read_ranges
 read_all given before [] each all = ap (λ l. Ok l) (sym (append-nil before))
 read_all given before (range ∷ ranges) each all =
@@ -292,7 +324,8 @@ ranges_given given (range ∷ ranges) all = (
   ranges_given given ranges (λ bytes has. all bytes (later (range_spelling range) (map range_spelling ranges) bytes has)),
 )
 
-pub tree_again : (name : Digest) (given : List File) (cut : Cut) (objects : KeyMapValue) → FitsTree objects → name ≡ tree_id cut objects → AreGiven (files cut objects) given → tree_from name given cut ≡ Ok (record { map = objects; files = files cut objects })
+pub tree_again : (name : Digest) (given : List File) (cut : Cut) (objects : KeyMapValue) → FitsTree objects → name ≡ tree_id cut objects
+    → AreGiven (files cut objects) given → tree_from name given cut ≡ Ok (record { map = objects; files = files cut objects })
 unfolding tree_from files tree_id
 tree_again name given cut objects fits named all =
     let read = ranges cut (entries objects) in
@@ -301,7 +334,8 @@ tree_again name given cut objects fits named all =
     let file = file_again metarange given (all metarange (0, omega arith, refl)) in
     let lines = metarange_again (map line_of read) (is_metarange read are) in
     let each = read_all given [] read are.each (ranges_given given read (λ bytes has. all bytes (later metarange (map range_spelling read) bytes has))) in
-    let objects_are : from_sorted {R = byte_order} (rows_of read) ≡ objects = ap (from_sorted {R = byte_order}) (rows_of_cut cut (entries objects)) ∙ same_again objects in
+    let objects_are : from_sorted {R = byte_order} (rows_of read) ≡ objects =
+    ap (from_sorted {R = byte_order}) (rows_of_cut cut (entries objects)) ∙ same_again objects in
     ap (λ n. tree_from n given cut) named
     ∙ rw (file, lines, each, never_stray cut (entries objects)) (ap (λ o. Ok (record { map = o; files = files_of read })) objects_are)
 
@@ -330,7 +364,8 @@ module _ (name : Digest) (given : List File) (cut : Cut) where
     with_file = steps ∙ ap (λ r. r >>= after_file) file
 
     pub fails_metarange : (fault : MetaFault) → MetaFails fault (metarange_from bytes) → Fails (of_metarange fault) (tree_from name given cut)
-    fails_metarange fault h = subst (Fails (of_metarange fault)) (sym with_file) (failed (of_metarange fault) (in_metarange (metarange_from bytes)) after_lines (metarange_failed fault (metarange_from bytes) h))
+    fails_metarange fault h = subst (Fails (of_metarange fault)) (sym with_file)
+        (failed (of_metarange fault) (in_metarange (metarange_from bytes)) after_lines (metarange_failed fault (metarange_from bytes) h))
 
     module _ (lines : List RangeLine) (said : metarange_from bytes ≡ Ok lines) where
       with_lines : tree_from name given cut ≡ (read_ranges given [] lines >>= after_ranges)

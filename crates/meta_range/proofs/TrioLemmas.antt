@@ -1,5 +1,6 @@
 -- Three trees agree exactly where their ranges match, and files agree or clash.
-use Rattle.std.proofs.Common.{◌≡◌, ◌⊎◌, ◌↔◌, inl, inr, ℕ, zero, suc, ◌<◌, Bool, true, false, cond, ◌&&◌, List, [], ◌∷◌, ◌++◌, length, get_or, map, Option, Some, None, refl, sym, ap, subst, ◌∙◌, arith}
+use Rattle.std.proofs.Common.{◌≡◌, ◌⊎◌, ◌↔◌, inl, inr, ℕ, zero, suc, ◌<◌, Bool, true, false, cond, ◌&&◌, List, [], ◌∷◌, ◌++◌, length, get_or, map, Option, Some}
+use Rattle.std.proofs.Common.{None, refl, sym, ap, subst, ◌∙◌, arith}
 use Rattle.std.specs.Prelude.{◌≢◌}
 use Rattle.std.specs.List.{AllByRecursion, Contains}
 use Rattle.std.specs.Option.{option_map_or}
@@ -64,11 +65,14 @@ map_from f (x ∷ xs) y has =
 -- ---- ranges by name
 
 -- what is found by a name is one of the ranges, and has the name
-found_is : (name : Digest) (ranges : Ranges) (first : List RowValue) → first_named range_name name ranges ≡ Some first → Contains ranges first × (range_name first ≡ name)
+found_is : (name : Digest) (ranges : Ranges) (first : List RowValue) → first_named range_name name ranges ≡ Some first
+    → Contains ranges first × (range_name first ≡ name)
 found_is name [] first found = absurd cc
 found_is name (range ∷ ranges) first found = by (same_id (range_name range) name) refl (found_is name ranges first) found
   where
-    by : (b : Bool) → same_id (range_name range) name ≡ b → (first_named range_name name ranges ≡ Some first → Contains ranges first × (range_name first ≡ name)) → cond b (Some range) (first_named range_name name ranges) ≡ Some first → Contains (range ∷ ranges) first × (range_name first ≡ name)
+    by : (b : Bool)
+        → same_id (range_name range) name ≡ b → (first_named range_name name ranges ≡ Some first → Contains ranges first × (range_name first ≡ name))
+        → cond b (Some range) (first_named range_name name ranges) ≡ Some first → Contains (range ∷ ranges) first × (range_name first ≡ name)
     by true same rest is =
         let here : range ≡ first = cc in
         let bytes = (bytes_eq-Decides (range_name range).0 name.0).0 same in
@@ -77,7 +81,8 @@ found_is name (range ∷ ranges) first found = by (same_id (range_name range) na
     by false other rest is = (behind range ranges first (rest is).0, (rest is).1)
 
 -- one of the ranges is found by the name of one that is there
-first_there : (ranges : Ranges) (range : List RowValue) → Contains ranges range → (first : List RowValue) × (first_named range_name (range_name range) ranges ≡ Some first)
+first_there : (ranges : Ranges) (range : List RowValue) → Contains ranges range
+    → (first : List RowValue) × (first_named range_name (range_name range) ranges ≡ Some first)
 first_there [] range has = absurd (omega (arith, has.1))
 first_there (next ∷ ranges) range has =
     elim (cases_Bool (same_id (range_name next) (range_name range))) [
@@ -97,7 +102,8 @@ first_there (next ∷ ranges) range has =
 -- ---- ranges that match
 
 -- a range that matches has the rows of the first of its name
-is_first : (others : Ranges) (range first : List RowValue) → is_matched others range ≡ true → first_named range_name (range_name range) others ≡ Some first → range ≡ first
+is_first : (others : Ranges) (range first : List RowValue) → is_matched others range ≡ true → first_named range_name (range_name range) others ≡ Some first
+    → range ≡ first
 is_first others range first matched found = (same_rows_are range first).0 (sym (ap (λ o. option_map_or (same_rows range) o true) found) ∙ matched)
 
 one_matches : (others ranges : Ranges) (range : List RowValue) → are_matched others ranges ≡ true → Contains ranges range → is_matched others range ≡ true
@@ -115,7 +121,8 @@ same_files others ranges own all file other here there named =
     sym r.2 ∙ ap range_spelling (left ∙ sym right) ∙ s.2
 
 -- and the other way round
-matched_from : (others ranges : Ranges) → AllByRecursion IsRange others → AllByRecursion IsRange ranges → Same (spelled ranges) (spelled others) → are_matched others ranges ≡ true
+matched_from : (others ranges : Ranges) → AllByRecursion IsRange others → AllByRecursion IsRange ranges → Same (spelled ranges) (spelled others)
+    → are_matched others ranges ≡ true
 matched_from others [] each_other each same = refl
 matched_from others (range ∷ ranges) each_other each same =
     ap (λ b. b && are_matched others ranges) (by (first_named range_name (range_name range) others) refl)
@@ -170,16 +177,20 @@ module _ (base source dest : Ranges) where
       let b = spelled base in
       let s = spelled source in
       let d = spelled dest in
-      joined b (s ++ d) (b ++ (s ++ d)) (beside b b s d bb bs bd) (joined s d (b ++ (s ++ d)) (beside s b s d (flip b s bs) ss sd) (beside d b s d (flip b d bd) (flip s d sd) dd))
+      joined b (s ++ d) (b ++ (s ++ d)) (beside b b s d bb bs bd)
+      (joined s d (b ++ (s ++ d)) (beside s b s d (flip b s bs) ss sd) (beside d b s d (flip b d bd) (flip s d sd) dd))
 
-  matched_if : AllByRecursion IsRange base → AllByRecursion IsRange source → AllByRecursion IsRange dest → Agree (trio base source dest) → all_matched base source dest ≡ true
+  matched_if : AllByRecursion IsRange base → AllByRecursion IsRange source → AllByRecursion IsRange dest → Agree (trio base source dest)
+      → all_matched base source dest ≡ true
   matched_if is_base is_source is_dest agree =
       let b = spelled base in
       let s = spelled source in
       let d = spelled dest in
       let in_b : (file : List ℕ) → Contains b file → Contains (b ++ (s ++ d)) file = λ file has. Contains-append_left b (s ++ d) file has in
-      let in_s : (file : List ℕ) → Contains s file → Contains (b ++ (s ++ d)) file = λ file has. Contains-append_right b (s ++ d) file (Contains-append_left s d file has) in
-      let in_d : (file : List ℕ) → Contains d file → Contains (b ++ (s ++ d)) file = λ file has. Contains-append_right b (s ++ d) file (Contains-append_right s d file has) in
+      let in_s : (file : List ℕ) → Contains s file → Contains (b ++ (s ++ d)) file =
+      λ file has. Contains-append_right b (s ++ d) file (Contains-append_left s d file has) in
+      let in_d : (file : List ℕ) → Contains d file → Contains (b ++ (s ++ d)) file =
+      λ file has. Contains-append_right b (s ++ d) file (Contains-append_right s d file has) in
       let bb = matched_from base base is_base is_base (λ file other here there. agree file other (in_b file here) (in_b other there)) in
       let ss = matched_from source source is_source is_source (λ file other here there. agree file other (in_s file here) (in_s other there)) in
       let dd = matched_from dest dest is_dest is_dest (λ file other here there. agree file other (in_d file here) (in_d other there)) in
@@ -188,7 +199,8 @@ module _ (base source dest : Ranges) where
       let sd = matched_from dest source is_dest is_source (λ file other here there. agree file other (in_s file here) (in_d other there)) in
       rw (bb, ss, dd, bs, bd, sd) refl
 
-  pub agree_exactly : AllByRecursion IsRange base → AllByRecursion IsRange source → AllByRecursion IsRange dest → (all_matched base source dest ≡ true) ↔ Agree (trio base source dest)
+  pub agree_exactly : AllByRecursion IsRange base → AllByRecursion IsRange source → AllByRecursion IsRange dest
+      → (all_matched base source dest ≡ true) ↔ Agree (trio base source dest)
   agree_exactly is_base is_source is_dest = (agree_if, matched_if is_base is_source is_dest)
 
 -- ---- files agree or clash
@@ -204,7 +216,8 @@ clash_behind file all others clash = record {
 }
 
 -- whether a file is the same as those of its name
-one_or : (file : List ℕ) (others : Files) → ((other : List ℕ) → Contains others other → file_name file ≡ file_name other → file ≡ other) ⊎ ((other : List ℕ) × Contains others other × (file_name file ≡ file_name other) × (file ≢ other))
+one_or : (file : List ℕ) (others : Files) → ((other : List ℕ) → Contains others other → file_name file ≡ file_name other → file ≡ other)
+    ⊎ ((other : List ℕ) × Contains others other × (file_name file ≡ file_name other) × (file ≢ other))
 one_or file [] = inl (λ other has named. absurd (omega (arith, has.1)))
 one_or file (next ∷ others) =
     elim (one_or file others) [
@@ -220,7 +233,9 @@ one_or file (next ∷ others) =
                       inr (next, (0, omega arith, refl), λ i. record { 0 = bytes i }, λ is. absurd (cc (sym ((bytes_eq-Decides file next).1 is) ∙ apart)))
                   | inr other_name ↦ inl (λ other has named.
                       elim (first_or next others other has) [
-                        | inl is ↦ absurd (cc (sym ((bytes_eq-Decides (file_name file).0 (file_name next).0).1 (ap (λ (n : Digest). n.0) (named ∙ sym (ap file_name is)))) ∙ other_name))
+                        | inl is ↦ absurd (cc (sym
+                            ((bytes_eq-Decides (file_name file).0 (file_name next).0).1 (ap (λ (n : Digest). n.0) (named ∙ sym (ap file_name is))))
+                            ∙ other_name))
                         | inr more ↦ same other more named
                       ])
                 ]

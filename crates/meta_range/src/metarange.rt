@@ -7,10 +7,12 @@
 ghost use Rattle.std.specs.Prelude.{◌≡◌, ◌++◌, ◌<◌, ◌^◌, ℕ, List, [], length, map, Ok, IfOk, OnOk, OnErr};
 ghost use Rattle.std.specs.List.{AllByRecursion};
 ghost use Rattle.lake_format.specs.Reading.{is_next};
-ghost use Rattle.lake_format.specs.Spelling.{range_spelling, line_of, line_spelling, metarange_spelling, IsRange, IsMetarange, AreBytes};
+ghost use Rattle.lake_format.specs.Spelling.{range_spelling, line_of, line_spelling, metarange_spelling, IsRange};
+ghost use Rattle.lake_format.specs.Spelling.{IsMetarange, AreBytes};
 ghost use Rattle.lake_format.specs.declared.range_line.RangeLine.{RangeLine as Line};
 ghost use Rattle.meta_range.specs.Ranges.{AreRanges, metarange_of};
-ghost use Rattle.meta_range.specs.Metarange.{ReadsAs, read_head, read_first, read_last, read_line, read_lines, read_count, last_of, metarange_from};
+ghost use Rattle.meta_range.specs.Metarange.{ReadsAs, read_head, read_first, read_last, read_line, read_lines};
+ghost use Rattle.meta_range.specs.Metarange.{read_count, last_of, metarange_from};
 
 use crate::fault::{MetaFault, fault_of};
 use crate::shared_range::SharedRange;

@@ -7,8 +7,8 @@ ghost use Rattle.meta_range.specs.Files.{file_at};
 ghost use Rattle.meta_range.specs.Provenance.{AreKnownByName, HasKnownTrio, IsFileOf, IsMadeFrom, IsMerged, IsTrioFile};
 
 use crate::searching::{has_none_between, place_with_ends};
-use lake_values::changes::Changes;
 use crate::{Tree, law_of_ends};
+use lake_values::changes::Changes;
 
 /// What the map of a tree was made from.
 #[derive(Clone, Copy, Debug)]

@@ -1,12 +1,14 @@
 //! A tree from its files.
-ghost use Rattle.std.specs.Prelude.{◌≡◌, ◌↔◌, ◌<◌, ◌++◌, ◌^◌, List, [], length, drop, slice_get, IsTrue, Ok, IfOk, Option, option_copied};
+ghost use Rattle.std.specs.Prelude.{◌≡◌, ◌↔◌, ◌<◌, ◌++◌, ◌^◌, List, [], length, drop, slice_get, IsTrue, Ok, IfOk};
+ghost use Rattle.std.specs.Prelude.{Option, option_copied};
 ghost use Rattle.lake_values.specs.KeyMap.{KeyMapValue};
 ghost use Rattle.lake_format.specs.Cutting.{files as tree_files, tree_id, first_len};
 ghost use Rattle.lake_format.specs.Spelling.{IsMetarange};
 ghost use Rattle.range_file.specs.Rows.{RowValue};
 ghost use Rattle.meta_range.specs.Ranges.{first_file, rows_of};
 ghost use Rattle.meta_range.specs.Files.{bytes_named, FitsTree};
-ghost use Rattle.meta_range.specs.TreeReading.{ReadsAs, AreGiven, is_said, read_file, read_range, read_ranges, not_cut, tree_from, IsTreeOf, IsRead, AreRead};
+ghost use Rattle.meta_range.specs.TreeReading.{ReadsAs, AreGiven, is_said, read_file, read_range, read_ranges, not_cut};
+ghost use Rattle.meta_range.specs.TreeReading.{tree_from, IsTreeOf, IsRead, AreRead};
 
 use crate::fault::{TreeFault, of_metarange, of_range};
 use crate::file::File;

@@ -4,10 +4,10 @@ ghost use Rattle.std.specs.Bool.{OnTrue};
 ghost use Rattle.std.specs.FinMap.{get};
 ghost use Rattle.meta_range.specs.Ends.{HasEnds, is_between};
 
+use crate::Tree;
 use lake_base::names::Path;
 use lake_values::changes::Changes;
 use lake_values::cursor::is_below;
-use crate::Tree;
 
 /// The place of the range of a tree that begins and ends with these paths, where a search finds it.
 pub(crate) fn place_with_ends(tree: &Tree, first: &Path, last: &Path) -> Option<usize>
@@ -46,7 +46,8 @@ fn ranges_below(tree: &Tree, least: &[u8]) -> usize
 
 /// Whether changes have none at a path from one to another.
 pub(crate) fn has_none_between(changes: &Changes, first: &Path, last: &Path) -> bool
-    ensures { OnTrue result ((path : List ℕ) → is_between first.now last.now path ≡ true → get changes.now path ≡ None) }
+    ensures { OnTrue result
+        ((path : List ℕ) → is_between first.now last.now path ≡ true → get changes.now path ≡ None) }
 {
     let rows = changes.as_slice();
     let at = rows.partition_point(|row| is_below(row.0.as_slice(), first.as_slice()));

@@ -38,7 +38,8 @@ impl Model for SharedRange {
 
     ghost view = { λ range. range.rows.value };
 
-    ghost invariant = { λ range. IsRange range.rows.value × (range.name ≡ file_name (range_spelling range.rows.value)) };
+    ghost invariant = { λ range. IsRange range.rows.value
+        × (range.name ≡ file_name (range_spelling range.rows.value)) };
 }
 
 impl SharedRange {

@@ -30,7 +30,8 @@ impl Model for Trio {
 
     ghost view = { λ trio. record { base = trio.base.value; source = trio.source.value; dest = trio.dest.value } };
 
-    ghost invariant = { λ trio. Agree (record { base = trio.base.value; source = trio.source.value; dest = trio.dest.value }) };
+    ghost invariant = { λ trio.
+        Agree (record { base = trio.base.value; source = trio.source.value; dest = trio.dest.value }) };
 }
 
 impl Trio {

@@ -1,5 +1,6 @@
 -- A pair that is read is the pair that was written, and what was written is read again.
-use Rattle.std.proofs.Common.{◌≡◌, ℕ, suc, Bool, true, false, cond, eqb, is_none, List, [], ◌∷◌, ◌++◌, length, Option, Some, None, Result, Ok, Err, refl, sym, ap, subst, ◌∙◌, arith}
+use Rattle.std.proofs.Common.{◌≡◌, ℕ, suc, Bool, true, false, cond, eqb, is_none, List, [], ◌∷◌, ◌++◌, length, Option, Some, None, Result, Ok, Err, refl, sym}
+use Rattle.std.proofs.Common.{ap, subst, ◌∙◌, arith}
 use Rattle.std.proofs.lemmas.Bool.{eqb-true}
 use Rattle.std.proofs.lemmas.List.{append-nil, nil_from_length}
 use Rattle.std.specs.Option.{option_map_or}
@@ -24,8 +25,10 @@ use Rattle.pair_format.specs.declared.stored.Stored.{Stored}
 use Rattle.pair_format.specs.declared.stored.Stored.TheVariants.{Repository, Branch, Tag, Commit, MetaRange, Range, Staged, Note, Gone, Counts}
 use Rattle.pair_format.specs.Keys.{kind_of, note_number}
 use Rattle.pair_format.specs.PairSpelling.{key_of, key_spelling, value_spelling, pair_spelling, IsSpelledKey, IsSpelledValue, IsSpelledStored}
-use Rattle.pair_format.specs.PairReading.{Reader, both, map_reader, read_rest, read_path, read_versioned, key_fields, value_fields, alone, read_key, read_value, with_place, value_from, pair_from}
-use Rattle.pair_format.proofs.FieldsLemmas.{IsReader, u64_reader, digest_reader, repo_reader, ref_reader, note_reader, flag_reader, change_reader, tokens_reader}
+use Rattle.pair_format.specs.PairReading.{Reader, both, map_reader, read_rest, read_path, read_versioned, key_fields, value_fields, alone, read_key, read_value}
+use Rattle.pair_format.specs.PairReading.{with_place, value_from, pair_from}
+use Rattle.pair_format.proofs.FieldsLemmas.{IsReader, u64_reader, digest_reader, repo_reader, ref_reader, note_reader, flag_reader, change_reader}
+use Rattle.pair_format.proofs.FieldsLemmas.{tokens_reader}
 
 -- ---- readers that take all that is left
 
@@ -104,7 +107,8 @@ unfolding read_versioned commit_from
 versioned_from [] c e = absurd cc
 versioned_from (version ∷ fields) c e = by (eqb version 1) e
   where
-    by : (b : Bool) → cond b (read_commit fields) (Err (Bad (length (version ∷ fields)))) ≡ Ok (c, []) → cond b (whole (length (version ∷ fields)) (read_commit fields)) (Err (Version version)) ≡ Ok c
+    by : (b : Bool) → cond b (read_commit fields) (Err (Bad (length (version ∷ fields)))) ≡ Ok (c, [])
+        → cond b (whole (length (version ∷ fields)) (read_commit fields)) (Err (Version version)) ≡ Ok c
     by true h = ap (whole (length (version ∷ fields))) h
     by false h = absurd cc
 
@@ -134,7 +138,8 @@ letter_of kind.Gone = 88
 letter_of kind.Counts = 90
 
 -- a test for one more letter
-one_letter : (letter : ℕ) (k x : Kind) (n : ℕ) (r : Option Kind) → letter_of k ≡ n → (r ≡ Some x → letter ≡ letter_of x) → cond (eqb letter n) (Some k) r ≡ Some x → letter ≡ letter_of x
+one_letter : (letter : ℕ) (k x : Kind) (n : ℕ) (r : Option Kind) → letter_of k ≡ n → (r ≡ Some x → letter ≡ letter_of x)
+    → cond (eqb letter n) (Some k) r ≡ Some x → letter ≡ letter_of x
 one_letter letter k x n r is else h = by (eqb letter n) refl h
   where
     by : (b : Bool) → eqb letter n ≡ b → cond b (Some k) r ≡ Some x → letter ≡ letter_of x
@@ -180,7 +185,8 @@ kind_in (key.Gone number) = kind.Gone
 kind_in key.Counts = kind.Counts
 
 -- what fields make, in a spelling of its own
-taken : {A B : Type 0} {read : Reader A} {s : A → List ℕ} {P : A → Type 0} (whole : IsWhole read s P) (f : A → B) (bytes : List ℕ) (y : B) → AreBytes bytes → map_reader f read bytes ≡ Ok (y, [])
+taken : {A B : Type 0} {read : Reader A} {s : A → List ℕ} {P : A → Type 0} (whole : IsWhole read s P) (f : A → B) (bytes : List ℕ) (y : B) → AreBytes bytes
+    → map_reader f read bytes ≡ Ok (y, [])
     → (x : A) × (f x ≡ y) × (bytes ≡ s x) × P x
 taken {A} {B} {read} {s} {P} whole f bytes y fits e =
     let a = bind_ok (read bytes) (λ x. Ok (f x.0, x.1)) (y, []) e in
@@ -189,7 +195,8 @@ taken {A} {B} {read} {s} {P} whole f bytes y fits e =
     let t = whole.takes bytes a.0.0 fits (a.1 ∙ ap (λ (l : List ℕ). Ok (a.0.0, l)) none) in
     (a.0.0, ap (λ (z : B × List ℕ). z.0) made, t.0, t.1)
 
-remade : {A B : Type 0} {read : Reader A} {s : A → List ℕ} {P : A → Type 0} (whole : IsWhole read s P) (f : A → B) (x : A) → P x → map_reader f read (s x) ≡ Ok (f x, [])
+remade : {A B : Type 0} {read : Reader A} {s : A → List ℕ} {P : A → Type 0} (whole : IsWhole read s P) (f : A → B) (x : A) → P x
+    → map_reader f read (s x) ≡ Ok (f x, [])
 remade {A} {B} {read} {s} {P} whole f x is = ap (λ (r : Result (A × List ℕ) FieldFault). r >>= λ x. Ok (f x.0, x.1)) (whole.again x is)
 
 -- a key that is spelled by its letter and these bytes
@@ -276,7 +283,8 @@ unfolding read_key
 key_found [] y fits e = absurd cc
 key_found (letter ∷ fields) y fits e = by (kind_of letter) refl e
   where
-    by : (o : Option Kind) → kind_of letter ≡ o → option_map_or (key_read fields) o (Err (Bad (length (letter ∷ fields)))) ≡ Ok y → (letter ∷ fields ≡ key_spelling y) × IsSpelledKey y
+    by : (o : Option Kind) → kind_of letter ≡ o → option_map_or (key_read fields) o (Err (Bad (length (letter ∷ fields)))) ≡ Ok y
+        → (letter ∷ fields ≡ key_spelling y) × IsSpelledKey y
     by (Some k) is h =
         let t = key_takes k fields y (rest_bytes letter fields fits) (alone_ok (key_fields k fields) y h) in
         (ap (λ l. l ∷ fields) (kind_back letter k is) ∙ t.0, t.1)
@@ -309,11 +317,14 @@ value_taken k whole f keyed spelled limits bytes y fits e =
 
 value_takes : (k : OwnedKey) (bytes : List ℕ) (y : Stored) → AreBytes bytes → value_fields k bytes ≡ Ok (y, []) → SpellsValue k bytes y
 unfolding value_fields
-value_takes (key.Repository repo) = value_taken (key.Repository repo) (then_whole u64_reader (then_whole ref_reader (whole_reader u64_reader))) (λ x. Repository repo x.0 x.1.0 x.1.1) (λ x. refl) (λ x. refl) (λ x is. is)
+value_takes (key.Repository repo) = value_taken (key.Repository repo) (then_whole u64_reader (then_whole ref_reader (whole_reader u64_reader)))
+    (λ x. Repository repo x.0 x.1.0 x.1.1) (λ x. refl) (λ x. refl) (λ x is. is)
 value_takes (key.Branch repo branch) =
-    value_taken (key.Branch repo branch) (then_whole u64_reader (then_whole digest_reader (then_whole u64_reader (whole_reader tokens_reader)))) (λ x. Branch repo branch x.0 x.1.0 x.1.1.0 x.1.1.1) (λ x. refl) (λ x. refl) (λ x is. is)
+    value_taken (key.Branch repo branch) (then_whole u64_reader (then_whole digest_reader (then_whole u64_reader (whole_reader tokens_reader))))
+    (λ x. Branch repo branch x.0 x.1.0 x.1.1.0 x.1.1.1) (λ x. refl) (λ x. refl) (λ x is. is)
 value_takes (key.Tag repo tag) = value_taken (key.Tag repo tag) (whole_reader digest_reader) (Tag repo tag) (λ x. refl) (λ x. refl) (λ x is. is)
-value_takes (key.Commit repo id) = value_taken (key.Commit repo id) (then_whole flag_reader versioned_whole) (λ x. Commit repo id x.0 x.1) (λ x. refl) (λ x. refl) (λ x is. is.1)
+value_takes (key.Commit repo id) =
+    value_taken (key.Commit repo id) (then_whole flag_reader versioned_whole) (λ x. Commit repo id x.0 x.1) (λ x. refl) (λ x. refl) (λ x is. is.1)
 value_takes (key.MetaRange name) = value_taken (key.MetaRange name) rest_whole (MetaRange name) (λ x. refl) (λ x. refl) (λ x is. is)
 value_takes (key.Range name) = value_taken (key.Range name) rest_whole (Range name) (λ x. refl) (λ x. refl) (λ x is. is)
 value_takes (key.Staged token path) = value_taken (key.Staged token path) (whole_reader change_reader) (Staged token path) (λ x. refl) (λ x. refl) (λ x is. is)
@@ -322,14 +333,17 @@ value_takes (key.Gone number) = λ bytes y fits e.
     let made = ok_is (Gone number, bytes) (y, []) e in
     let none : bytes ≡ [] = ap (λ (z : Stored × List ℕ). z.1) made in
     subst (SpellsValue (key.Gone number) bytes) (ap (λ (z : Stored × List ℕ). z.0) made) (refl, none, tt)
-value_takes key.Counts = value_taken key.Counts (then_whole u64_reader (then_whole u64_reader (whole_reader u64_reader))) (λ x. Counts x.0 x.1.0 x.1.1) (λ x. refl) (λ x. refl) (λ x is. is)
+value_takes key.Counts = value_taken key.Counts (then_whole u64_reader (then_whole u64_reader (whole_reader u64_reader))) (λ x. Counts x.0 x.1.0 x.1.1)
+    (λ x. refl) (λ x. refl) (λ x is. is)
 
 value_again : (y : Stored) → IsSpelledValue y → value_fields (key_of y) (value_spelling y) ≡ Ok (y, [])
 unfolding value_fields
 value_again (Repository repo created default_branch settings) is =
-    remade (then_whole u64_reader (then_whole ref_reader (whole_reader u64_reader))) (λ x. Repository repo x.0 x.1.0 x.1.1) (created, (default_branch, settings)) is
+    remade (then_whole u64_reader (then_whole ref_reader (whole_reader u64_reader))) (λ x. Repository repo x.0 x.1.0 x.1.1)
+    (created, (default_branch, settings)) is
 value_again (Branch repo branch version head staging sealed) is =
-    remade (then_whole u64_reader (then_whole digest_reader (then_whole u64_reader (whole_reader tokens_reader)))) (λ x. Branch repo branch x.0 x.1.0 x.1.1.0 x.1.1.1) (version, (head, (staging, sealed))) is
+    remade (then_whole u64_reader (then_whole digest_reader (then_whole u64_reader (whole_reader tokens_reader))))
+    (λ x. Branch repo branch x.0 x.1.0 x.1.1.0 x.1.1.1) (version, (head, (staging, sealed))) is
 value_again (Tag repo tag commit) is = remade (whole_reader digest_reader) (Tag repo tag) commit is
 value_again (Commit repo id expired commit) is = remade (then_whole flag_reader versioned_whole) (λ x. Commit repo id x.0 x.1) (expired, commit) (tt, is)
 value_again (MetaRange name bytes) is = remade rest_whole (MetaRange name) bytes is
@@ -359,7 +373,8 @@ pair_parts key value s e = by (read_key key) refl e
     by (Ok k) is h = record { parts = k; key_is = is; value_is = placed_ok Value (length value) (read_value k value) s h }
     by (Err fault) is h = absurd cc
 
-pub found : (key value : List ℕ) (s : Stored) → AreBytes key → AreBytes value → pair_from key value ≡ Ok s → IsSpelledStored s × (key ≡ key_spelling (key_of s)) × (value ≡ value_spelling s)
+pub found : (key value : List ℕ) (s : Stored) → AreBytes key → AreBytes value → pair_from key value ≡ Ok s
+    → IsSpelledStored s × (key ≡ key_spelling (key_of s)) × (value ≡ value_spelling s)
 found key value s key_fits value_fits e =
     let p = pair_parts key value s e in
     let k = key_found key p.parts key_fits p.key_is in

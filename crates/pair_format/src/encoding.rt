@@ -22,7 +22,10 @@ ghost use Rattle.lake_format.specs.Spelling.{short_text, commit_spelling, AreByt
 ghost use Rattle.pair_format.specs.declared.key.OwnedKey.{OwnedKey as AnyKey};
 ghost use Rattle.pair_format.specs.declared.stored.Stored.{Stored as AnyStored};
 ghost use Rattle.pair_format.specs.Keys.{key_value, note_number};
-ghost use Rattle.pair_format.specs.PairSpelling.{key_of, key_spelling, value_spelling, pair_spelling, tokens_spelling, change_spelling, flag, IsStoredKey, IsStored, IsSpelledKey, IsSpelledChange, IsSpelledValue, IsSpelledStored, IsRefName, AreTokens};
+ghost use Rattle.pair_format.specs.PairSpelling.{key_of, key_spelling, value_spelling, pair_spelling, tokens_spelling};
+ghost use Rattle.pair_format.specs.PairSpelling.{change_spelling, flag, IsStoredKey, IsStored, IsSpelledKey};
+ghost use Rattle.pair_format.specs.PairSpelling.{IsSpelledChange, IsSpelledValue, IsSpelledStored, IsRefName};
+ghost use Rattle.pair_format.specs.PairSpelling.{AreTokens};
 ghost use Rattle.pair_format.specs.PairReading.{pair_from};
 
 use crate::key::StoredKey;
@@ -256,7 +259,8 @@ fn repository_value(
     settings: u64,
 ) -> Result<Sequence<u8>, NoMemory>
     requires { is_like_id default_branch.now ≡ false }
-    ensures spelled { IfOk result (λ bytes. bytes ≡ to_be_bytes w64 created ++ (short_text default_branch.now ++ to_be_bytes w64 settings)) }
+    ensures spelled { IfOk result
+        (λ bytes. bytes ≡ to_be_bytes w64 created ++ (short_text default_branch.now ++ to_be_bytes w64 settings)) }
     ensures limits { OnOk result ((created < 2 ^ 64) × (IsRefName default_branch.now × (settings < 2 ^ 64))) }
 {
     let mut out = Vec::new(alloc);
@@ -275,8 +279,10 @@ fn branch_value(
     sealed: &[u64],
 ) -> Result<Sequence<u8>, NoMemory>
     requires { length sealed.now < 2 ^ 32 }
-    ensures spelled { IfOk result (λ bytes. bytes ≡ to_be_bytes w64 version ++ (head.now.0 ++ (to_be_bytes w64 staging ++ tokens_spelling sealed.now))) }
-    ensures limits { OnOk result ((version < 2 ^ 64) × (IsDigest head.now.0 × ((staging < 2 ^ 64) × AreTokens sealed.now))) }
+    ensures spelled { IfOk result (λ bytes. bytes
+        ≡ to_be_bytes w64 version ++ (head.now.0 ++ (to_be_bytes w64 staging ++ tokens_spelling sealed.now))) }
+    ensures limits { OnOk result
+        ((version < 2 ^ 64) × (IsDigest head.now.0 × ((staging < 2 ^ 64) × AreTokens sealed.now))) }
 {
     let mut out = Vec::new(alloc);
     put_u64(&mut out, version)?;
@@ -372,7 +378,8 @@ fn counts_value(
     version: u64,
     token: u64,
 ) -> Result<Sequence<u8>, NoMemory>
-    ensures spelled { IfOk result (λ bytes. bytes ≡ to_be_bytes w64 number ++ (to_be_bytes w64 version ++ to_be_bytes w64 token)) }
+    ensures spelled { IfOk result
+        (λ bytes. bytes ≡ to_be_bytes w64 number ++ (to_be_bytes w64 version ++ to_be_bytes w64 token)) }
     ensures limits { OnOk result ((number < 2 ^ 64) × ((version < 2 ^ 64) × (token < 2 ^ 64))) }
 {
     let mut out = Vec::new(alloc);

@@ -3,7 +3,9 @@ ghost use Rattle.std.specs.Prelude.{◌≡◌, []};
 ghost use Rattle.lake_format.specs.Reading.{ReadsAs, read_entry};
 ghost use Rattle.lake_values.specs.declared.entry.Change.TheVariants.{Put};
 ghost use Rattle.pair_format.specs.Keys.{note_of};
-ghost use Rattle.pair_format.specs.PairReading.{map_reader, read_repo, read_ref, read_short, read_rest, read_path, read_note, read_more_tokens, read_tokens, read_flag, read_versioned, read_change};
+ghost use Rattle.pair_format.specs.PairReading.{map_reader, read_repo, read_ref, read_short, read_rest, read_path};
+ghost use Rattle.pair_format.specs.PairReading.{read_note, read_more_tokens, read_tokens, read_flag, read_versioned};
+ghost use Rattle.pair_format.specs.PairReading.{read_change};
 
 use commit_graph::read_commit;
 use lake_base::names::{NameFault, Path, RefName, RepoName};

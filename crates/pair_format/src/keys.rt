@@ -2,7 +2,8 @@
 ghost use Rattle.std.specs.Prelude.{◌≡◌};
 ghost use Rattle.lake_format.specs.Reading.{ReadsAs};
 ghost use Rattle.pair_format.specs.PairReading.{key_fields, read_key};
-ghost use Rattle.pair_format.specs.declared.kind.Kind.TheVariants.{Repository, Branch, Tag, Commit, MetaRange, Range, Staged, Note, Gone};
+ghost use Rattle.pair_format.specs.declared.kind.Kind.TheVariants.{Repository, Branch, Tag, Commit, MetaRange, Range};
+ghost use Rattle.pair_format.specs.declared.kind.Kind.TheVariants.{Staged, Note, Gone};
 
 use crate::fields::{read_note, read_path, read_ref, read_repo};
 use crate::key::OwnedKey;

@@ -2,7 +2,8 @@
 ghost use Rattle.std.specs.Prelude.{◌≡◌};
 ghost use Rattle.lake_format.specs.Reading.{ReadsAs};
 ghost use Rattle.pair_format.specs.PairReading.{value_fields, read_value};
-ghost use Rattle.pair_format.specs.declared.key.OwnedKey.TheVariants.{Repository, Branch, Tag, Commit, MetaRange, Range, Staged, Note, Counts};
+ghost use Rattle.pair_format.specs.declared.key.OwnedKey.TheVariants.{Repository, Branch, Tag, Commit, MetaRange};
+ghost use Rattle.pair_format.specs.declared.key.OwnedKey.TheVariants.{Range, Staged, Note, Counts};
 
 use crate::fields::{read_change, read_flag, read_ref, read_rest, read_tokens, read_versioned};
 use crate::key::OwnedKey;

@@ -21,13 +21,16 @@ apart : (a b : List ℕ) → (a ≡ b → ⊥) → eq_by_cmp byte_order a b ≡ 
 apart a b ne = is_eq-slice_cmp a b ∙ otherwise (bytes_eq a b) (λ t. ne ((bytes_eq-Decides a b).0 t))
 
 -- the first commit, or one of the others
-pub of_first : (x : Digest × CommitRecordValue) (cs : List (Digest × CommitRecordValue)) (id : Digest) → commit_of (graph_of (x ∷ cs)) id ≡ cond (eq_by_cmp byte_order id.0 x.0.0) (Some x.1) (commit_of (graph_of cs) id)
+pub of_first : (x : Digest × CommitRecordValue) (cs : List (Digest × CommitRecordValue)) (id : Digest)
+    → commit_of (graph_of (x ∷ cs)) id ≡ cond (eq_by_cmp byte_order id.0 x.0.0) (Some x.1) (commit_of (graph_of cs) id)
 of_first x cs id = get-insert nat_list_cmp_total (graph_of cs) x.0.0 x.1 id.0
 
-pub first_is : (x : Digest × CommitRecordValue) (cs : List (Digest × CommitRecordValue)) (id : Digest) → x.0.0 ≡ id.0 → commit_of (graph_of (x ∷ cs)) id ≡ Some x.1
+pub first_is : (x : Digest × CommitRecordValue) (cs : List (Digest × CommitRecordValue)) (id : Digest) → x.0.0 ≡ id.0
+    → commit_of (graph_of (x ∷ cs)) id ≡ Some x.1
 first_is x cs id e = of_first x cs id ∙ ap (λ b. cond b (Some x.1) (commit_of (graph_of cs) id)) (tied id.0 x.0.0 (sym e))
 
-pub first_not : (x : Digest × CommitRecordValue) (cs : List (Digest × CommitRecordValue)) (id : Digest) → (x.0.0 ≡ id.0 → ⊥) → commit_of (graph_of (x ∷ cs)) id ≡ commit_of (graph_of cs) id
+pub first_not : (x : Digest × CommitRecordValue) (cs : List (Digest × CommitRecordValue)) (id : Digest) → (x.0.0 ≡ id.0 → ⊥)
+    → commit_of (graph_of (x ∷ cs)) id ≡ commit_of (graph_of cs) id
 first_not x cs id ne = of_first x cs id ∙ ap (λ b. cond b (Some x.1) (commit_of (graph_of cs) id)) (apart id.0 x.0.0 (λ e. ne (sym e)))
 
 pub no_commit : (id : Digest) → commit_of (graph_of []) id ≡ None
@@ -40,7 +43,8 @@ module _ (cs : List (Digest × CommitRecordValue)) (id : Digest) (i : ℕ) (seen
       sym (seen ∙ ap (λ l. commit_of (graph_of l) id) (drop-cons cs i x lt ∙ ap (λ y. y ∷ drop (suc i) cs) (sym is))
       ∙ first_is x (drop (suc i) cs) id ((bytes_eq-Decides x.0.0 id.0).0 same))
 
-  pub found_later : (x : Digest × CommitRecordValue) → i < length cs → x ≡ get_or cs i x → bytes_eq x.0.0 id.0 ≡ false → commit_of (graph_of cs) id ≡ commit_of (graph_of (drop (i + 1) cs)) id
+  pub found_later : (x : Digest × CommitRecordValue) → i < length cs → x ≡ get_or cs i x → bytes_eq x.0.0 id.0 ≡ false
+      → commit_of (graph_of cs) id ≡ commit_of (graph_of (drop (i + 1) cs)) id
   found_later x lt is other =
       seen ∙ ap (λ l. commit_of (graph_of l) id) (drop-cons cs i x lt ∙ ap (λ y. y ∷ drop (suc i) cs) (sym is))
       ∙ first_not x (drop (suc i) cs) id (λ e. differ (sym ((bytes_eq-Decides x.0.0 id.0).1 e) ∙ other))

@@ -1,5 +1,6 @@
 -- The commits of a list, and what tests of their bytes tell.
-use Rattle.std.proofs.Common.{◌≡◌, ℕ, zero, suc, ◌+◌, ◌<◌, ◌≤◌, ◌↔◌, Bool, true, false, List, [], ◌∷◌, length, get_or, refl, sym, ap, subst, ◌∙◌, arith, MatchBool}
+use Rattle.std.proofs.Common.{◌≡◌, ℕ, zero, suc, ◌+◌, ◌<◌, ◌≤◌, ◌↔◌, Bool, true, false, List, [], ◌∷◌, length, get_or, refl, sym, ap, subst, ◌∙◌, arith}
+use Rattle.std.proofs.Common.{MatchBool}
 use Rattle.std.specs.Bool.{IsTrue}
 use Rattle.std.specs.Option.{IsSome, is_some}
 use Rattle.std.specs.Str.{bytes_eq}
@@ -34,20 +35,23 @@ stands (y ∷ cs) x (suc k, lt, e) =
     (λ other. ap is_some (first_not y cs x.0 other) ∙ stands cs x (k, omega arith, e))
 
 -- what is there is a commit of the list
-pub listed : (cs : List (Digest × CommitRecordValue)) (id : Digest) → IsSome (commit_of (graph_of cs) id) → (x : Digest × CommitRecordValue) × Contains cs x × (x.0 ≡ id)
+pub listed : (cs : List (Digest × CommitRecordValue)) (id : Digest) → IsSome (commit_of (graph_of cs) id)
+    → (x : Digest × CommitRecordValue) × Contains cs x × (x.0 ≡ id)
 listed [] id some = absurd (differ (sym some ∙ ap is_some (no_commit id)))
 listed (y ∷ cs) id some =
     by_bytes y.0.0 id.0
     (λ same. (y, Contains-first y cs, one_id y.0 id same))
     (λ other. let w = listed cs id (ap is_some (sym (first_not y cs id other)) ∙ some) in (w.0, Contains-later y w.0 cs w.1, w.2))
 
-pub graph_from_all : (cs : List (Digest × CommitRecordValue)) (g : Graph) → g ≡ graph_of cs → ((x : Digest × CommitRecordValue) → Contains cs x → IsDue g x.0) → IsGraph g
+pub graph_from_all : (cs : List (Digest × CommitRecordValue)) (g : Graph) → g ≡ graph_of cs → ((x : Digest × CommitRecordValue) → Contains cs x → IsDue g x.0)
+    → IsGraph g
 graph_from_all cs g is due id some =
     let w = listed cs id (subst (λ h. IsSome (commit_of h id)) is some) in
     subst (IsDue g) w.2 (due w.0 w.1)
 
 -- `all` of the commits
-pub graph_tested : (cs : List (Digest × CommitRecordValue)) (r : Bool) → MatchBool r (AllWithin (λ x. IsDue (graph_of cs) x.0) cs 0 (length cs)) ((k : ℕ) × (k < length cs) × HoldsAt (λ x. IsDue (graph_of cs) x.0 → ⊥) cs k) → IsTrue r ↔ IsGraph (graph_of cs)
+pub graph_tested : (cs : List (Digest × CommitRecordValue)) (r : Bool) → MatchBool r (AllWithin (λ x. IsDue (graph_of cs) x.0) cs 0 (length cs))
+    ((k : ℕ) × (k < length cs) × HoldsAt (λ x. IsDue (graph_of cs) x.0 → ⊥) cs k) → IsTrue r ↔ IsGraph (graph_of cs)
 graph_tested cs true all = (
   λ _. graph_from_all cs (graph_of cs) refl (λ x has. subst (λ y. IsDue (graph_of cs) y.0) has.2 (all has.0 x (omega arith) has.1)),
   λ _. refl,

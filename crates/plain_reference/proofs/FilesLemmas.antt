@@ -31,7 +31,8 @@ path_is (row ∷ rows) zero d lt = refl
 path_is (row ∷ rows) (suc i) d lt = path_is rows i d (omega arith)
 
 -- what is said of a range of these rows, part by part
-pub line_is : (rows : List (List ℕ × EntryValue)) (line : RangeLine) → line.name.0 ≡ sha256 (range_spelling rows) → line.rows ≡ length rows → line.first ≡ path_at rows 0 → line.last ≡ path_at rows (length rows - 1) → line ≡ line_of rows
+pub line_is : (rows : List (List ℕ × EntryValue)) (line : RangeLine) → line.name.0 ≡ sha256 (range_spelling rows) → line.rows ≡ length rows
+    → line.first ≡ path_at rows 0 → line.last ≡ path_at rows (length rows - 1) → line ≡ line_of rows
 unfolding line_of
 line_is rows line name len low high = λ i. record { name = record { 0 = name i }; rows = len i; first = low i; last = high i }
 
@@ -87,7 +88,8 @@ some_file cut objects [] is = absurd cc
 some_file cut objects (file ∷ all) is = omega arith
 
 -- the first of them is the metarange, by which the tree is known
-pub first_file : (cut : Cut) (objects : KeyMapValue) (all : List (List ℕ)) (d : List ℕ) → all ≡ files cut objects → file_name (get_or all 0 d) ≡ tree_id cut objects
+pub first_file : (cut : Cut) (objects : KeyMapValue) (all : List (List ℕ)) (d : List ℕ) → all ≡ files cut objects
+    → file_name (get_or all 0 d) ≡ tree_id cut objects
 unfolding files tree_id
 first_file cut objects [] d is = absurd cc
 first_file cut objects (file ∷ all) d is =

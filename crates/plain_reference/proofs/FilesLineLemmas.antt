@@ -29,13 +29,15 @@ below_drop key (suc n) [] h = h
 below_drop key (suc n) (row ∷ rows) h = below_drop key n rows (second _ _ h)
 
 -- no path is below the first
-at_least_first : (rows : List (List ℕ × EntryValue)) (i : ℕ) (d : List ℕ × EntryValue) → HasAscendingKeys rows → i < length rows → is_gt (byte_order (get_or rows 0 d).0 (get_or rows i d).0) ≡ false
+at_least_first : (rows : List (List ℕ × EntryValue)) (i : ℕ) (d : List ℕ × EntryValue) → HasAscendingKeys rows → i < length rows
+    → is_gt (byte_order (get_or rows 0 d).0 (get_or rows i d).0) ≡ false
 at_least_first [] i d h lt = absurd (omega arith)
 at_least_first (row ∷ rows) zero d h lt = ap is_gt (tied_itself nat_list_cmp_total row.0)
 at_least_first (row ∷ rows) (suc i) d h lt = ap is_gt (below_at row.0 rows i d (head_below row rows h) (omega arith))
 
 -- each path of a front is below the first path after it
-front_below : (n : ℕ) (rows : List (List ℕ × EntryValue)) (i : ℕ) (d : List ℕ × EntryValue) → HasAscendingKeys rows → i < length (take n rows) → 0 < length (drop n rows)
+front_below : (n : ℕ) (rows : List (List ℕ × EntryValue)) (i : ℕ) (d : List ℕ × EntryValue) → HasAscendingKeys rows → i < length (take n rows)
+    → 0 < length (drop n rows)
     → byte_order (get_or (take n rows) i d).0 (get_or (drop n rows) 0 d).0 ≡ Less
 front_below zero rows i d h lt some = absurd (omega arith)
 front_below (suc n) [] i d h lt some = absurd (omega arith)
@@ -76,12 +78,14 @@ spans_within cut (suc n) (row ∷ rows) h = (
 )
 
 -- a path below the first row is below the first path of what is said of the ranges
-below_next : (cut : Cut) (n : ℕ) (path : List ℕ) (rows : List (List ℕ × EntryValue)) → ((d : List ℕ × EntryValue) → 0 < length rows → byte_order path (get_or rows 0 d).0 ≡ Less)
+below_next : (cut : Cut) (n : ℕ) (path : List ℕ) (rows : List (List ℕ × EntryValue))
+    → ((d : List ℕ × EntryValue) → 0 < length rows → byte_order path (get_or rows 0 d).0 ≡ Less)
     → IsBelowNext path (map line_of (ranges_within n cut rows))
 unfolding line_of
 below_next cut zero path rows lt = tt
 below_next cut (suc n) path [] lt = tt
-below_next cut (suc n) path (row ∷ rows) lt = ap (byte_order path) (first_of_front (first_len cut (row ∷ rows)) row rows (first_some cut row rows)) ∙ lt row (omega arith)
+below_next cut (suc n) path (row ∷ rows) lt =
+    ap (byte_order path) (first_of_front (first_len cut (row ∷ rows)) row rows (first_some cut row rows)) ∙ lt row (omega arith)
 
 -- the last path of a front is below the first path of what is said of the ranges after it
 last_below : (cut : Cut) (n m : ℕ) (rows : List (List ℕ × EntryValue)) → HasAscendingKeys rows → 0 < length (take n rows)

@@ -30,7 +30,8 @@ on_star byte rest name e = ap (λ b. cond b (list_any (matches rest) (suffixes n
 
 on_byte : (byte : ℕ) (rest name : List ℕ) → (byte ≡ 42 → ⊥) → matches (byte ∷ rest) name ≡ begins_with_byte byte (matches rest) name
 unfolding matches
-on_byte byte rest name ne = ap (λ b. cond b (list_any (matches rest) (suffixes name)) (begins_with_byte byte (matches rest) name)) (otherwise (byte == 42) (λ t. ne ((Decides-eqb byte 42).0 t)))
+on_byte byte rest name ne = ap (λ b. cond b (list_any (matches rest) (suffixes name)) (begins_with_byte byte (matches rest) name))
+    (otherwise (byte == 42) (λ t. ne ((Decides-eqb byte 42).0 t)))
 
 -- the end of a pattern
 pub nothing_left : (pattern name : List ℕ) (r : Bool) → length pattern ≡ 0 → r ≡ (length name == 0) → r ≡ matches pattern name
@@ -52,12 +53,14 @@ module _ (pattern rest : List ℕ) (byte : ℕ) (is : pattern ≡ byte ∷ rest)
 
   pub byte_there : (name left : List ℕ) (c : ℕ) (r : Bool) → (byte ≡ 42 → ⊥) → name ≡ c ∷ left → c ≡ byte → r ≡ matches rest left → r ≡ matches pattern name
   byte_there name left c r ne begin same e =
-      e ∙ sym (ap (λ p. matches p name) is ∙ on_byte byte rest name ne ∙ ap (begins_with_byte byte (matches rest)) begin ∙ ap (λ b. b && matches rest left) ((Decides-eqb c byte).1 same))
+      e ∙ sym (ap (λ p. matches p name) is ∙ on_byte byte rest name ne ∙ ap (begins_with_byte byte (matches rest)) begin
+      ∙ ap (λ b. b && matches rest left) ((Decides-eqb c byte).1 same))
 
   pub byte_other : (name left : List ℕ) (c : ℕ) → (byte ≡ 42 → ⊥) → name ≡ c ∷ left → (c ≡ byte → ⊥) → (c == byte) ≡ matches pattern name
   byte_other name left c ne begin other =
       otherwise (c == byte) (λ t. other ((Decides-eqb c byte).0 t))
-      ∙ sym (ap (λ p. matches p name) is ∙ on_byte byte rest name ne ∙ ap (begins_with_byte byte (matches rest)) begin ∙ ap (λ b. b && matches rest left) (otherwise (c == byte) (λ t. other ((Decides-eqb c byte).0 t))))
+      ∙ sym (ap (λ p. matches p name) is ∙ on_byte byte rest name ne ∙ ap (begins_with_byte byte (matches rest)) begin
+      ∙ ap (λ b. b && matches rest left) (otherwise (c == byte) (λ t. other ((Decides-eqb c byte).0 t))))
 
   pub byte_missing : (name : List ℕ) → (byte ≡ 42 → ⊥) → length name ≡ 0 → false ≡ matches pattern name
   byte_missing [] ne e = sym (ap (λ p. matches p []) is ∙ on_byte byte rest [] ne)

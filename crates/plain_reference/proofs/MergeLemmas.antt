@@ -1,5 +1,6 @@
 -- The paths of two maps one by one, and the loops of a plain merge over them.
-use Rattle.std.proofs.Common.{◌≡◌, ℕ, ◌+◌, ◌<◌, ◌≤◌, ◌||◌, Bool, true, false, cond, List, [], ◌∷◌, ◌++◌, Some, Option, is_some, map, length, ltb, take, get_or, append-nil, refl, sym, ap, ◌∙◌}
+use Rattle.std.proofs.Common.{◌≡◌, ℕ, ◌+◌, ◌<◌, ◌≤◌, ◌||◌, Bool, true, false, cond, List, [], ◌∷◌, ◌++◌, Some, Option, is_some, map, length, ltb, take, get_or}
+use Rattle.std.proofs.Common.{append-nil, refl, sym, ap, ◌∙◌}
 use Rattle.std.specs.List.{list_any, filter}
 use Rattle.std.proofs.lemmas.List.Elements.{filter-append}
 use Rattle.std.proofs.lemmas.Map.Views.{Contains-from_any}
@@ -71,9 +72,11 @@ module _ {X : Type 0} where
   among_all items i past q = ap (λ es. among es q) (take_all i items past)
 
 -- one more entry's path in a map
-pub paths_next : {X Y : Type 0} (old m new : ByteMap Y) (p : List ℕ) (y : Y) (items : List (List ℕ × X)) (i : ℕ) (item : List ℕ × X) → i < length items → item ≡ get_or items i item
+pub paths_next : {X Y : Type 0} (old m new : ByteMap Y) (p : List ℕ) (y : Y) (items : List (List ℕ × X)) (i : ℕ) (item : List ℕ × X) → i < length items
+    → item ≡ get_or items i item
     → p ≡ item.0 → new ≡ insert m p y
-    → (q : List ℕ) → contains_key m q ≡ (contains_key old q || among (take i items) q) → contains_key new q ≡ (contains_key old q || among (take (i + 1) items) q)
+    → (q : List ℕ) → contains_key m q ≡ (contains_key old q || among (take i items) q)
+    → contains_key new q ≡ (contains_key old q || among (take (i + 1) items) q)
 paths_next old m new p y items i item lt is same puts q so_far =
     ap (λ n. contains_key n q) puts
     ∙ contains_insert m p y q
@@ -89,7 +92,8 @@ paths_all old new m items i past is q so_far =
     so_far ∙ ap (λ b. contains_key old q || b) (among_all items i past q ∙ sym (contains_among m items is q))
 
 -- the paths of two maps, put into nothing one after the other
-pub paths_both : (base source : KeyMapValue) (first second : ChangesValue) → HasPathsToo empty base first → HasPathsToo first source second → ArePathsOf base source second
+pub paths_both : (base source : KeyMapValue) (first second : ChangesValue) → HasPathsToo empty base first → HasPathsToo first source second
+    → ArePathsOf base source second
 paths_both base source first second one two path =
     two path
     ∙ ap (λ b. b || contains_key source path) (one path ∙ ap (λ v. is_some v || contains_key base path) (get-empty byte_order path))
@@ -99,7 +103,8 @@ paths_both base source first second one two path =
 pub nothing_said : (changes : ChangesValue) (dest : KeyMapValue) → changes ≡ empty → (q : List ℕ) → value_after (get changes q) (get dest q) ≡ get dest q
 nothing_said changes dest e q = ap (λ m. value_after (get m q) (get dest q)) e ∙ ap (λ c. value_after c (get dest q)) (get-empty byte_order q)
 
-said_given : (b : Bool) (c : Change) (value : Option EntryValue) (old : Option Change) (had : Option EntryValue) → Leaves c value → value_after (cond b (Some c) old) had ≡ cond b value (value_after old had)
+said_given : (b : Bool) (c : Change) (value : Option EntryValue) (old : Option Change) (had : Option EntryValue) → Leaves c value
+    → value_after (cond b (Some c) old) had ≡ cond b value (value_after old had)
 said_given true (Put entry) value old had gives = sym gives
 said_given true Delete value old had gives = sym gives
 said_given false c value old had gives = refl
@@ -109,8 +114,10 @@ module _ (strategy : Strategy) (base source dest : KeyMapValue) {X : Type 0} whe
   abbrev pub Merges : ChangesValue → List (List ℕ × X) → Type 0
   Merges changes items = (q : List ℕ) → value_after (get changes q) (get dest q) ≡ cond (among items q) (value_at strategy base source dest q) (get dest q)
 
-  pub merges_next : (changes new : ChangesValue) (p : List ℕ) (c : Change) (items : List (List ℕ × X)) (i : ℕ) (item : List ℕ × X) → i < length items → item ≡ get_or items i item
-      → p ≡ item.0 → new ≡ insert changes p c → Leaves c (value_at strategy base source dest item.0) → Merges changes (take i items) → Merges new (take (i + 1) items)
+  pub merges_next : (changes new : ChangesValue) (p : List ℕ) (c : Change) (items : List (List ℕ × X)) (i : ℕ) (item : List ℕ × X) → i < length items
+      → item ≡ get_or items i item
+      → p ≡ item.0 → new ≡ insert changes p c → Leaves c (value_at strategy base source dest item.0) → Merges changes (take i items)
+      → Merges new (take (i + 1) items)
   merges_next changes new p c items i item lt is same puts gives so_far q =
       let value = value_at strategy base source dest in
       let had = get dest q in
@@ -123,7 +130,8 @@ module _ (strategy : Strategy) (base source dest : KeyMapValue) {X : Type 0} whe
       ∙ ap (λ b. cond b (value q) had) (sym (among_next items i item lt is q))
 
 -- changes that merge at all paths of base and source make the merged map
-pub merges_all : (strategy : Strategy) (base source dest : KeyMapValue) (changes paths : ChangesValue) (items : List (List ℕ × Change)) (i : ℕ) → length items ≤ i → items ≡ entries paths
+pub merges_all : (strategy : Strategy) (base source dest : KeyMapValue) (changes paths : ChangesValue) (items : List (List ℕ × Change)) (i : ℕ)
+    → length items ≤ i → items ≡ entries paths
     → ArePathsOf base source paths → Merges strategy base source dest changes (take i items) → apply changes dest ≡ merged_map strategy base source dest
 merges_all strategy base source dest changes paths items i past is of all = same _ _ (λ q.
     get_apply changes dest q
@@ -138,13 +146,15 @@ module _ (base source dest : KeyMapValue) where
   abbrev pub conflicting : {X : Type 0} → List (List ℕ × X) → List (List ℕ)
   conflicting items = filter (is_conflict base source dest) (map (λ item. item.0) items)
 
-  kept_one : (b : Bool) (p : List ℕ) (so_far : List (List ℕ)) → (pushed : List (List ℕ)) → (b ≡ true → pushed ≡ so_far ++ p ∷ []) → (b ≡ false → pushed ≡ so_far) → pushed ≡ so_far ++ cond b (p ∷ []) []
+  kept_one : (b : Bool) (p : List ℕ) (so_far : List (List ℕ)) → (pushed : List (List ℕ)) → (b ≡ true → pushed ≡ so_far ++ p ∷ [])
+      → (b ≡ false → pushed ≡ so_far) → pushed ≡ so_far ++ cond b (p ∷ []) []
   kept_one true p so_far pushed kept dropped = kept refl
   kept_one false p so_far pushed kept dropped = dropped refl ∙ sym (append-nil so_far)
 
   -- one more entry's path, where it conflicts
   pub conflicting_next : {X : Type 0} (items : List (List ℕ × X)) (i : ℕ) (item : List ℕ × X) → i < length items → item ≡ get_or items i item
-      → (paths : List (List ℕ)) → (is_conflict base source dest item.0 ≡ true → paths ≡ conflicting (take i items) ++ item.0 ∷ []) → (is_conflict base source dest item.0 ≡ false → paths ≡ conflicting (take i items))
+      → (paths : List (List ℕ)) → (is_conflict base source dest item.0 ≡ true → paths ≡ conflicting (take i items) ++ item.0 ∷ [])
+      → (is_conflict base source dest item.0 ≡ false → paths ≡ conflicting (take i items))
       → paths ≡ conflicting (take (i + 1) items)
   conflicting_next {X = X} items i item lt is paths kept dropped =
       kept_one (is_conflict base source dest item.0) item.0 (conflicting (take i items)) paths kept dropped
@@ -159,7 +169,8 @@ module _ (base source dest : KeyMapValue) where
   conflicts_all paths items i past is of at so_far =
       let all : at ≡ filter (is_conflict base source dest) (keys paths) = so_far ∙ ap conflicting (take_all i items past ∙ is) in
       all ∙ one_list base source dest (filter (is_conflict base source dest) (keys paths))
-      (conflicts_among base source dest (keys paths) (keys_ascend byte_order paths) (λ q t. Contains-from_any same_path q (keys paths) (sym (contains_key-keys paths q) ∙ of q ∙ t)))
+      (conflicts_among base source dest (keys paths) (keys_ascend byte_order paths)
+      (λ q t. Contains-from_any same_path q (keys paths) (sym (contains_key-keys paths q) ∙ of q ∙ t)))
 
   -- where none of the paths of base and source conflicts, no path does
   pub no_conflict : (paths : ChangesValue) (items : List (List ℕ × Change)) (i : ℕ) → length items ≤ i → items ≡ entries paths → ArePathsOf base source paths

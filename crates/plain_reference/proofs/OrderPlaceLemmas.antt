@@ -1,5 +1,6 @@
 -- An item put in its place in a list that is in an order, and the commits so far that a fact holds of, in an order.
-use Rattle.std.proofs.Common.{◌≡◌, ℕ, suc, ◌+◌, ◌<◌, ◌≤◌, ◌⊎◌, inl, inr, List, [], ◌∷◌, ◌++◌, length, get_or, take, drop, refl, sym, ap, subst, ◌∙◌, add-one, drop-cons, append_assoc, arith}
+use Rattle.std.proofs.Common.{◌≡◌, ℕ, suc, ◌+◌, ◌<◌, ◌≤◌, ◌⊎◌, inl, inr, List, [], ◌∷◌, ◌++◌, length, get_or, take, drop, refl, sym, ap, subst, ◌∙◌, add-one}
+use Rattle.std.proofs.Common.{drop-cons, append_assoc, arith}
 use Rattle.std.proofs.Math.Seq.{drop-length}
 use Rattle.std.proofs.lemmas.List.{take_more, take-append-drop}
 use Rattle.std.proofs.lemmas.List.Elements.{AllWithin-more, at_read}
@@ -21,12 +22,14 @@ use Rattle.lake_values.proofs.OrderLemmas.{Contains-first, Contains-later, Conta
 
 -- ---- the place of an item
 
-module _ {K : Type 0} (R : K → K → Ordering) (item : K) (items : List K) (i : ℕ) (so_far : with_item R item items ≡ take i items ++ with_item R item (drop i items)) where
+module _ {K : Type 0} (R : K → K → Ordering) (item : K) (items : List K) (i : ℕ)
+    (so_far : with_item R item items ≡ take i items ++ with_item R item (drop i items)) where
   rest_is : (other : K) → i < length items → other ≡ get_or items i other → drop i items ≡ other ∷ drop (suc i) items
   rest_is other lt is = drop-cons items i other lt ∙ ap (λ y. y ∷ drop (suc i) items) (sym is)
 
   at_other : (other : K) (o : Ordering) → i < length items → other ≡ get_or items i other → R item other ≡ o
-      → with_item R item items ≡ take i items ++ by_order o (item ∷ other ∷ drop (suc i) items) (other ∷ drop (suc i) items) (other ∷ with_item R item (drop (suc i) items))
+      → with_item R item items
+      ≡ take i items ++ by_order o (item ∷ other ∷ drop (suc i) items) (other ∷ drop (suc i) items) (other ∷ with_item R item (drop (suc i) items))
   at_other other o lt is e =
       so_far
       ∙ ap (λ l. take i items ++ with_item R item l) (rest_is other lt is)
@@ -38,7 +41,8 @@ module _ {K : Type 0} (R : K → K → Ordering) (item : K) (items : List K) (i 
   pub place_none : (other : K) → i < length items → other ≡ get_or items i other → R item other ≡ Equal → with_item R item items ≡ items
   place_none other lt is e = at_other other Equal lt is e ∙ ap (λ l. take i items ++ l) (sym (rest_is other lt is)) ∙ take-append-drop i items
 
-  pub place_later : (other : K) → i < length items → other ≡ get_or items i other → R item other ≡ Greater → with_item R item items ≡ take (i + 1) items ++ with_item R item (drop (i + 1) items)
+  pub place_later : (other : K) → i < length items → other ≡ get_or items i other → R item other ≡ Greater
+      → with_item R item items ≡ take (i + 1) items ++ with_item R item (drop (i + 1) items)
   place_later other lt is e =
       at_other other Greater lt is e
       ∙ sym (append_assoc (take i items) (other ∷ []) (with_item R item (drop (suc i) items)))
@@ -52,7 +56,8 @@ module _ {K : Type 0} (R : K → K → Ordering) (item : K) (items : List K) (i 
 -- ---- what the list has then
 
 module _ {K : Type 0} {R : K → K → Ordering} (o : IsTotalOrder R) (same : IsAntisymmetric R) (item : K) where
-  above_with : (x : K) (items : List K) → R x item ≡ Less → AllByRecursion (λ y. R x y ≡ Less) items → AllByRecursion (λ y. R x y ≡ Less) (with_item R item items)
+  above_with : (x : K) (items : List K) → R x item ≡ Less → AllByRecursion (λ y. R x y ≡ Less) items
+      → AllByRecursion (λ y. R x y ≡ Less) (with_item R item items)
   above_with x [] e all = (e, tt)
   above_with x (y ∷ items) e all = by (R item y) (above_with x items e all.1)
     where
@@ -81,7 +86,8 @@ module _ {K : Type 0} {R : K → K → Ordering} (o : IsTotalOrder R) (same : Is
   with_has [] = Contains-first item []
   with_has (y ∷ items) = by (R item y) refl (with_has items)
     where
-      by : (o : Ordering) → R item y ≡ o → Contains (with_item R item items) item → Contains (by_order o (item ∷ y ∷ items) (y ∷ items) (y ∷ with_item R item items)) item
+      by : (o : Ordering) → R item y ≡ o → Contains (with_item R item items) item
+          → Contains (by_order o (item ∷ y ∷ items) (y ∷ items) (y ∷ with_item R item items)) item
       by Less e rest = Contains-first item (y ∷ items)
       by Equal e rest = subst (Contains (y ∷ items)) (sym (same item y e)) (Contains-first y items)
       by Greater e rest = Contains-later y item (with_item R item items) rest
@@ -90,7 +96,8 @@ module _ {K : Type 0} {R : K → K → Ordering} (o : IsTotalOrder R) (same : Is
   with_keeps [] x within = absurd (Contains-nothing x within)
   with_keeps (y ∷ items) x within = by (R item y) (λ later. with_keeps items x later)
     where
-      by : (o : Ordering) → (Contains items x → Contains (with_item R item items) x) → Contains (by_order o (item ∷ y ∷ items) (y ∷ items) (y ∷ with_item R item items)) x
+      by : (o : Ordering) → (Contains items x → Contains (with_item R item items) x)
+          → Contains (by_order o (item ∷ y ∷ items) (y ∷ items) (y ∷ with_item R item items)) x
       by Less rest = Contains-later item x (y ∷ items) within
       by Equal rest = within
       by Greater rest = elim (first_or_later y x items within) [
@@ -102,7 +109,8 @@ module _ {K : Type 0} {R : K → K → Ordering} (o : IsTotalOrder R) (same : Is
   with_only [] x within = first_or_later item x [] within
   with_only (y ∷ items) x within = by (R item y) within (λ later. with_only items x later)
     where
-      by : (o : Ordering) → Contains (by_order o (item ∷ y ∷ items) (y ∷ items) (y ∷ with_item R item items)) x → (Contains (with_item R item items) x → (item ≡ x) ⊎ Contains items x) → (item ≡ x) ⊎ Contains (y ∷ items) x
+      by : (o : Ordering) → Contains (by_order o (item ∷ y ∷ items) (y ∷ items) (y ∷ with_item R item items)) x
+          → (Contains (with_item R item items) x → (item ≡ x) ⊎ Contains items x) → (item ≡ x) ⊎ Contains (y ∷ items) x
       by Less w rest = first_or_later item x (y ∷ items) w
       by Equal w rest = inr w
       by Greater w rest = elim (first_or_later y x (with_item R item items) w) [

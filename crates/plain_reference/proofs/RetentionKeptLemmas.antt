@@ -6,7 +6,8 @@ use Rattle.std.proofs.lemmas.Bool.{leb-true, le-leb}
 use Rattle.std.proofs.lemmas.List.Kept.{IsStrictlySortedBy-filter}
 use Rattle.std.proofs.lemmas.Slice.Eq.{bytes_eq-Decides}
 use Rattle.lake_values.specs.Ancestry.{Graph, IsGraph, id_order, ids, same_id, date, first_parent, walk}
-use Rattle.lake_values.specs.Retention.{cutoff, days_of, IsHead, IsFollower, IsFollowed, IsYoung, IsKeptBy, IsKept, is_id, is_head, is_follower, is_followed, is_young, is_kept, kept_ids}
+use Rattle.lake_values.specs.Retention.{cutoff, days_of, IsHead, IsFollower, IsFollowed, IsYoung, IsKeptBy, IsKept, is_id, is_head, is_follower, is_followed}
+use Rattle.lake_values.specs.Retention.{is_young, is_kept, kept_ids}
 use Rattle.lake_values.specs.Settings.{RulesValue}
 use Rattle.lake_base.specs.declared.digest.Digest.{Digest}
 use Rattle.lake_values.proofs.AncestryOrderLemmas.{ids_from, ids_to, ids_ascend}
@@ -96,7 +97,8 @@ module _ (g : Graph) (graph : IsGraph g) where
   follower_to : (head : Digest) (limit : ℕ) (id : Digest) → IsFollower g head limit id → is_follower g head limit id ≡ true
   follower_to head limit id f =
       any_to (follows limit id) (walk g head) f.later (walk_to g graph head f.later (f.steps, f.stands))
-      (and_of (is_id id (first_parent g f.later)) (leb limit (date g f.later)) (id_to id (first_parent g f.later) f.follows) (le-leb limit (date g f.later) f.dated))
+      (and_of (is_id id (first_parent g f.later)) (leb limit (date g f.later)) (id_to id (first_parent g f.later) f.follows)
+      (le-leb limit (date g f.later) f.dated))
 
   module _ (heads : List (List ℕ × Digest)) (rules : RulesValue) (now : ℕ) (id : Digest) where
     abbrev on_follower : List ℕ × Digest → Bool
@@ -117,14 +119,16 @@ module _ (g : Graph) (graph : IsGraph g) where
     young_from t =
         let two = and_both (not (list_any on_walk heads)) (leb (cutoff now rules.default_days) (date g id)) t in
         record {
-          apart = λ head has on. differ (sym (any_to on_walk heads head has (tag_to (walk g head.1) id (walk_to g graph head.1 id on))) ∙ not_from (list_any on_walk heads) two.0);
+          apart = λ head has on.
+              differ (sym (any_to on_walk heads head has (tag_to (walk g head.1) id (walk_to g graph head.1 id on))) ∙ not_from (list_any on_walk heads) two.0);
           dated = leb-true (cutoff now rules.default_days) (date g id) two.1;
         }
 
     young_to : IsYoung g heads rules now id → is_young g heads rules now id ≡ true
     young_to y =
         and_of (not (list_any on_walk heads)) (leb (cutoff now rules.default_days) (date g id))
-        (not_to (list_any on_walk heads) (λ t. let some = any_from on_walk heads t in y.apart some.0 some.1 (walk_from g some.0.1 id (tag_from (walk g some.0.1) id some.2))))
+        (not_to (list_any on_walk heads)
+        (λ t. let some = any_from on_walk heads t in y.apart some.0 some.1 (walk_from g some.0.1 id (tag_from (walk g some.0.1) id some.2))))
         (le-leb (cutoff now rules.default_days) (date g id) y.dated)
 
   -- ---- kept
@@ -148,9 +152,11 @@ module _ (g : Graph) (graph : IsGraph g) where
     by_to (Some rules) (inl head) = or_first (is_head heads id) _ (head_to heads id head)
     by_to (Some rules) (inr (inl tag)) = or_second (is_head heads id) _ (or_first (list_any (same_id id) tags) _ (tag_to tags id tag))
     by_to (Some rules) (inr (inr (inl followed))) =
-        or_second (is_head heads id) _ (or_second (list_any (same_id id) tags) _ (or_first (is_followed g heads rules now id) _ (followed_to heads rules now id followed)))
+        or_second (is_head heads id) _
+        (or_second (list_any (same_id id) tags) _ (or_first (is_followed g heads rules now id) _ (followed_to heads rules now id followed)))
     by_to (Some rules) (inr (inr (inr young))) =
-        or_second (is_head heads id) _ (or_second (list_any (same_id id) tags) _ (or_second (is_followed g heads rules now id) _ (young_to heads rules now id young)))
+        or_second (is_head heads id) _
+        (or_second (list_any (same_id id) tags) _ (or_second (is_followed g heads rules now id) _ (young_to heads rules now id young)))
 
   module _ (heads : List (List ℕ × Digest)) (tags : List Digest) (rules : Option RulesValue) (now : ℕ) where
     pub kept_from : (id : Digest) → Contains (kept_ids g heads tags rules now) id → IsKept g heads tags rules now id
@@ -163,6 +169,7 @@ module _ (g : Graph) (graph : IsGraph g) where
     unfolding kept_ids
     kept_to id k = Contains-filter (is_kept g heads tags rules now) (ids g) id (ids_to g id k.0) (by_to heads tags now id rules k.1)
 
-pub kept_ascends : (g : Graph) (heads : List (List ℕ × Digest)) (tags : List Digest) (rules : Option RulesValue) (now : ℕ) → IsStrictlySortedBy id_order (kept_ids g heads tags rules now)
+pub kept_ascends : (g : Graph) (heads : List (List ℕ × Digest)) (tags : List Digest) (rules : Option RulesValue) (now : ℕ)
+    → IsStrictlySortedBy id_order (kept_ids g heads tags rules now)
 unfolding kept_ids
 kept_ascends g heads tags rules now = IsStrictlySortedBy-filter id_order (is_kept g heads tags rules now) (ids g) (ids_ascend g)

@@ -52,6 +52,7 @@ pub none_more : {X : Type 0} (P : X → Type 0) (xs : List X) (i : ℕ) (x : X) 
 none_more P xs i x within is none refute = AllWithin-more (λ y. P y → ⊥) xs 0 i none (at_read xs (λ y. P y → ⊥) i x within is refute)
 
 -- a branch whose head is the commit
-pub head_found : (heads : List (List ℕ × Digest)) (id : Digest) (i : ℕ) (item : List ℕ × Digest) → i < length heads → item ≡ get_or heads i item → item.1 ≡ id → IsHead heads id
+pub head_found : (heads : List (List ℕ × Digest)) (id : Digest) (i : ℕ) (item : List ℕ × Digest) → i < length heads → item ≡ get_or heads i item → item.1 ≡ id
+    → IsHead heads id
 head_found heads id i item within is same =
     (item.0, subst (λ (x : List ℕ × Digest). Contains heads x) (ap (λ (d : Digest). (item.0, d)) same) (stands_in heads i item within is))

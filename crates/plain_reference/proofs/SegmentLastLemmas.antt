@@ -5,7 +5,8 @@ use Rattle.lake_values.specs.Entry.{EntryValue}
 use Rattle.lake_format.specs.Cutting.{last_path}
 
 -- the path of the last row, where the slice has one
-pub last_is : (before : Option (List ℕ)) (rows : List (List ℕ × EntryValue)) (row : List ℕ × EntryValue) → slice_get rows (length rows - 1) ≡ Some row → Some row.0 ≡ last_path before rows
+pub last_is : (before : Option (List ℕ)) (rows : List (List ℕ × EntryValue)) (row : List ℕ × EntryValue) → slice_get rows (length rows - 1) ≡ Some row
+    → Some row.0 ≡ last_path before rows
 last_is before [] row e = cc
 last_is before (r ∷ []) row e = cc
 last_is before (r ∷ s ∷ rows) row e =

@@ -1,5 +1,6 @@
 -- How rows are cut into segments, segment by segment.
-use Rattle.std.proofs.Common.{◌≡◌, ℕ, zero, suc, ◌+◌, ◌<◌, Bool, true, false, not, ◌||◌, Option, List, [], ◌∷◌, length, get_or, take, drop, refl, sym, ap, subst, ◌∙◌, arith, inl, inr}
+use Rattle.std.proofs.Common.{◌≡◌, ℕ, zero, suc, ◌+◌, ◌<◌, Bool, true, false, not, ◌||◌, Option, List, [], ◌∷◌, length, get_or, take, drop, refl, sym, ap}
+use Rattle.std.proofs.Common.{subst, ◌∙◌, arith, inl, inr}
 use Rattle.std.specs.List.{list_all, list_any, filter, sum_by}
 use Rattle.std.proofs.lemmas.List.Sums.{sum_by-cons}
 use Rattle.std.proofs.lemmas.Bool.{cases_Bool, and_parts, not-true}
@@ -22,7 +23,8 @@ abbrev pub unbroken : Cut → List Row → Bool
 unbroken cut rows = list_all (λ row. not (is_break cut row.0)) rows
 
 -- a segment ends after the first break key
-pub segment_at : (cut : Cut) (rows : List Row) (at : ℕ) (d : Row) → at < length rows → unbroken cut (take at rows) ≡ true → is_break cut (get_or rows at d).0 ≡ true
+pub segment_at : (cut : Cut) (rows : List Row) (at : ℕ) (d : Row) → at < length rows → unbroken cut (take at rows) ≡ true
+    → is_break cut (get_or rows at d).0 ≡ true
     → segments cut rows ≡ take (suc at) rows ∷ segments cut (drop (suc at) rows)
 segment_at cut [] at d lt whole is = absurd (omega arith)
 segment_at cut (row ∷ rows) zero d lt whole is = before_break cut row (segments cut rows) is
@@ -93,7 +95,8 @@ abbrev pub Following : Type 0
 Following = Option (List ℕ) × List Row
 
 pub any_more : (test : Following → Bool) (cut : Cut) (before : Option (List ℕ)) (rows front rest : List Row) → segments cut rows ≡ front ∷ segments cut rest
-    → list_any test (with_paths_before before (segments cut rows)) ≡ (test (before, front) || list_any test (with_paths_before (last_path before front) (segments cut rest)))
+    → list_any test (with_paths_before before (segments cut rows))
+    ≡ (test (before, front) || list_any test (with_paths_before (last_path before front) (segments cut rest)))
 any_more test cut before rows front rest e = ap (λ ss. list_any test (with_paths_before before ss)) e
 
 -- how many ranges stand in the segments that pass a test
@@ -104,7 +107,8 @@ pub passed_more : (test : Following → Bool) (cut : Cut) (before : Option (List
     → test (before, front) ≡ true → passed test cut before rows ≡ length (ranges cut front) + passed test cut (last_path before front) rest
 passed_more test cut before rows front rest e is =
     ap (λ ss. sum_by (λ segment. length (ranges cut segment.1)) (filter test (with_paths_before before ss))) e
-    ∙ rw is (sum_by-cons (λ (segment : Following). length (ranges cut segment.1)) (before, front) (filter test (with_paths_before (last_path before front) (segments cut rest))))
+    ∙ rw is (sum_by-cons (λ (segment : Following). length (ranges cut segment.1)) (before, front)
+    (filter test (with_paths_before (last_path before front) (segments cut rest))))
 
 pub passed_over : (test : Following → Bool) (cut : Cut) (before : Option (List ℕ)) (rows front rest : List Row) → segments cut rows ≡ front ∷ segments cut rest
     → test (before, front) ≡ false → passed test cut before rows ≡ passed test cut (last_path before front) rest
@@ -115,14 +119,16 @@ passed_over test cut before rows front rest e is =
 abbrev pub changed : Cut → List Row → Following → Bool
 changed cut old segment = not (list_any (same_segment segment) (placed_segments cut old))
 
-pub changed_more : (cut : Cut) (old : List Row) (before after : Option (List ℕ)) (rows front rest : List Row) (carried : Bool) → segments cut rows ≡ front ∷ segments cut rest
+pub changed_more : (cut : Cut) (old : List Row) (before after : Option (List ℕ)) (rows front rest : List Row) (carried : Bool)
+    → segments cut rows ≡ front ∷ segments cut rest
     → carried ≡ list_any (same_segment (before, front)) (placed_segments cut old) → carried ≡ false → after ≡ last_path before front
     → passed (changed cut old) cut before rows ≡ length (ranges cut front) + passed (changed cut old) cut after rest
 changed_more cut old before after rows front rest carried e is not_carried after-is =
     passed_more (changed cut old) cut before rows front rest e (ap not (sym is ∙ not_carried))
     ∙ ap (λ b. length (ranges cut front) + passed (changed cut old) cut b rest) (sym after-is)
 
-pub changed_over : (cut : Cut) (old : List Row) (before after : Option (List ℕ)) (rows front rest : List Row) (carried : Bool) → segments cut rows ≡ front ∷ segments cut rest
+pub changed_over : (cut : Cut) (old : List Row) (before after : Option (List ℕ)) (rows front rest : List Row) (carried : Bool)
+    → segments cut rows ≡ front ∷ segments cut rest
     → carried ≡ list_any (same_segment (before, front)) (placed_segments cut old) → carried ≡ true → after ≡ last_path before front
     → passed (changed cut old) cut before rows ≡ passed (changed cut old) cut after rest
 changed_over cut old before after rows front rest carried e is over after-is =

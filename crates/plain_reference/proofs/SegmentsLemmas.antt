@@ -1,5 +1,6 @@
 -- The ranges of rows are those of their segments.
-use Rattle.std.proofs.Common.{◌≡◌, ℕ, zero, suc, ◌+◌, ◌-◌, ◌<◌, ◌≤◌, Bool, true, false, not, ◌&&◌, List, [], ◌∷◌, ◌++◌, length, take, drop, refl, sym, ap, ◌∙◌, arith, inl, inr}
+use Rattle.std.proofs.Common.{◌≡◌, ℕ, zero, suc, ◌+◌, ◌-◌, ◌<◌, ◌≤◌, Bool, true, false, not, ◌&&◌, List, [], ◌∷◌, ◌++◌, length, take, drop, refl, sym, ap, ◌∙◌}
+use Rattle.std.proofs.Common.{arith, inl, inr}
 use Rattle.std.specs.List.{flat_map}
 use Rattle.std.proofs.lemmas.Bool.{cases_Bool}
 use Rattle.std.proofs.lemmas.List.{append-nil, length-append, length-drop, take-append-le, drop-append-le}
@@ -45,7 +46,8 @@ longest_same : (cut : Cut) (s r : List Row) (n : ℕ) → n ≤ length s → lon
 longest_same cut s r zero below = refl
 longest_same cut s r (suc n) below = rw (take-append-le (suc n) s r below, longest_same cut s r n (omega arith)) refl
 
-longest_over : (cut : Cut) (s r : List Row) (k : ℕ) → unbroken cut s ≡ false → k ≤ length r → longest_front cut (s ++ r) (length s + k) ≡ longest_front cut (s ++ r) (length s)
+longest_over : (cut : Cut) (s r : List Row) (k : ℕ) → unbroken cut s ≡ false → k ≤ length r
+    → longest_front cut (s ++ r) (length s + k) ≡ longest_front cut (s ++ r) (length s)
 longest_over cut s r zero broken below = ap (longest_front cut (s ++ r)) (omega arith)
 longest_over cut s r (suc k) broken below =
     let e : length s + suc k ≡ suc (length s + k) = omega arith in
@@ -111,7 +113,8 @@ all_end : (cut : Cut) (rows : List Row) → AllEnd cut (segments cut rows)
 all_end cut [] = tt
 all_end cut (row ∷ rows) = end_before cut row (segments cut rows) (all_end cut rows)
 
-whole_before : (cut : Cut) (row : Row) (ss : List (List Row)) → flat_map (λ segment. segment) (segments_with cut row ss) ≡ row ∷ flat_map (λ segment. segment) ss
+whole_before : (cut : Cut) (row : Row) (ss : List (List Row))
+    → flat_map (λ segment. segment) (segments_with cut row ss) ≡ row ∷ flat_map (λ segment. segment) ss
 whole_before cut row [] = refl
 whole_before cut row (s ∷ ss) =
     elim (cases_Bool (is_break cut row.0)) [

@@ -10,10 +10,14 @@
 //!          \   / \          base of R and M: R
 //!            Y --- N        first parents back from M: M, X, R
 //! ```
-ghost use Rattle.std.specs.Prelude.{◌≡◌, ◌↔◌, ◌+◌, ◌<◌, ◌≤◌, ◌^◌, ℕ, length, slice_get, IsSome, IsTrue, Some, None, IfOk, OnOk, OnErr, MatchOption, option_copied};
+ghost use Rattle.std.specs.Prelude.{◌≡◌, ◌↔◌, ◌+◌, ◌<◌, ◌≤◌, ◌^◌, ℕ, length, slice_get, IsSome, IsTrue, Some, None};
+ghost use Rattle.std.specs.Prelude.{IfOk, OnOk, OnErr, MatchOption, option_copied};
 ghost use Rattle.std.specs.List.{Contains, insert};
 ghost use Rattle.std.specs.List.Sorted.{IsStrictlySortedBy};
-ghost use Rattle.lake_values.specs.Ancestry.{Graph, graph_of, commit_of, id_order, ids, parents, generation, date, due_generation, IsGraph, IsDue, Reaches, IsReachedWithin, IsAncestor, IsCommon, is_ancestor, log_order, comes_first, ancestors_in_order, base, IsBase, back, first_parent, IsOnWalk, walk};
+ghost use Rattle.lake_values.specs.Ancestry.{Graph, graph_of, commit_of, id_order, ids, parents, generation, date};
+ghost use Rattle.lake_values.specs.Ancestry.{due_generation, IsGraph, IsDue, Reaches, IsReachedWithin, IsAncestor};
+ghost use Rattle.lake_values.specs.Ancestry.{IsCommon, is_ancestor, log_order, comes_first, ancestors_in_order, base};
+ghost use Rattle.lake_values.specs.Ancestry.{IsBase, back, first_parent, IsOnWalk, walk};
 ghost use Rattle.plain_reference.specs.AncestrySteps.{first_of};
 ghost use Rattle.plain_reference.specs.OrderSteps.{with_item};
 ghost use Rattle.lake_base.specs.declared.digest.Digest.{Digest as Id};
@@ -210,7 +214,8 @@ pub(crate) fn date(commits: &[(CommitId, CommitRecord)], id: &CommitId) -> u64
 
 // The generation due after these parents; none where a 64-bit number doesn't hold it.
 fn due_after(commits: &[(CommitId, CommitRecord)], parents: &[CommitId]) -> Option<u64>
-    ensures { MatchOption result (2 ^ 64 ≤ due_generation (graph_of commits.now) parents.now) (λ due. due ≡ due_generation (graph_of commits.now) parents.now) }
+    ensures { MatchOption result (2 ^ 64 ≤ due_generation (graph_of commits.now) parents.now)
+        (λ due. due ≡ due_generation (graph_of commits.now) parents.now) }
 {
     let mut due = 1u64;
     for parent in parents {
@@ -315,7 +320,8 @@ fn place_in_log(
 ) -> Option<usize>
     ensures { MatchOption result
         (with_item (log_order (graph_of commits.now)) id.now list.now ≡ list.now)
-        (λ at. (at ≤ length list.now) × (with_item (log_order (graph_of commits.now)) id.now list.now ≡ insert list.now at id.now)) }
+        (λ at. (at ≤ length list.now)
+        × (with_item (log_order (graph_of commits.now)) id.now list.now ≡ insert list.now at id.now)) }
 {
     for (at, other) in list.iter().enumerate() {
         match log_order(commits, id, other) {

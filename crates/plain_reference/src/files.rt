@@ -15,7 +15,9 @@ ghost use Rattle.std.specs.Int.{w16, w32, to_be_bytes};
 ghost use Rattle.lake_format.specs.Cutting.{ranges, files, tree_id};
 ghost use Rattle.lake_base.specs.Digest.{sha256};
 ghost use Rattle.lake_base.specs.Maps.{HasAscendingKeys};
-ghost use Rattle.lake_format.specs.Spelling.{row_spelling, range_spelling, line_of, line_spelling, metarange_spelling, commit_spelling, commit_id, IsDigest, IsRow, IsRange, IsSpan, AreInOrder, IsLine, IsMetarange, IsSpelledCommit};
+ghost use Rattle.lake_format.specs.Spelling.{row_spelling, range_spelling, line_of, line_spelling, metarange_spelling};
+ghost use Rattle.lake_format.specs.Spelling.{commit_spelling, commit_id, IsDigest, IsRow, IsRange, IsSpan, AreInOrder};
+ghost use Rattle.lake_format.specs.Spelling.{IsLine, IsMetarange, IsSpelledCommit};
 
 use lake_base::TryCopy;
 use lake_base::digest::Digest;
@@ -173,7 +175,8 @@ pub fn commit_id(alloc: Global, commit: &CommitRecord) -> Result<CommitId, NoMem
 // Appends the ids of parents behind two bytes of count.
 fn put_parents(out: &mut Vec<u8>, parents: &[Digest]) -> Result<(), NoMemory>
     requires { length parents.now < 2 ^ 16 }
-    ensures spelled { OnOk result (out.new.items ≡ out.old.items ++ (to_be_bytes w16 (length parents.now) ++ flat_map (λ parent. parent.0) parents.now)) }
+    ensures spelled { OnOk result (out.new.items
+        ≡ out.old.items ++ (to_be_bytes w16 (length parents.now) ++ flat_map (λ parent. parent.0) parents.now)) }
     ensures limits { OnOk result (AllByRecursion (λ parent. IsDigest parent.0) parents.now) }
 {
     out.extend_from_slice(&(parents.len() as u16).to_be_bytes())?;

@@ -8,9 +8,9 @@
 //! - `segments`, `files`: the runs of rows between break keys, and the files of a tree and of a commit.
 //!
 //! The promise to the layer above: each function's contract is a definition of `lake_values` or `lake_format`, and its
-//! body looks at all that there is, in the order of the definition. The tests of the words run it on worked values, which shows that the
-//! definitions say what was meant; a reader holds a faster function of the crates above against it. No program runs
-//! them; their laws may be cited.
+//! body looks at all that there is, in the order of the definition. The tests of the words run it on worked values,
+//! which shows that the definitions say what was meant; a reader holds a faster function of the crates above against
+//! it. No program runs them; their laws may be cited.
 #![tactic(auto)]
 
 pub mod ancestry;

@@ -3,7 +3,8 @@ ghost use Rattle.std.specs.Prelude.{◌≡◌, ◌↔◌, nat_lt, length, ℕ, L
 ghost use Rattle.std.specs.FinMap.{get};
 ghost use Rattle.lake_values.specs.Entry.{EntryValue};
 ghost use Rattle.lake_values.specs.KeyMap.{KeyMapValue};
-ghost use Rattle.lake_values.specs.Merging.{base_map, side_of, merged_map, merged_value, IsConflict, AreConflicts, conflicts, is_refused, merge_answer};
+ghost use Rattle.lake_values.specs.Merging.{base_map, side_of, merged_map, merged_value, IsConflict, AreConflicts};
+ghost use Rattle.lake_values.specs.Merging.{conflicts, is_refused, merge_answer};
 ghost use Rattle.plain_reference.specs.MergeSteps.{Leaves, ArePathsOf, HasPathsToo};
 ghost use Rattle.lake_values.specs.declared.commit.Strategy.{Strategy as Choice};
 
@@ -51,7 +52,8 @@ pub fn merge(
 /// At each path the merged map has the merged value. (A law: it does nothing.)
 pub fn law_of_merging()
     ensures { (strategy : Choice) (base source dest : KeyMapValue) (path : List ℕ)
-        → get (merged_map strategy base source dest) path ≡ merged_value strategy (get base path) (get source path) (get dest path) }
+        → get (merged_map strategy base source dest) path
+        ≡ merged_value strategy (get base path) (get source path) (get dest path) }
 {}
 
 /// The list of conflicts has just the paths that conflict, in ascending order. A merge is refused exactly where
@@ -97,7 +99,8 @@ fn change_at(
     strategy: Strategy,
     path: &Path,
 ) -> Result<Change, NoMemory>
-    ensures { IfOk result (λ change. Leaves change (merged_value strategy (get base.now path.now) (get source.now path.now) (get dest.now path.now))) }
+    ensures { IfOk result (λ change. Leaves change
+        (merged_value strategy (get base.now path.now) (get source.now path.now) (get dest.now path.now))) }
 {
     let from_source = match side_at(base, source, dest, path) {
         Side::Source => true,

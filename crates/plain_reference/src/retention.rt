@@ -5,11 +5,13 @@
 //! are dated 1,100,000, 1,000,000 and 0; the rule is one day, and now is 1,300,000, so that the cutoff is
 //! 1,213,600. C2 is kept as a head. C1 follows C2, which is dated before the cutoff, and isn't kept; nor is the
 //! first commit, which follows C1. Had C2 been dated 1,213,600, C1 would be kept, whatever its own date.
-ghost use Rattle.std.specs.Prelude.{◌≡◌, ◌↔◌, ◌≤◌, ℕ, List, Option, length, IsTrue, IfOk, OnOk, OnErr, MatchOption, Some, option_copied};
+ghost use Rattle.std.specs.Prelude.{◌≡◌, ◌↔◌, ◌≤◌, ℕ, List, Option, length, IsTrue, IfOk, OnOk, OnErr, MatchOption};
+ghost use Rattle.std.specs.Prelude.{Some, option_copied};
 ghost use Rattle.std.specs.List.{Contains, insert};
 ghost use Rattle.std.specs.List.Sorted.{IsStrictlySortedBy};
 ghost use Rattle.lake_values.specs.Ancestry.{Graph, graph_of, IsGraph, id_order};
-ghost use Rattle.lake_values.specs.Retention.{cutoff, days_of, IsHead, IsFollower, IsFollowed, IsYoung, IsKept, IsKeptBy, kept_ids};
+ghost use Rattle.lake_values.specs.Retention.{cutoff, days_of, IsHead, IsFollower, IsFollowed, IsYoung, IsKept};
+ghost use Rattle.lake_values.specs.Retention.{IsKeptBy, kept_ids};
 ghost use Rattle.lake_values.specs.Settings.{RulesValue};
 ghost use Rattle.lake_base.specs.declared.digest.Digest.{Digest as Id};
 ghost use Rattle.plain_reference.specs.OrderSteps.{with_item};
@@ -56,7 +58,8 @@ pub fn kept(
     now: u64,
 ) -> Result<Sequence<CommitId>, NoMemory>
     requires { IsGraph (graph_of commits.now) }
-    ensures { IfOk result (λ ids. ids ≡ kept_ids (graph_of commits.now) heads.now tags.now (option_copied rules.entry) now) }
+    ensures { IfOk result
+        (λ ids. ids ≡ kept_ids (graph_of commits.now) heads.now tags.now (option_copied rules.entry) now) }
 {
     let mut kept = Vec::new(alloc);
     for (id, _) in commits {
@@ -70,7 +73,8 @@ pub fn kept(
 /// In a graph the list of the kept commits has just those that are kept; in any graph its ids strictly ascend
 /// as bytes. (A law: it does nothing.)
 pub fn law_of_kept()
-    ensures all { (graph : Graph) (heads : List (List ℕ × Id)) (tags : List Id) (rules : Option RulesValue) (now : ℕ) (id : Id)
+    ensures all { (graph : Graph) (heads : List (List ℕ × Id)) (tags : List Id) (rules : Option RulesValue)
+        (now : ℕ) (id : Id)
         → IsGraph graph → Contains (kept_ids graph heads tags rules now) id ↔ IsKept graph heads tags rules now id }
     ensures order { (graph : Graph) (heads : List (List ℕ × Id)) (tags : List Id) (rules : Option RulesValue) (now : ℕ)
         → IsStrictlySortedBy id_order (kept_ids graph heads tags rules now) }

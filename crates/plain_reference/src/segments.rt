@@ -15,7 +15,8 @@ ghost use Rattle.std.specs.List.{flat_map, list_any};
 ghost use Rattle.lake_format.specs.declared.cut.Cut.{Cut as AnyCut};
 ghost use Rattle.lake_values.specs.Entry.{EntryValue};
 ghost use Rattle.lake_values.specs.Sameness.{same_row};
-ghost use Rattle.lake_format.specs.Cutting.{ranges, segments, last_path, placed_segments, same_before, same_segment, changed_ranges};
+ghost use Rattle.lake_format.specs.Cutting.{ranges, segments, last_path, placed_segments, same_before, same_segment};
+ghost use Rattle.lake_format.specs.Cutting.{changed_ranges};
 
 use lake_base::names::Path;
 use lake_format::cut::{Cut, first_range, is_break};
@@ -42,8 +43,10 @@ pub fn first_segment<'a>(
 /// The ranges of rows are those of their segments, one segment after the other: no range crosses a break key.
 /// (A law: it does nothing.)
 pub fn law_of_segments()
-    ensures whole { (cut : AnyCut) (rows : List (List ℕ × EntryValue)) → flat_map (λ segment. segment) (segments cut rows) ≡ rows }
-    ensures ranges { (cut : AnyCut) (rows : List (List ℕ × EntryValue)) → ranges cut rows ≡ flat_map (ranges cut) (segments cut rows) }
+    ensures whole { (cut : AnyCut) (rows : List (List ℕ × EntryValue))
+        → flat_map (λ segment. segment) (segments cut rows) ≡ rows }
+    ensures ranges { (cut : AnyCut) (rows : List (List ℕ × EntryValue))
+        → ranges cut rows ≡ flat_map (ranges cut) (segments cut rows) }
 {}
 
 /// How many ranges the new rows have in segments that aren't carried over from the old ones. A segment is carried
@@ -75,7 +78,8 @@ fn is_carried(
     cut: &Cut,
 ) -> bool
     requires { 0 < cut.now.modulus }
-    ensures { result ≡ list_any (same_segment (option_copied before.entry, segment.now)) (placed_segments cut.now old.now) }
+    ensures { result
+        ≡ list_any (same_segment (option_copied before.entry, segment.now)) (placed_segments cut.now old.now) }
 {
     let mut other_before = None;
     let mut rest = old;

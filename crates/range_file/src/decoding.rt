@@ -2,7 +2,8 @@
 ghost use Rattle.std.specs.Prelude.{◌≡◌, List, [], length, Ok, IfOk};
 ghost use Rattle.lake_format.specs.Spelling.{range_spelling, IsRange};
 ghost use Rattle.range_file.specs.Rows.{RowValue};
-ghost use Rattle.range_file.specs.RangeReading.{Answers, ReadsAs, read_next_path, read_row, read_rows, read_count, range_from};
+ghost use Rattle.range_file.specs.RangeReading.{Answers, ReadsAs, read_next_path, read_row, read_rows, read_count};
+ghost use Rattle.range_file.specs.RangeReading.{range_from};
 
 use crate::fault::{RangeFault, fault_of};
 use crate::rows::{Range, Row, is_above};

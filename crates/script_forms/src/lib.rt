@@ -2,8 +2,8 @@
 //!
 //! - `line`: a line as a step's name and its arguments; `arguments`: the forms of arguments.
 //! - `settings`: the name of a setting, and a setting as JSON.
-//! - `replies`: what the lake tells, as JSON values; `answers`: the value of a step by its call; `refusals`: why a step was
-//!   refused.
+//! - `replies`: what the lake tells, as JSON values; `answers`: the value of a step by its call; `refusals`: why a step
+//!   was refused.
 //! - `fault`: why a line is no step, and why a step gave no value.
 //!
 //! The promise to the layer above: it is safe on every input. No clause says more.

@@ -1,5 +1,5 @@
-//! The calls by which a new head is made, each in a function of its own. These say of what a call answers and leaves only
-//! what the next call asks, so that the steps above them are proved without the rest.
+//! The calls by which a new head is made, each in a function of its own. These say of what a call answers and leaves
+//! only what the next call asks, so that the steps above them are proved without the rest.
 ghost use Rattle.std.specs.Prelude.{◌≡◌, ◌<◌, IfOk, IfSome, IsTrue};
 ghost use Rattle.lake_values.specs.Commit.{AboutValue};
 ghost use Rattle.lake_model.specs.declared.reply.SwapKind.{SwapKind as AnyKind};
@@ -10,9 +10,9 @@ ghost use Rattle.lake_core.specs.Lakes.{state, versions};
 ghost use Rattle.head_drafts.specs.HeadDrafts.{sides_of};
 
 use crate::latest::Handed;
+use head_drafts::{DraftFault, HeadDraft, HeadFault};
 use keeper::Keeper;
 use lake_core::Lake;
-use head_drafts::{DraftFault, HeadDraft, HeadFault};
 use lake_model::{By, Sides, StepFault, SwapKind};
 use lake_values::{About, CommitId, CommitRecord, Strategy};
 use meta_range::Tree;
@@ -46,7 +46,8 @@ pub fn draft_head<K: Keeper>(
 
 pub fn is_outdated<K: Keeper>(lake: &Lake<K>, branch: &Named, version: u64, settings: u64) -> bool
     ensures { IsTrue result → (kind : AnyKind) (about : AboutValue) (tree : TreeValue)
-        → IsReadyFor (state lake.now) (versions lake.now) branch.now.repo branch.now.name version settings kind about tree }
+        → IsReadyFor (state lake.now)
+        (versions lake.now) branch.now.repo branch.now.name version settings kind about tree }
 {
     head_drafts::is_outdated(lake, &branch.repo, &branch.name, version, settings)
 }

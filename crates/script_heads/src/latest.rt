@@ -4,8 +4,8 @@ ghost use Rattle.std.proofs.Props.{props};
 ghost use Rattle.meta_range.specs.Ranges.{tree_code};
 
 use lake_base::NoMemory;
-use lake_model::{Sides, SwapKind};
 use lake_core::Prepared;
+use lake_model::{Sides, SwapKind};
 use lake_values::Strategy;
 use script_calls::target::Named;
 use std::alloc::Global;
@@ -23,7 +23,8 @@ pub enum Way {
 pub struct Handed {
     pub prepared: Prepared,
     pub sides: Option<Sides>,
-    ghost dest: { IfSome prepared.trio (λ trio. trio.dest ≡ prepared.tree.value) } by { Prim.hlevel (props, tree_code) },
+    ghost dest: { IfSome prepared.trio (λ trio. trio.dest ≡ prepared.tree.value) } by { Prim.hlevel
+        (props, tree_code) },
     ghost modulus: { 0 < prepared.cut.modulus },
 }
 
@@ -58,7 +59,8 @@ struct Row {
     handed: Handed,
 }
 
-/// What was handed out last for each branch and way. It is searched row by row, of which there are three a branch at most.
+/// What was handed out last for each branch and way. It is searched row by row, of which there are three a branch at
+/// most.
 #[derive(Drop)]
 pub struct Latest {
     rows: Vec<Row>,

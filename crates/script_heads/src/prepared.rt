@@ -1,8 +1,8 @@
 //! What a new head of a branch is made from, as a JSON value.
 
 use lake_base::NoMemory;
-use lake_format::Cut;
 use lake_core::Prepared;
+use lake_format::Cut;
 use lake_values::{Change, Changes};
 use meta_range::{Tree, Trio};
 use script_forms::hooks_value;

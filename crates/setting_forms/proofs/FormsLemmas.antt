@@ -1,5 +1,6 @@
 -- Lists of rules as values: how many they are, and what is read of them rule by rule.
-use Rattle.std.proofs.Common.{◌≡◌, ℕ, ◌+◌, ◌<◌, ◌≤◌, ◌&&◌, Bool, true, false, cond, nat_le, length, List, [], ◌∷◌, ◌++◌, Option, Some, None, option_and_then, Result, Ok, Err, drop, refl, sym, ap, ◌∙◌, append_assoc, append-nil}
+use Rattle.std.proofs.Common.{◌≡◌, ℕ, ◌+◌, ◌<◌, ◌≤◌, ◌&&◌, Bool, true, false, cond, nat_le, length, List, [], ◌∷◌, ◌++◌, Option, Some, None, option_and_then}
+use Rattle.std.proofs.Common.{Result, Ok, Err, drop, refl, sym, ap, ◌∙◌, append_assoc, append-nil}
 use Rattle.std.specs.Prelude.{ok_or}
 use Rattle.std.proofs.lemmas.Bool.{lt-ltb, le-ltb, le-leb, leb-true, and_parts}
 use Rattle.serde_json.specs.Data.{Data, string, Items}
@@ -40,12 +41,15 @@ module _ {X : Type 0} (form : ℕ → Data → Result X RuleFault) where
   pub none_read : (list : List Value) → AreRead list 0 []
   none_read list = record { whole = unchanged (rules_from form 0 (items_view list)) }
 
-  longer : (r : Result (List X) RuleFault) (done : List X) (x : X) → in_turn (in_turn r (λ xs. Ok (x ∷ xs))) (λ xs. Ok (done ++ xs)) ≡ in_turn r (λ xs. Ok ((done ++ x ∷ []) ++ xs))
+  longer : (r : Result (List X) RuleFault) (done : List X) (x : X)
+      → in_turn (in_turn r (λ xs. Ok (x ∷ xs))) (λ xs. Ok (done ++ xs)) ≡ in_turn r (λ xs. Ok ((done ++ x ∷ []) ++ xs))
   longer (Ok xs) done x = ap Ok (sym (append_assoc done (x ∷ []) xs))
   longer (Err fault) done x = refl
 
-  module _ (list : List Value) (rule : ℕ) (done : List X) (read : AreRead list rule done) (value : Value) (rest : List Value) (is : drop rule list ≡ value ∷ rest) where
-    one_more : rules_from form 0 (items_view list) ≡ in_turn (in_turn (form rule (view value)) (λ x. in_turn (rules_from form (rule + 1) (items_view rest)) (λ xs. Ok (x ∷ xs)))) (λ xs. Ok (done ++ xs))
+  module _ (list : List Value) (rule : ℕ) (done : List X) (read : AreRead list rule done) (value : Value) (rest : List Value)
+      (is : drop rule list ≡ value ∷ rest) where
+    one_more : rules_from form 0 (items_view list)
+        ≡ in_turn (in_turn (form rule (view value)) (λ x. in_turn (rules_from form (rule + 1) (items_view rest)) (λ xs. Ok (x ∷ xs)))) (λ xs. Ok (done ++ xs))
     one_more = read.whole ∙ ap (λ left. in_turn (rules_from form rule (items_view left)) (λ xs. Ok (done ++ xs))) is
 
     pub read_one : (x : X) → drop (rule + 1) list ≡ rest → form rule (view value) ≡ Ok x → AreRead list (rule + 1) (done ++ x ∷ [])
@@ -57,7 +61,8 @@ module _ {X : Type 0} (form : ℕ → Data → Result X RuleFault) where
     }
 
     pub refuse_one : (fault : RuleFault) → form rule (view value) ≡ Err fault → rules_from form 0 (items_view list) ≡ Err fault
-    refuse_one fault e = one_more ∙ ap (λ r. in_turn (in_turn r (λ x. in_turn (rules_from form (rule + 1) (items_view rest)) (λ xs. Ok (x ∷ xs)))) (λ xs. Ok (done ++ xs))) e
+    refuse_one fault e =
+        one_more ∙ ap (λ r. in_turn (in_turn r (λ x. in_turn (rules_from form (rule + 1) (items_view rest)) (λ xs. Ok (x ∷ xs)))) (λ xs. Ok (done ++ xs))) e
 
   pub all_read : (list : List Value) (rule : ℕ) (done : List X) → AreRead list rule done → drop rule list ≡ [] → rules_from form 0 (items_view list) ≡ Ok done
   all_read list rule done read is =
@@ -74,12 +79,14 @@ is_some_of : {X : Type 0} (x : X) (fault : RuleFault) (o : Option X) → ok_or o
 is_some_of x fault None e = absurd (cc)
 is_some_of x fault (Some y) e = let same : y ≡ x = cc in ap Some same
 
-found : {X : Type 0} (form : Data → Option X) (x : X) (fault : RuleFault) (o : Option Data) → ok_or (option_and_then form o) fault ≡ Ok x → (value : Data) × (form value ≡ Some x)
+found : {X : Type 0} (form : Data → Option X) (x : X) (fault : RuleFault) (o : Option Data) → ok_or (option_and_then form o) fault ≡ Ok x
+    → (value : Data) × (form value ≡ Some x)
 found form x fault None e = absurd (cc)
 found form x fault (Some value) e = (value, is_some_of x fault (form value) e)
 
 -- a field that was read is of its form
-pub field_of-Ok : {X : Type 0} (form : Data → Option X) (name : List ℕ) (rule : ℕ) (from : Data) (x : X) → field_of form name rule from ≡ Ok x → (value : Data) × (form value ≡ Some x)
+pub field_of-Ok : {X : Type 0} (form : Data → Option X) (name : List ℕ) (rule : ℕ) (from : Data) (x : X) → field_of form name rule from ≡ Ok x
+    → (value : Data) × (form value ≡ Some x)
 field_of-Ok form name rule from x e = found form x (Field rule name) (get name from) e
 
 passed : {X : Type 0} (test : X → Bool) (x y : X) (b : Bool) → test y ≡ b → cond b (Some y) None ≡ Some x → (y ≡ x) × (test x ≡ true)
@@ -100,7 +107,8 @@ pub within : (least most n : ℕ) → least ≤ n → n ≤ most → is_within l
 within least most n low high = ap (λ b. b && nat_le n most) (le-leb least n low) ∙ le-leb n most high
 
 pub text_within-Some : (least most : ℕ) (value : Data) (text : List ℕ) → text_within least most value ≡ Some text → (least ≤ length text) × (length text ≤ most)
-text_within-Some least most value text e = is_within-true least most (length text) (option_filter-Some (λ t. is_within least most (length t)) (as_str value) text e).1
+text_within-Some least most value text e =
+    is_within-true least most (length text) (option_filter-Some (λ t. is_within least most (length t)) (as_str value) text e).1
 
 pub text_within-string : (least most : ℕ) (text : List ℕ) → least ≤ length text → length text ≤ most → text_within least most (string text) ≡ Some text
 text_within-string least most text low high = option_filter-here (λ t. is_within least most (length t)) text (within least most (length text) low high)

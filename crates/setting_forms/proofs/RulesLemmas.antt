@@ -1,5 +1,6 @@
 -- What rules that were read are: each of its form, and at most 256; and that rules which were written are read back.
-use Rattle.std.proofs.Common.{◌≡◌, ℕ, suc, ◌+◌, ◌≤◌, length, List, [], ◌∷◌, map, Option, Some, None, Result, Ok, Err, cond, Bool, true, false, nat_lt, refl, ap, ◌∙◌, subst}
+use Rattle.std.proofs.Common.{◌≡◌, ℕ, suc, ◌+◌, ◌≤◌, length, List, [], ◌∷◌, map, Option, Some, None, Result, Ok, Err, cond, Bool, true, false, nat_lt, refl, ap}
+use Rattle.std.proofs.Common.{◌∙◌, subst}
 use Rattle.std.specs.List.{AllByRecursion}
 use Rattle.std.specs.Prelude.{ok_or}
 use Rattle.std.proofs.lemmas.Bool.{le-ltb, ltb-false}
@@ -13,7 +14,8 @@ use Rattle.setting_forms.specs.declared.fault.RuleFault.TheVariants.{NotList, To
 
 -- ---- at most 256
 
-few_at : (b : Bool) (given items : Items) → nat_lt 256 (items_len given) ≡ b → cond b (Err (TooMany (items_len given))) (Ok given) ≡ Ok items → items_len items ≤ 256
+few_at : (b : Bool) (given items : Items) → nat_lt 256 (items_len given) ≡ b → cond b (Err (TooMany (items_len given))) (Ok given) ≡ Ok items
+    → items_len items ≤ 256
 few_at true given items is e = absurd (cc)
 few_at false given items is e = let same : given ≡ items = cc in subst (λ i. items_len i ≤ 256) same (ltb-false 256 (items_len given) is)
 
@@ -31,7 +33,8 @@ module _ {X : Type 0} (form : ℕ → Data → Result X RuleFault) (P : X → Ty
     pub each : AllByRecursion P xs
     pub count : length xs ≡ items_len items
 
-  kept : (rule : ℕ) (value : Data) (rest : Items) (r : Result X RuleFault) (s : Result (List X) RuleFault) (xs : List X) → form rule value ≡ r → ((ys : List X) → s ≡ Ok ys → Keeps rest ys)
+  kept : (rule : ℕ) (value : Data) (rest : Items) (r : Result X RuleFault) (s : Result (List X) RuleFault) (xs : List X) → form rule value ≡ r
+      → ((ys : List X) → s ≡ Ok ys → Keeps rest ys)
       → in_turn r (λ x. in_turn s (λ ys. Ok (x ∷ ys))) ≡ Ok xs → Keeps (item value rest) xs
   kept rule value rest (Err fault) s xs is later e = absurd (cc)
   kept rule value rest (Ok x) (Err fault) xs is later e = absurd (cc)
@@ -42,7 +45,8 @@ module _ {X : Type 0} (form : ℕ → Data → Result X RuleFault) (P : X → Ty
 
   pub Keeps-rules_from : (rule : ℕ) (items : Items) (xs : List X) → rules_from form rule items ≡ Ok xs → Keeps items xs
   Keeps-rules_from rule no_items xs e = let same : [] ≡ xs = cc in subst (Keeps no_items) same (record { each = tt; count = refl })
-  Keeps-rules_from rule (item value rest) xs e = kept rule value rest (form rule value) (rules_from form (rule + 1) rest) xs refl (Keeps-rules_from (rule + 1) rest) e
+  Keeps-rules_from rule (item value rest) xs e =
+      kept rule value rest (form rule value) (rules_from form (rule + 1) rest) xs refl (Keeps-rules_from (rule + 1) rest) e
 
 -- ---- written and read back
 
@@ -50,7 +54,8 @@ items_len-items_of : {X : Type 0} (write : X → Data) (xs : List X) → items_l
 items_len-items_of write [] = refl
 items_len-items_of write (x ∷ xs) = ap suc (items_len-items_of write xs)
 
-module _ {X : Type 0} (form : ℕ → Data → Result X RuleFault) (write : X → Data) (P : X → Type 0) (again : (rule : ℕ) (x : X) → P x → form rule (write x) ≡ Ok x) where
+module _ {X : Type 0} (form : ℕ → Data → Result X RuleFault) (write : X → Data) (P : X → Type 0)
+    (again : (rule : ℕ) (x : X) → P x → form rule (write x) ≡ Ok x) where
   read_from : (rule : ℕ) (xs : List X) → AllByRecursion P xs → rules_from form rule (items_of (map write xs)) ≡ Ok xs
   read_from rule [] each = refl
   read_from rule (x ∷ xs) each =
@@ -61,4 +66,5 @@ module _ {X : Type 0} (form : ℕ → Data → Result X RuleFault) (write : X �
   few_again n items e few = rw (e, le-ltb 256 n few)
 
   pub rules_of-written : (xs : List X) → length xs ≤ 256 → AllByRecursion P xs → rules_of form (array (items_of (map write xs))) ≡ Ok xs
-  rules_of-written xs few each = ap (λ r. in_turn r (rules_from form 0)) (few_again (length xs) (items_of (map write xs)) (items_len-items_of write xs) few) ∙ read_from 0 xs each
+  rules_of-written xs few each =
+      ap (λ r. in_turn r (rules_from form 0)) (few_again (length xs) (items_of (map write xs)) (items_len-items_of write xs) few) ∙ read_from 0 xs each

@@ -15,8 +15,10 @@ use Rattle.serde_json.proofs.Texts.{print-outline}
 
 pub read-compact_text : (d : Data) → tree.HasNumbers (outline d) → of_json (outline d) ≡ Some d → tree.depth (outline d) ≤ 127 → read (compact_text d) ≡ Some d
 read-compact_text d numbers again shallow =
-    let given : tokens (compact_text d) ≡ tree.json_tokens (outline d) = ap tokens (sym (print-outline d)) ∙ tokens-print (tree.json_tokens (outline d)) (ArePrintable-json_tokens (outline d) numbers) in
-    ap (λ ts. option_and_then of_json (option_and_then (λ p. json.if_last p.0 p.1) (json.value max_depth ts))) (given ∙ sym (append-nil (tree.json_tokens (outline d))))
+    let given : tokens (compact_text d) ≡ tree.json_tokens (outline d) =
+    ap tokens (sym (print-outline d)) ∙ tokens-print (tree.json_tokens (outline d)) (ArePrintable-json_tokens (outline d) numbers) in
+    ap (λ ts. option_and_then of_json (option_and_then (λ p. json.if_last p.0 p.1) (json.value max_depth ts)))
+    (given ∙ sym (append-nil (tree.json_tokens (outline d))))
     ∙ ap (λ r. option_and_then of_json (option_and_then (λ p. json.if_last p.0 p.1) r)) (value-json_tokens (outline d) max_depth [] shallow)
     ∙ again
 
@@ -46,7 +48,8 @@ module _ {X : Type 0} (write : X → Data) where
   all_again : (xs : List X) → AllByRecursion IsFlat xs → of_items (items_outline (items_of (map write xs))) ≡ Some (items_of (map write xs))
   all_again [] each = refl
   all_again (x ∷ xs) each =
-      ap (option_and_then (λ d. option_map (item d) (of_items (items_outline (items_of (map write xs)))))) each.0.again ∙ ap (option_map (item (write x))) (all_again xs each.1)
+      ap (option_and_then (λ d. option_map (item d) (of_items (items_outline (items_of (map write xs)))))) each.0.again
+      ∙ ap (option_map (item (write x))) (all_again xs each.1)
 
   flat_outline : (xs : List X) → AllByRecursion IsFlat xs → tree.items_depth (items_outline (items_of (map write xs))) ≤ 1
   flat_outline [] each = omega arith
@@ -54,4 +57,5 @@ module _ {X : Type 0} (write : X → Data) where
 
   pub read-list : (xs : List X) → AllByRecursion IsFlat xs → read (compact_text (array (items_of (map write xs)))) ≡ Some (array (items_of (map write xs)))
   read-list xs each =
-      read-compact_text (array (items_of (map write xs))) (all_numbers xs each) (ap (option_map array) (all_again xs each)) (omega (arith, flat_outline xs each))
+      read-compact_text (array (items_of (map write xs))) (all_numbers xs each) (ap (option_map array) (all_again xs each))
+      (omega (arith, flat_outline xs each))

@@ -1,6 +1,7 @@
 -- What a JSON value of a setting is: a list of rules, each an object with named fields (this project's profile).
 -- A form says what a value is under it, and None where it isn't of the form.
-use Rattle.std.specs.Prelude.{◌≡◌, ◌⊎◌, ◌+◌, ◌&&◌, ℕ, Bool, nat_lt, nat_le, if◌then◌else◌, is_some, List, [], ◌∷◌, length, Option, Some, None, option_and_then, ok_or, Result, Ok, Err}
+use Rattle.std.specs.Prelude.{◌≡◌, ◌⊎◌, ◌+◌, ◌&&◌, ℕ, Bool, nat_lt, nat_le, if◌then◌else◌, is_some, List, [], ◌∷◌, length, Option, Some, None, option_and_then}
+use Rattle.std.specs.Prelude.{ok_or, Result, Ok, Err}
 use Rattle.serde_json.specs.Data.{Data, Items, no_items, item}
 use Rattle.serde_json.specs.Events.{items_len}
 use Rattle.serde_json.specs.Find.{get, as_array, as_object, as_str, as_number, as_u64}

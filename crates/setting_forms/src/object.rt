@@ -1,7 +1,8 @@
 //! An object with a rule's number, and the readers of its fields.
 ghost use Rattle.std.specs.Prelude.{◌≡◌, ◌≢◌, ◌⊎◌, IfOk, IfErr};
 ghost use Rattle.serde_json.specs.View.{view, items_view};
-ghost use Rattle.setting_forms.specs.Forms.{IsReadAs, object_of, field_of, text_within, whole_number, number_within, list_field_of};
+ghost use Rattle.setting_forms.specs.Forms.{IsReadAs, object_of, field_of, text_within, whole_number, number_within};
+ghost use Rattle.setting_forms.specs.Forms.{list_field_of};
 ghost use Rattle.setting_forms.specs.declared.fault.RuleFault.TheVariants.{NoMemory as rule_no_memory};
 
 use crate::fault::RuleFault;

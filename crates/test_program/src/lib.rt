@@ -6,8 +6,8 @@
 //! - `batches`, `failures`, `words`: tables of such runs. `limits`: how long lines, texts and batches may be.
 //! - `adapters`: the real streams and the real clock.
 //! - `objects`: a block store.
-//! - `turns`: a turn over a log. `small_lake`: a turn over a small lake, the form to copy for a value under a turn; it is
-//!   proved without its tests too, since its definitions cite its types.
+//! - `turns`: a turn over a log. `small_lake`: a turn over a small lake, the form to copy for a value under a turn; it
+//!   is proved without its tests too, since its definitions cite its types.
 #![tactic(auto)]
 
 #[cfg(test)]

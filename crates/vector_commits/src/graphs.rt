@@ -1,5 +1,5 @@
-//! The cases of graphs: commits that join a graph one after the other, and what is then asked of it. A commit is named by
-//! its number among them, from 0.
+//! The cases of graphs: commits that join a graph one after the other, and what is then asked of it. A commit is named
+//! by its number among them, from 0.
 ghost use Rattle.std.specs.Prelude.{IfOk, IsSome};
 ghost use Rattle.lake_values.specs.Ancestry.{commit_of};
 

@@ -1,5 +1,5 @@
-//! The vectors of commits and of what leads from commit to commit. Each kind of case is a module, with a function from a
-//! case to its verdict.
+//! The vectors of commits and of what leads from commit to commit. Each kind of case is a module, with a function from
+//! a case to its verdict.
 //!
 //! - `commits`, `expressions`: bytes read as a commit, texts read as an expression.
 //! - `graphs`: questions of a graph.

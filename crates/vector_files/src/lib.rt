@@ -1,5 +1,5 @@
-//! The vectors of files: ranges, metaranges and trees. Each kind of case is a module, with a function from a case to its
-//! verdict.
+//! The vectors of files: ranges, metaranges and trees. Each kind of case is a module, with a function from a case to
+//! its verdict.
 //!
 //! - `ranges`, `metaranges`: bytes read as files.
 //! - `trees`, `tree_reads`: the files of a map, and the map of files.

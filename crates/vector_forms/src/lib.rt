@@ -1,7 +1,8 @@
 //! The forms of the vectors that `check_vectors` reads: lines of JSON, each a question with the answer that is due.
 //!
 //! - `case`: a line, the name of a kind or a case, its members by name; `fault`: why a line is no case.
-//! - `forms`: the forms that members have in common; `cut`: the cut of a tree; `answers`: what the crates answer, as JSON values.
+//! - `forms`: the forms that members have in common; `cut`: the cut of a tree; `answers`: what the crates answer, as
+//!   JSON values.
 //! - `verdict`: what came of a case.
 //!
 //! The promise to the layer above: it is safe on every input. No clause says more.

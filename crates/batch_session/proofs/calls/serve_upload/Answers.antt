@@ -21,17 +21,21 @@ refuse-requires-in-Err-stage_upload c =
     guarded_pathless (state_at c.take_ticket.new.self) c.args.repo.now c.args.branch.now c.in-Err-stage_upload.fault
     (elim (left_staged c.args.lake.now c.args.blocks.now.held 0 c.args.by c.args.upload.moment
     (upload_of c.args.repo.now c.args.branch.now c.args.upload.path c.args.upload.text.now)
-    LineText c.in-Ok.number c.take_ticket.new.self c.in-Err-stage_upload.fault (lake_at 0 c.stage_upload.new.lake c.stage_upload.new.blocks) c.in-Err-stage_upload.ensures.staged).why
+    LineText c.in-Ok.number c.take_ticket.new.self c.in-Err-stage_upload.fault (lake_at 0 c.stage_upload.new.lake c.stage_upload.new.blocks)
+    c.in-Err-stage_upload.ensures.staged).why
     [ inl out ↦ inl out | inr why ↦ inr why.0 ])
 
 pub stage_upload-requires : goal.stage_upload-requires
-stage_upload-requires c = ticket_there c.args.lake.now c.take_ticket.new.self c.args.by c.args.repo.now c.args.branch.now c.in-Ok.number c.in-Ok.ensures.1.0 c.in-Ok.ensures.1.1
+stage_upload-requires c =
+    ticket_there c.args.lake.now c.take_ticket.new.self c.args.by c.args.repo.now c.args.branch.now c.in-Ok.number c.in-Ok.ensures.1.0 c.in-Ok.ensures.1.1
 
 pub give_up-requires : goal.give_up-requires
 give_up-requires c =
     subst (λ h. HasTicket (state_at h) c.args.by.seat c.in-Ok.number)
-    (sym (left_staged c.args.lake.now c.args.blocks.now.held 0 c.args.by c.args.upload.moment (upload_of c.args.repo.now c.args.branch.now c.args.upload.path c.args.upload.text.now)
-    LineText c.in-Ok.number c.take_ticket.new.self c.in-Err-stage_upload.fault (lake_at 0 c.stage_upload.new.lake c.stage_upload.new.blocks) c.in-Err-stage_upload.ensures.staged).same)
+    (sym (left_staged c.args.lake.now c.args.blocks.now.held 0 c.args.by c.args.upload.moment
+    (upload_of c.args.repo.now c.args.branch.now c.args.upload.path c.args.upload.text.now)
+    LineText c.in-Ok.number c.take_ticket.new.self c.in-Err-stage_upload.fault (lake_at 0 c.stage_upload.new.lake c.stage_upload.new.blocks)
+    c.in-Err-stage_upload.ensures.staged).same)
     (ticket_there c.args.lake.now c.take_ticket.new.self c.args.by c.args.repo.now c.args.branch.now c.in-Ok.number c.in-Ok.ensures.1.0 c.in-Ok.ensures.1.1)
 
 pub returns-in_err-give_up-in-Err-stage_upload : goal.returns-in_err-give_up-in-Err-stage_upload
@@ -40,14 +44,17 @@ returns-in_err-give_up-in-Err-stage_upload c calls =
     (serves_kept_ticket c.args.lake.now c.args.blocks.now.held calls c.args.by c.args.upload.moment
     (upload_of c.args.repo.now c.args.branch.now c.args.upload.path c.args.upload.text.now) c.in-Ok.number c.take_ticket.new.self c.in-Ok.ensures
     _ c.in-Err-stage_upload.fault (lake_at 0 c.stage_upload.new.lake c.stage_upload.new.blocks) c.give_up.new.lake
-    (left_staged c.args.lake.now c.args.blocks.now.held 0 c.args.by c.args.upload.moment (upload_of c.args.repo.now c.args.branch.now c.args.upload.path c.args.upload.text.now)
-    LineText c.in-Ok.number c.take_ticket.new.self c.in-Err-stage_upload.fault (lake_at 0 c.stage_upload.new.lake c.stage_upload.new.blocks) c.in-Err-stage_upload.ensures.staged)
+    (left_staged c.args.lake.now c.args.blocks.now.held 0 c.args.by c.args.upload.moment
+    (upload_of c.args.repo.now c.args.branch.now c.args.upload.path c.args.upload.text.now)
+    LineText c.in-Ok.number c.take_ticket.new.self c.in-Err-stage_upload.fault (lake_at 0 c.stage_upload.new.lake c.stage_upload.new.blocks)
+    c.in-Err-stage_upload.ensures.staged)
     c.in_err-give_up-in-Err-stage_upload.ensures)
 
 pub returns-in-Ok-stage_upload : goal.returns-in-Ok-stage_upload
 returns-in-Ok-stage_upload c calls = serves_accepted c.args.lake.now c.args.blocks.now.held calls c.args.by c.args.upload.moment
     (upload_of c.args.repo.now c.args.branch.now c.args.upload.path c.args.upload.text.now) c.in-Ok.number c.take_ticket.new.self c.in-Ok.ensures
-    c.in-Ok-stage_upload.text _ (lake_at 0 c.stage_upload.new.lake c.stage_upload.new.blocks) c.in-Ok-stage_upload.ensures.staged refl c.in-Ok-stage_upload.ensures.text
+    c.in-Ok-stage_upload.text _ (lake_at 0 c.stage_upload.new.lake c.stage_upload.new.blocks) c.in-Ok-stage_upload.ensures.staged refl
+    c.in-Ok-stage_upload.ensures.text
 
 pub returns-in_ok-give_up-in-Err-stage_upload : goal.returns-in_ok-give_up-in-Err-stage_upload
 returns-in_ok-give_up-in-Err-stage_upload c calls =
@@ -55,6 +62,8 @@ returns-in_ok-give_up-in-Err-stage_upload c calls =
     (upload_of c.args.repo.now c.args.branch.now c.args.upload.path c.args.upload.text.now) c.in-Ok.number c.take_ticket.new.self c.in-Ok.ensures
     c.requires.repo c.requires.branch c.in-Err-stage_upload.fault c.refuse-in-Err-stage_upload.result
     (lake_at 0 c.stage_upload.new.lake c.stage_upload.new.blocks) c.give_up.new.lake
-    (left_staged c.args.lake.now c.args.blocks.now.held 0 c.args.by c.args.upload.moment (upload_of c.args.repo.now c.args.branch.now c.args.upload.path c.args.upload.text.now)
-    LineText c.in-Ok.number c.take_ticket.new.self c.in-Err-stage_upload.fault (lake_at 0 c.stage_upload.new.lake c.stage_upload.new.blocks) c.in-Err-stage_upload.ensures.staged)
+    (left_staged c.args.lake.now c.args.blocks.now.held 0 c.args.by c.args.upload.moment
+    (upload_of c.args.repo.now c.args.branch.now c.args.upload.path c.args.upload.text.now)
+    LineText c.in-Ok.number c.take_ticket.new.self c.in-Err-stage_upload.fault (lake_at 0 c.stage_upload.new.lake c.stage_upload.new.blocks)
+    c.in-Err-stage_upload.ensures.staged)
     c.in_ok-give_up-in-Err-stage_upload.ensures c.refuse-in-Err-stage_upload.ensures

@@ -13,7 +13,8 @@ pub room_alone-requires : goal.room_alone-requires
 room_alone-requires c = never_failed c.in-Err.trouble c.in-Err.ensures.cause
 
 pub stage-requires : goal.stage-requires
-stage-requires c = subst (λ change. IfSome (put_number change) (HasTicket (state_at c.args.lake.now) c.args.by.seat)) (sym (c.in_ok-change.ensures.0 [] [])) c.requires
+stage-requires c =
+    subst (λ change. IfSome (put_number change) (HasTicket (state_at c.args.lake.now) c.args.by.seat)) (sym (c.in_ok-change.ensures.0 [] [])) c.requires
 
 pub returns-in-Ok-stage-clause-staged : goal.returns-in-Ok-stage-clause-staged
 returns-in-Ok-stage-clause-staged c = (

@@ -16,4 +16,5 @@ pub returns-in-Err : goal.returns-in-Err
 returns-in-Err c =
     let begins : starts_with nat_eq c.args.uri.now branch_uri ≡ true = search rules in
     let back = c.split_at.ensures.back in
-    IfOk-weaker c.no_path.result _ _ (λ path h. h.0 ∙ sym (path_of_by c.args.uri.now begins (Some c.in-Err.fault) (ap path_fault (sym back) ∙ fault_found _ c.in-Err.fault _ c.in-Err.ensures h.1))) c.no_path.ensures
+    IfOk-weaker c.no_path.result _ _ (λ path h. h.0 ∙ sym
+    (path_of_by c.args.uri.now begins (Some c.in-Err.fault) (ap path_fault (sym back) ∙ fault_found _ c.in-Err.fault _ c.in-Err.ensures h.1))) c.no_path.ensures

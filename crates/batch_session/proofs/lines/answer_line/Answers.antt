@@ -10,7 +10,8 @@ use Rattle.batch_session.proofs.lines.answer_line.Goals as goal
 pub returns-in-Ok-Skipped-clause-served : goal.returns-in-Ok-Skipped-clause-served
 returns-in-Ok-Skipped-clause-served g c = (
   skipped_effect (lake_of c.args.session.now),
-  subst (λ v. IsValueServed v (lake_of c.args.session.now) (skipped_effect (lake_of c.args.session.now))) (ap line_view (sym c.in-Ok-Skipped.field-0-is) ∙ c.in-Ok-Skipped.ensures.read) refl,
+  subst (λ v. IsValueServed v (lake_of c.args.session.now) (skipped_effect (lake_of c.args.session.now)))
+      (ap line_view (sym c.in-Ok-Skipped.field-0-is) ∙ c.in-Ok-Skipped.ensures.read) refl,
   refl,
   sym c.fixed_reply.ensures.text,
   sym c.fixed_reply.ensures.done,
@@ -21,7 +22,8 @@ returns-in-Ok-Skipped-clause-served g c = (
 pub returns-in-Ok-NotBuilt-clause-served : goal.returns-in-Ok-NotBuilt-clause-served
 returns-in-Ok-NotBuilt-clause-served g c = (
   unbuilt_effect (lake_of c.args.session.now),
-  subst (λ v. IsValueServed v (lake_of c.args.session.now) (unbuilt_effect (lake_of c.args.session.now))) (ap line_view (sym c.in-Ok-NotBuilt.field-0-is) ∙ c.in-Ok-NotBuilt.ensures.read) (inl refl),
+  subst (λ v. IsValueServed v (lake_of c.args.session.now) (unbuilt_effect (lake_of c.args.session.now)))
+      (ap line_view (sym c.in-Ok-NotBuilt.field-0-is) ∙ c.in-Ok-NotBuilt.ensures.read) (inl refl),
   refl,
   sym c.fixed_reply-in-Ok-NotBuilt.ensures.text,
   sym c.fixed_reply-in-Ok-NotBuilt.ensures.done,
@@ -31,8 +33,16 @@ returns-in-Ok-NotBuilt-clause-served g c = (
 
 pub returns-in-Ok-Request-clause-served : goal.returns-in-Ok-Request-clause-served
 returns-in-Ok-Request-clause-served g c =
-    let came = c.answer_call.ensures.served in
-    (came.0, subst (λ v. IsValueServed v (lake_of c.args.session.now) came.0) (ap line_view (sym c.in-Ok-Request.field-0-is) ∙ c.in-Ok-Request.ensures.read) came.1, came.2, came.3, came.4, came.5, came.6)
+    let came = c.answer_call.ensures.served in (
+      came.0,
+      subst (λ v. IsValueServed v (lake_of c.args.session.now) came.0)
+          (ap line_view (sym c.in-Ok-Request.field-0-is) ∙ c.in-Ok-Request.ensures.read) came.1,
+      came.2,
+      came.3,
+      came.4,
+      came.5,
+      came.6,
+    )
 
 pub returns-in-Err-clause-served : goal.returns-in-Err-clause-served
 returns-in-Err-clause-served g c = (

@@ -27,4 +27,5 @@ returns-clause-all c =
     let read : c.in_ok-first.first ≡ prefix = c.in_ok-first.ensures.1 ∙ c.as_slice.ensures in
     let under = rw c.in_default.is at c.in_ok-path.ensures in
     let none : IsNoneUnder prefix rows.entries = subst (λ p. IsNoneUnder p rows.entries) read under in
-    sym (reset_nothing (Prefix prefix) (from_entries {R = byte_order} rows.entries) (λ q d. get-from_entries nat_list_cmp_total rows.entries q ∙ none q d)) ∙ c.loop-first.invariant
+    sym (reset_nothing (Prefix prefix) (from_entries {R = byte_order} rows.entries) (λ q d. get-from_entries nat_list_cmp_total rows.entries q ∙ none q d))
+    ∙ c.loop-first.invariant

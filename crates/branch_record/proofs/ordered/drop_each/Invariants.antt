@@ -8,7 +8,8 @@ use Rattle.branch_record.proofs.ordered.drop_each.Given as goal
 -- what the reset leaves is what it leaves of all
 abbrev pub invariant-loop-first : goal.invariant-loop-first
 invariant-loop-first l =
-    changes_after_reset (Prefix l.prefix) (from_entries {R = byte_order} l.rows.entries) ≡ changes_after_reset (Prefix l.prefix) (from_entries l.initial.rows.entries)
+    changes_after_reset (Prefix l.prefix) (from_entries {R = byte_order} l.rows.entries)
+    ≡ changes_after_reset (Prefix l.prefix) (from_entries l.initial.rows.entries)
 
 abbrev pub decreases-loop-first : goal.decreases-loop-first
 decreases-loop-first l = length l.rows.entries

@@ -11,14 +11,16 @@ returns-in_ok-copy-in-Some c =
     let prefix = c.args.prefix.now in
     let begins : starts_with nat_eq c.in-Some.path.now prefix ≡ true = cc in
     subst (IsUnder prefix m.entries) (sym c.in_ok-copy-in-Some.ensures.equal)
-    (one_found m prefix c.range.result (c.range.ensures.in_range tt) (c.in-Some.path.now, c.in-Some.field-0-1.now) c.next.new.self c.in-Some.ensures.steps begins)
+    (one_found m prefix c.range.result (c.range.ensures.in_range tt)
+    (c.in-Some.path.now, c.in-Some.field-0-1.now) c.next.new.self c.in-Some.ensures.steps begins)
 
 pub returns-else-starts_with : goal.returns-else-starts_with
 returns-else-starts_with c =
     let m = c.args.rows.now in
     let prefix = c.args.prefix.now in
     let begins : starts_with nat_eq c.in-Some.path.now prefix ≡ false = cc in
-    other_found m prefix c.range.result (c.range.ensures.in_range tt) (c.in-Some.path.now, c.in-Some.field-0-1.now) c.next.new.self c.in-Some.ensures.steps begins
+    other_found m prefix c.range.result (c.range.ensures.in_range tt)
+    (c.in-Some.path.now, c.in-Some.field-0-1.now) c.next.new.self c.in-Some.ensures.steps begins
 
 pub returns-in-None : goal.returns-in-None
 returns-in-None c = none_found c.args.rows.now c.args.prefix.now c.range.result (c.range.ensures.in_range tt) c.in-None.ensures.steps.0

@@ -27,4 +27,5 @@ returns-in_ok-older-in_default t c =
     let back = c.split_at.result.1.now in
     let parts : front ++ back ≡ named = (λ i. c.split_at.ensures.front i ++ c.split_at.ensures.back i) ∙ take-append-drop _ named in
     IfOk-weaker c.over.result (λ x. x ≡ over c.in_ok-newer-in_default.newer c.in_ok-older-in_default.older) (λ x. x ≡ layers_of tokens named)
-    (λ x e. e ∙ (λ i. over (c.in_ok-newer-in_default.ensures i) (c.in_ok-older-in_default.ensures i)) ∙ sym (layers_joined tokens front back) ∙ ap (layers_of tokens) parts) c.over.ensures
+    (λ x e. e ∙ (λ i. over (c.in_ok-newer-in_default.ensures i) (c.in_ok-older-in_default.ensures i)) ∙ sym (layers_joined tokens front back)
+    ∙ ap (layers_of tokens) parts) c.over.ensures

@@ -16,6 +16,7 @@ returns c =
     let sealed = c.args.sealed.now in
     let set = c.in_ok-tokens.tokens in
     let made = c.in_ok-tokens.ensures in (
-      λ same. distinct_more c.args.staging sealed (sym c.contains.ensures.value ∙ c.if-contains.false) (distinct_from_len sealed set made (sym c.len.ensures.len ∙ eqb-true _ _ same)),
+      λ same. distinct_more c.args.staging sealed (sym c.contains.ensures.value ∙ c.if-contains.false)
+          (distinct_from_len sealed set made (sym c.len.ensures.len ∙ eqb-true _ _ same)),
       λ h. eq-eqb _ _ (c.len.ensures.len ∙ len_from_distinct sealed set made (rest_distinct c.args.staging sealed h)),
     )

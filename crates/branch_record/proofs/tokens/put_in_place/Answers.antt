@@ -11,7 +11,8 @@ pub returns-clause-put : goal.returns-clause-put
 returns-clause-put c =
     let rows = c.make_place.new.changes.entries in
     let written = (c.get_mut.follows.holds c.set.new.self).3 (sym (ap is_some c.in-Some.ensures.value)) in
-    let both = rows_written rows (c.get_mut.follows.lender c.set.new.self).entries c.args.token c.in-Some.under.now c.set.new.self c.in-Some.ensures.value written.0 in
+    let both =
+    rows_written rows (c.get_mut.follows.lender c.set.new.self).entries c.args.token c.in-Some.under.now c.set.new.self c.in-Some.ensures.value written.0 in
     on_ok_weaker c.set.result (λ e.
     both.1
     ∙ ap (with_changes (tokens_of rows) c.args.token) (e ∙ ap (λ m. insert m c.args.path c.args.change) both.0)
@@ -22,6 +23,7 @@ pub returns-clause-unchanged : goal.returns-clause-unchanged
 returns-clause-unchanged c =
     let rows = c.make_place.new.changes.entries in
     let written = (c.get_mut.follows.holds c.set.new.self).3 (sym (ap is_some c.in-Some.ensures.value)) in
-    let both = rows_written rows (c.get_mut.follows.lender c.set.new.self).entries c.args.token c.in-Some.under.now c.set.new.self c.in-Some.ensures.value written.0 in
+    let both =
+    rows_written rows (c.get_mut.follows.lender c.set.new.self).entries c.args.token c.in-Some.under.now c.set.new.self c.in-Some.ensures.value written.0 in
     on_err_weaker c.set.result (λ e.
     both.1 ∙ ap (with_changes (tokens_of rows) c.args.token) (e ∙ both.0) ∙ with_same rows c.args.token ∙ c.make_place.ensures.same) c.set.ensures.unchanged

@@ -1,4 +1,5 @@
-use Rattle.byte_map.proofs.ByteMapLemmas.{get_insert, get_remove, get_inserted, get_removed, contains_insert, contains_remove, insert_same, remove_absent, insert_over, remove_inserted, same_maps}
+use Rattle.byte_map.proofs.ByteMapLemmas.{get_insert, get_remove, get_inserted, get_removed, contains_insert, contains_remove, insert_same, remove_absent}
+use Rattle.byte_map.proofs.ByteMapLemmas.{insert_over, remove_inserted, same_maps}
 use Rattle.byte_map.proofs.laws.laws_of_maps.Goals as goal
 
 pub returns : goal.returns

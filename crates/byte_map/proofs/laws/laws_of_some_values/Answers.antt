@@ -1,4 +1,5 @@
-use Rattle.byte_map.proofs.ValuesLemmas.{entries_some_values, get_some_values, some_values_insert, some_values_insert_none, some_values_remove, some_values_empty}
+use Rattle.byte_map.proofs.ValuesLemmas.{entries_some_values, get_some_values, some_values_insert, some_values_insert_none, some_values_remove}
+use Rattle.byte_map.proofs.ValuesLemmas.{some_values_empty}
 use Rattle.byte_map.proofs.laws.laws_of_some_values.Goals as goal
 
 pub returns : goal.returns

@@ -10,5 +10,6 @@ invariant_of-commit c =
     record {
       remark = record { some = committer.long; short = committer.short; short_message = message.short };
       counted = (generation_is c.in_ok-meta_range.rest.now c.in_ok-generation.generation c.in_ok-generation.rest.now c.in_ok-generation.ensures).1;
-      few = subst (λ ids. length ids ≤ 2) (sym c.of.ensures) (parents_few c.in_ok-date.rest.now c.in_ok-parents.parents.items c.in_ok-parents.rest.now c.in_ok-parents.ensures);
+      few = subst (λ ids. length ids ≤ 2) (sym c.of.ensures)
+          (parents_few c.in_ok-date.rest.now c.in_ok-parents.parents.items c.in_ok-parents.rest.now c.in_ok-parents.ensures);
     }

@@ -10,4 +10,5 @@ loop-rest-smaller c =
 pub loop-rest-preserved : goal.loop-rest-preserved
 loop-rest-preserved c =
     let read = move_read c.loop-rest.rest.now c.in-Some.one c.in-Some.after.now (sym c.in-Some.ensures) in
-    subst (λ l. IsScanned c.args.bytes.now l c.in-Some.after.now) (sym c.in_ok-push.ensures.items) (scanned_more c.args.bytes.now c.loop-rest.moves.items c.loop-rest.rest.now c.in-Some.after.now c.in-Some.one c.loop-rest.invariant read)
+    subst (λ l. IsScanned c.args.bytes.now l c.in-Some.after.now) (sym c.in_ok-push.ensures.items)
+    (scanned_more c.args.bytes.now c.loop-rest.moves.items c.loop-rest.rest.now c.in-Some.after.now c.in-Some.one c.loop-rest.invariant read)

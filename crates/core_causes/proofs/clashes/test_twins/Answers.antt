@@ -5,7 +5,8 @@ use Rattle.lake_model.specs.Refusals.{clash_fault}
 use Rattle.core_causes.specs.Clashing.{first_twins}
 use Rattle.core_causes.proofs.FaultLemmas.{fault_told}
 use Rattle.core_causes.proofs.PlaceLemmas.{no_twins, tells_on, twin_new, twin_on, twin_told}
-use Rattle.core_causes.proofs.clashes.test_twins.Goals.{else-loop-place-test, then-loop-place-test+in_ok-first+else-place-place-end, in-Some+in_ok-test_twin, in_default}
+use Rattle.core_causes.proofs.clashes.test_twins.Goals.{else-loop-place-test, then-loop-place-test+in_ok-first+else-place-place-end, in-Some+in_ok-test_twin}
+use Rattle.core_causes.proofs.clashes.test_twins.Goals.{in_default}
 use Rattle.core_causes.proofs.clashes.test_twins.Goals as goal
 
 pub returns-in_err-test_twin : goal.returns-in_err-test_twin
@@ -51,7 +52,8 @@ returns c =
           let told = w.in_ok-first.ensures.0 ∙ ap (place_in old) w.file_name.ensures in
           no_twins files (place + 1) past (elim w.match-branch-2.branch [
             | in-Some+in_ok-test_twin v ↦
-                twin_on files place within old c.loop-place.invariant.0 c.loop-place.invariant.1 v.in-Some.first (sym v.in-Some.is ∙ told) v.in_ok-test_twin.ensures
+                twin_on files place within old c.loop-place.invariant.0 c.loop-place.invariant.1 v.in-Some.first (sym v.in-Some.is ∙ told)
+                v.in_ok-test_twin.ensures
             | in_default v ↦ twin_new files place within old c.loop-place.invariant.0 c.loop-place.invariant.1 (sym v.in_default.is ∙ told)
           ])
     ]

@@ -35,7 +35,8 @@ returns-then-is_some c =
     let r = repository_value c.in_ok-repository.repository.now in
     taken_first l c.args.repo.now r c.in_ok-repository.ensures c.in_ok-test_change.ensures c.args.e.now (branch_cause l c.args.repo.now c.args.name.now)
     c.in_ok-head.head (sym c.in_ok-head.ensures.target)
-    (branch_taken l c.args.repo.now r c.in_ok-repository.ensures c.args.name.now true (found_some branch_value _ _ c.branch-other.ensures ∙ sym c.if-is_some.ensures))
+    (branch_taken l c.args.repo.now r c.in_ok-repository.ensures c.args.name.now true
+    (found_some branch_value _ _ c.branch-other.ensures ∙ sym c.if-is_some.ensures))
 
 pub returns : goal.returns
 returns c =
@@ -43,5 +44,6 @@ returns c =
     let r = repository_value c.in_ok-repository.repository.now in
     creation_answer l c.args.repo.now r c.in_ok-repository.ensures c.in_ok-test_change.ensures c.args.e.now (branch_cause l c.args.repo.now c.args.name.now)
     c.in_ok-head.head (sym c.in_ok-head.ensures.target) c.test_live.result
-    (branch_taken l c.args.repo.now r c.in_ok-repository.ensures c.args.name.now false (found_some branch_value _ _ c.branch-other.ensures ∙ sym c.if-is_some.ensures))
+    (branch_taken l c.args.repo.now r c.in_ok-repository.ensures c.args.name.now false
+    (found_some branch_value _ _ c.branch-other.ensures ∙ sym c.if-is_some.ensures))
     c.test_live.ensures

@@ -18,7 +18,8 @@ pub returns-in_err-branch_at : goal.returns-in_err-branch_at
 returns-in_err-branch_at c =
     let l = lake_value c.args.lake.now in
     let r = repository_value c.in_ok-repository.repository.now in
-    without_branch l c.args.repo.now r c.in_ok-repository.ensures _ c.args.branch.now (causes_of_change (state_of l)) (change_passes (state_of l) c.in_ok-test_change.ensures)
+    without_branch l c.args.repo.now r c.in_ok-repository.ensures _ c.args.branch.now (causes_of_change (state_of l))
+    (change_passes (state_of l) c.in_ok-test_change.ensures)
     _ _ c.from_residual-in_err-branch_at.ensures.1 c.in_err-branch_at.ensures
 
 pub returns : goal.returns

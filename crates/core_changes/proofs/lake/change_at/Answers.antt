@@ -5,7 +5,8 @@ use Rattle.core_changes.proofs.lake.change_at.Goals as goal
 
 pub change_here-requires-clause-possible : goal.change_here-requires-clause-possible
 change_here-requires-clause-possible c =
-    asked_there repository_value c.args.repositories.now c.args.repo.now (FitsRepository c.args.change) c.requires.possible c.in-Some.place.now c.in-Some.ensures.value
+    asked_there repository_value c.args.repositories.now c.args.repo.now (FitsRepository c.args.change) c.requires.possible c.in-Some.place.now
+    c.in-Some.ensures.value
 
 pub returns-in-Some : goal.returns-in-Some
 returns-in-Some c =

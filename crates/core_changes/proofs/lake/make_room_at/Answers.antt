@@ -12,7 +12,8 @@ unfolding lake_value
 returns-in-Some-clause-same c =
     let l = lake_value c.args.lake.now in
     ap (λ (m : ByteMap RepositoryStateValue). record l { repositories = m })
-    (same_place repository_value c.args.lake.now.repositories c.args.repo.now c.in-Some.place.now c.make_room_here.new.place c.in-Some.ensures.value c.make_room_here.ensures.same)
+    (same_place repository_value c.args.lake.now.repositories c.args.repo.now c.in-Some.place.now c.make_room_here.new.place c.in-Some.ensures.value
+    c.make_room_here.ensures.same)
 
 pub returns-in-Some-clause-room : goal.returns-in-Some-clause-room
 returns-in-Some-clause-room c =

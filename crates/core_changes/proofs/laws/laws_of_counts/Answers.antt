@@ -5,7 +5,8 @@ use Rattle.lake_model.specs.Versions.{settings_version}
 use Rattle.core_state.specs.BranchStates.{new_branch}
 use Rattle.core_changes.specs.declared.branch.BranchChange.TheVariants.{Reset, Seal}
 use Rattle.core_changes.specs.BranchChanges.{branch_after}
-use Rattle.core_changes.proofs.CountLemmas.{branch_begins, branch_goes, lake_rises, lake_versions, settings_rise, stage_stays, ticketed_stays, versions_of, versions_rise, versions_stay}
+use Rattle.core_changes.proofs.CountLemmas.{branch_begins, branch_goes, lake_rises, lake_versions, settings_rise, stage_stays, ticketed_stays, versions_of}
+use Rattle.core_changes.proofs.CountLemmas.{versions_rise, versions_stay}
 use Rattle.core_changes.proofs.FoundingLemmas.{created_rises}
 use Rattle.core_changes.proofs.laws.laws_of_counts.Goals as goal
 
@@ -21,7 +22,8 @@ returns-clause-reset c given l by repo branch what has =
 
 pub returns-clause-seal : goal.returns-clause-seal
 returns-clause-seal c given l by repo branch why has =
-    lake_versions _ _ (ap (λ n. n + 1) has.next) has.references (lake_rises given l repo branch (branch_after (Seal l.next_token l.next_version)) (λ b. refl) has)
+    lake_versions _ _ (ap (λ n. n + 1) has.next) has.references
+    (lake_rises given l repo branch (branch_after (Seal l.next_token l.next_version)) (λ b. refl) has)
 
 pub returns-clause-branch_create : goal.returns-clause-branch_create
 returns-clause-branch_create c given l by repo branch commit has =

@@ -1,6 +1,7 @@
 use Rattle.std.proofs.Common.{refl}
 use Rattle.lake_model.specs.Uncommitted.{put_number}
-use Rattle.core_changes.specs.LakeChanges.{after_branch_create, after_branch_delete, after_copy, after_fault, after_note_set, after_reset, after_seal, after_tag_create, after_tag_delete, after_ticket_drop, after_ticket_take}
+use Rattle.core_changes.specs.LakeChanges.{after_branch_create, after_branch_delete, after_copy, after_fault, after_note_set, after_reset, after_seal}
+use Rattle.core_changes.specs.LakeChanges.{after_tag_create, after_tag_delete, after_ticket_drop, after_ticket_take}
 use Rattle.core_changes.proofs.IndexLemmas.{index_changed, index_stays, index_ticketed}
 use Rattle.core_changes.proofs.NewIndexLemmas.{index_made}
 use Rattle.core_changes.proofs.laws.laws_of_indexes.Goals as goal

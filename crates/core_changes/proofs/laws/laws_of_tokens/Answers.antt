@@ -3,7 +3,8 @@ use Rattle.lake_values.specs.declared.entry.Change.TheVariants.{Put}
 use Rattle.lake_model.specs.Uncommitted.{put_number}
 use Rattle.core_state.specs.BranchStates.{new_branch}
 use Rattle.core_changes.proofs.FoundingLemmas.{created_below}
-use Rattle.core_changes.proofs.TokenLemmas.{below_later, dropped_below, gone_below, made_below, new_below, others_below, seal_below, stage_below, ticketed_below}
+use Rattle.core_changes.proofs.TokenLemmas.{below_later, dropped_below, gone_below, made_below, new_below, others_below, seal_below, stage_below}
+use Rattle.core_changes.proofs.TokenLemmas.{ticketed_below}
 use Rattle.core_changes.proofs.laws.laws_of_tokens.Goals as goal
 
 pub returns-clause-stage : goal.returns-clause-stage
@@ -20,7 +21,8 @@ returns-clause-seal c l repo branch below = seal_below l below repo branch l.nex
 
 pub returns-clause-branch_create : goal.returns-clause-branch_create
 returns-clause-branch_create c l repo branch commit below =
-    made_below l below (l.next_token + 1) (below_later l.next_token) repo branch (new_branch l.next_version commit l.next_token) (new_below l.next_version commit l.next_token)
+    made_below l below (l.next_token + 1) (below_later l.next_token) repo branch (new_branch l.next_version commit l.next_token)
+    (new_below l.next_version commit l.next_token)
 
 pub returns-clause-branch_delete : goal.returns-clause-branch_delete
 returns-clause-branch_delete c l repo branch below = gone_below l below repo branch

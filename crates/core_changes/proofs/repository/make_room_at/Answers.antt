@@ -6,7 +6,8 @@ use Rattle.core_changes.proofs.repository.make_room_at.Goals as goal
 
 pub returns-in-Some-clause-same : goal.returns-in-Some-clause-same
 returns-in-Some-clause-same c =
-    same_place branch_value c.args.branches.now c.args.name.now c.in-Some.place.now c.make_room_here.new.place c.in-Some.ensures.value c.make_room_here.ensures.same
+    same_place branch_value c.args.branches.now c.args.name.now c.in-Some.place.now c.make_room_here.new.place c.in-Some.ensures.value
+    c.make_room_here.ensures.same
 
 pub returns-in-Some-clause-room : goal.returns-in-Some-clause-room
 returns-in-Some-clause-room c =

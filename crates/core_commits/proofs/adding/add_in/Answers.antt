@@ -11,13 +11,15 @@ use Rattle.core_commits.proofs.adding.add_in.Goals as goal
 pub remove-requires : goal.remove-requires
 remove-requires c =
     let fresh = ap (λ id. get c.args.repository.now.graph id.0) c.in-Ok.ensures.added.0 ∙ c.requires.absent in
-    subst IsSound (sym (taken_out c.args.repository.now.graph c.add.new.self c.in-Ok.id.0 c.args.commit c.in-Ok.ensures.added.1 fresh)) c.len-count.ensures.valid
+    subst IsSound (sym (taken_out c.args.repository.now.graph c.add.new.self c.in-Ok.id.0 c.args.commit c.in-Ok.ensures.added.1 fresh))
+    c.len-count.ensures.valid
 
 pub returns-then-is_err-clause-same : goal.returns-then-is_err-clause-same
 returns-then-is_err-clause-same c =
     let fresh = ap (λ id. get c.args.repository.now.graph id.0) c.in-Ok.ensures.added.0 ∙ c.requires.absent in
     let graph = c.remove.ensures ∙ taken_out c.args.repository.now.graph c.add.new.self c.in-Ok.id.0 c.args.commit c.in-Ok.ensures.added.1 fresh in
-    on_err_weaker c.insert-put.result (λ trees i. repository_value (record c.args.repository.now { graph = graph i; trees = trees i })) c.insert-put.ensures.unchanged
+    on_err_weaker c.insert-put.result (λ trees i. repository_value (record c.args.repository.now { graph = graph i; trees = trees i }))
+    c.insert-put.ensures.unchanged
 
 pub returns-else-is_err-clause-added : goal.returns-else-is_err-clause-added
 returns-else-is_err-clause-added c =

@@ -17,7 +17,8 @@ loop-file-preserved c =
     let files = c.args.files.now in
     let at = c.loop-file.file-index in
     let file = c.file-item.result in
-    let before = each_weaker (HasPlace c.loop-file.places) (HasPlace places) (take at files) (λ other. c.make_place.ensures.kept other.name.0) c.loop-file.invariant.room in
+    let before =
+    each_weaker (HasPlace c.loop-file.places) (HasPlace places) (take at files) (λ other. c.make_place.ensures.kept other.name.0) c.loop-file.invariant.room in
     record {
       same = same_values {X = FilePlaceValue} (λ place. place.bytes) c.loop-file.places places c.make_place.ensures.same ∙ c.loop-file.invariant.same;
       room =

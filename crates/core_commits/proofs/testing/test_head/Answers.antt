@@ -6,7 +6,8 @@ use Rattle.core_state.specs.LakeStates.{lake_value, state_of}
 use Rattle.core_state.specs.RepositoryStates.{repository_value}
 use Rattle.core_causes.specs.Guarding.{guard_causes}
 use Rattle.core_commits.specs.HeadOperations.{IsDrafted}
-use Rattle.core_commits.proofs.TestingLemmas.{guard_refused, head_found, head_is, head_passed, live_refused, made_from, names_refused, room_found, starved, trees_found}
+use Rattle.core_commits.proofs.TestingLemmas.{guard_refused, head_found, head_is, head_passed, live_refused, made_from, names_refused, room_found, starved}
+use Rattle.core_commits.proofs.TestingLemmas.{trees_found}
 use Rattle.core_commits.proofs.testing.test_head.Goals as goal
 
 pub returns-in_err-repository-clause-asks : goal.returns-in_err-repository-clause-asks
@@ -36,7 +37,8 @@ returns-in_err-test_live_head-clause-asks c given has =
     let new = c.in_ok-new.new in
     let drafts = subst (λ (about : AboutValue). IsDrafted l.cut r b c.args.kind about c.args.tree new) c.in_ok-copy.ensures.equal (c.in_ok-new.ensures l.cut) in
     live_refused l c.requires.sound c.requires.index c.args.repo.now c.args.branch.now c.args.kind c.args.about.now c.args.guard.version c.args.guard.settings
-    c.args.tree c.requires.tree c.asks_protection.result (c.asks_protection.ensures c.args.about.now) r b c.in_ok-repository.ensures (c.law_of_versions.ensures l)
+    c.args.tree c.requires.tree c.asks_protection.result (c.asks_protection.ensures c.args.about.now) r b c.in_ok-repository.ensures
+    (c.law_of_versions.ensures l)
     new drafts c.source_of.result (c.source_of.ensures c.args.about.now) c.in_err-test_live_head.field-0.0 c.in_err-test_live_head.ensures given has
     c.from_residual-in_err-test_live_head.result c.from_residual-in_err-test_live_head.ensures.1
 
@@ -51,7 +53,8 @@ provenance_of-requires-clause-head c =
     let r = repository_value c.in_ok-repository.repository.now in
     let b = branch_value c.in_ok-repository.found.now in
     head_is l c.requires.sound c.requires.index c.args.repo.now c.args.branch.now c.args.kind c.args.about.now c.args.guard.version c.args.guard.settings
-    c.args.tree c.requires.tree c.asks_protection.result (c.asks_protection.ensures c.args.about.now) r b c.in_ok-repository.ensures (c.law_of_versions.ensures l)
+    c.args.tree c.requires.tree c.asks_protection.result (c.asks_protection.ensures c.args.about.now) r b c.in_ok-repository.ensures
+    (c.law_of_versions.ensures l)
 
 pub returns-in_err-provenance-clause-asks : goal.returns-in_err-provenance-clause-asks
 returns-in_err-provenance-clause-asks c given has =
@@ -66,7 +69,8 @@ test_new_commit-requires-clause-made c =
     let new = c.in_ok-new.new in
     let drafts = subst (λ (about : AboutValue). IsDrafted l.cut r b c.args.kind about c.args.tree new) c.in_ok-copy.ensures.equal (c.in_ok-new.ensures l.cut) in
     made_from l c.requires.sound c.requires.index c.args.repo.now c.args.branch.now c.args.kind c.args.about.now c.args.guard.version c.args.guard.settings
-    c.args.tree c.requires.tree c.asks_protection.result (c.asks_protection.ensures c.args.about.now) r b c.in_ok-repository.ensures (c.law_of_versions.ensures l)
+    c.args.tree c.requires.tree c.asks_protection.result (c.asks_protection.ensures c.args.about.now) r b c.in_ok-repository.ensures
+    (c.law_of_versions.ensures l)
     new drafts c.deref.result.now c.deref.ensures c.in_ok-provenance.provenance (c.in_ok-provenance.ensures.made c.args.about.now)
 
 pub test_new_commit-requires-clause-found : goal.test_new_commit-requires-clause-found
@@ -75,7 +79,8 @@ test_new_commit-requires-clause-found c =
     let r = repository_value c.in_ok-repository.repository.now in
     let b = branch_value c.in_ok-repository.found.now in
     trees_found l c.requires.sound c.requires.index c.args.repo.now c.args.branch.now c.args.kind c.args.about.now c.args.guard.version c.args.guard.settings
-    c.args.tree c.requires.tree c.asks_protection.result (c.asks_protection.ensures c.args.about.now) r b c.in_ok-repository.ensures (c.law_of_versions.ensures l)
+    c.args.tree c.requires.tree c.asks_protection.result (c.asks_protection.ensures c.args.about.now) r b c.in_ok-repository.ensures
+    (c.law_of_versions.ensures l)
     c.in_ok-provenance.provenance c.in_ok-provenance.ensures.trees
 
 pub returns-in_err-test_new_commit-clause-asks : goal.returns-in_err-test_new_commit-clause-asks
@@ -86,8 +91,10 @@ returns-in_err-test_new_commit-clause-asks c given has =
     let new = c.in_ok-new.new in
     let drafts = subst (λ (about : AboutValue). IsDrafted l.cut r b c.args.kind about c.args.tree new) c.in_ok-copy.ensures.equal (c.in_ok-new.ensures l.cut) in
     names_refused l c.requires.sound c.requires.index c.args.repo.now c.args.branch.now c.args.kind c.args.about.now c.args.guard.version c.args.guard.settings
-    c.args.tree c.requires.tree c.asks_protection.result (c.asks_protection.ensures c.args.about.now) r b c.in_ok-repository.ensures (c.law_of_versions.ensures l)
-    new drafts c.source_of.result (c.source_of.ensures c.args.about.now) c.in_ok-test_live_head.ensures c.deref.result.now c.deref.ensures c.in_err-test_new_commit.field-0.0 c.in_err-test_new_commit.ensures given has
+    c.args.tree c.requires.tree c.asks_protection.result (c.asks_protection.ensures c.args.about.now) r b c.in_ok-repository.ensures
+    (c.law_of_versions.ensures l)
+    new drafts c.source_of.result (c.source_of.ensures c.args.about.now) c.in_ok-test_live_head.ensures c.deref.result.now c.deref.ensures
+    c.in_err-test_new_commit.field-0.0 c.in_err-test_new_commit.ensures given has
     c.from_residual-in_err-test_new_commit.result c.from_residual-in_err-test_new_commit.ensures.1
 
 pub law_of_standing-requires : goal.law_of_standing-requires
@@ -101,8 +108,10 @@ returns-clause-asks c given has =
     let new = c.in_ok-new.new in
     let drafts = subst (λ (about : AboutValue). IsDrafted l.cut r b c.args.kind about c.args.tree new) c.in_ok-copy.ensures.equal (c.in_ok-new.ensures l.cut) in
     head_passed l c.requires.sound c.requires.index c.args.repo.now c.args.branch.now c.args.kind c.args.about.now c.args.guard.version c.args.guard.settings
-    c.args.tree c.requires.tree c.asks_protection.result (c.asks_protection.ensures c.args.about.now) r b c.in_ok-repository.ensures (c.law_of_versions.ensures l)
-    new drafts c.source_of.result (c.source_of.ensures c.args.about.now) c.in_ok-test_live_head.ensures c.deref.result.now c.deref.ensures _ c.in_ok-test_new_commit.ensures new given has
+    c.args.tree c.requires.tree c.asks_protection.result (c.asks_protection.ensures c.args.about.now) r b c.in_ok-repository.ensures
+    (c.law_of_versions.ensures l)
+    new drafts c.source_of.result (c.source_of.ensures c.args.about.now) c.in_ok-test_live_head.ensures c.deref.result.now c.deref.ensures _
+    c.in_ok-test_new_commit.ensures new given has
 
 pub returns-clause-found : goal.returns-clause-found
 returns-clause-found c =
@@ -112,8 +121,10 @@ returns-clause-found c =
     let new = c.in_ok-new.new in
     let drafts = subst (λ (about : AboutValue). IsDrafted l.cut r b c.args.kind about c.args.tree new) c.in_ok-copy.ensures.equal (c.in_ok-new.ensures l.cut) in
     head_found l c.requires.sound c.requires.index c.args.repo.now c.args.branch.now c.args.kind c.args.about.now c.args.guard.version c.args.guard.settings
-    c.args.tree c.requires.tree c.asks_protection.result (c.asks_protection.ensures c.args.about.now) r b c.in_ok-repository.ensures (c.law_of_versions.ensures l)
-    new drafts c.source_of.result (c.source_of.ensures c.args.about.now) c.in_ok-test_live_head.ensures c.deref.result.now c.deref.ensures _ c.in_ok-test_new_commit.ensures c.law_of_standing.ensures
+    c.args.tree c.requires.tree c.asks_protection.result (c.asks_protection.ensures c.args.about.now) r b c.in_ok-repository.ensures
+    (c.law_of_versions.ensures l)
+    new drafts c.source_of.result (c.source_of.ensures c.args.about.now) c.in_ok-test_live_head.ensures c.deref.result.now c.deref.ensures _
+    c.in_ok-test_new_commit.ensures c.law_of_standing.ensures
 
 pub returns-clause-room : goal.returns-clause-room
 returns-clause-room c =
@@ -121,4 +132,5 @@ returns-clause-room c =
     let r = repository_value c.in_ok-repository.repository.now in
     let b = branch_value c.in_ok-repository.found.now in
     room_found l c.requires.sound c.requires.index c.args.repo.now c.args.branch.now c.args.kind c.args.about.now c.args.guard.version c.args.guard.settings
-    c.args.tree c.requires.tree c.asks_protection.result (c.asks_protection.ensures c.args.about.now) r b c.in_ok-repository.ensures (c.law_of_versions.ensures l)
+    c.args.tree c.requires.tree c.asks_protection.result (c.asks_protection.ensures c.args.about.now) r b c.in_ok-repository.ensures
+    (c.law_of_versions.ensures l)

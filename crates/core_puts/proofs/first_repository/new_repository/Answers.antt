@@ -22,6 +22,7 @@ returns c =
       commit = is.name;
       home = c.in_ok-home.ensures.equal;
       file = ap (λ file. file.name) c.requires.metarange ∙ file_named cut;
-      place = ap (λ (p : FilePlaceValue). p.bytes) c.of-place.ensures ∙ ap (λ (t : TreeValue). file_at t.files 0) (c.in_ok-clone.ensures.cases ∙ c.requires.tree)
+      place =
+          ap (λ (p : FilePlaceValue). p.bytes) c.of-place.ensures ∙ ap (λ (t : TreeValue). file_at t.files 0) (c.in_ok-clone.ensures.cases ∙ c.requires.tree)
           ∙ ap (λ all. file_at all 0) (one_file cut);
     }

@@ -18,7 +18,8 @@ pub loop-path-init : goal.loop-path-init
 loop-path-init c =
     let start = reset_start c.args.what.now in
     let under = changes_under c.args.tokens.now.changes c.args.token in
-    let is : c.seek.new.self ≡ entries_from start (entries under) = c.seek.ensures ∙ (λ i. entries_from (c.reset_start.ensures i) (c.changes_of-changes.ensures i)) in
+    let is : c.seek.new.self ≡ entries_from start (entries under) =
+    c.seek.ensures ∙ (λ i. entries_from (c.reset_start.ensures i) (c.changes_of-changes.ensures i)) in
     record {
       removals =
           ap (λ (rows : Rows). c.args.puts.now.items ++ removals_at c.args.what.now c.args.token (map (λ row. row.0) rows)) is

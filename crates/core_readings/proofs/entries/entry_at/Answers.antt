@@ -20,4 +20,5 @@ returns-in_None-branch c =
     let r = repository_value c.args.repository.now in
     let e = c.args.e.now in
     c.map_entry-in_None-branch.ensures
-    ∙ ap (λ m. get m c.args.path.now) (sym (on_none (repository_of r) e c.args.id.now (found_branch r e.name None (c.in_None-branch.ensures ∙ ap (λ (x : RefExprValue). get r.branches x.name) c.e.view_is))))
+    ∙ ap (λ m. get m c.args.path.now) (sym (on_none (repository_of r) e c.args.id.now
+    (found_branch r e.name None (c.in_None-branch.ensures ∙ ap (λ (x : RefExprValue). get r.branches x.name) c.e.view_is))))

@@ -15,12 +15,14 @@ pub returns-in-Some-commit_of : goal.returns-in-Some-commit_of
 unfolding lake_value
 returns-in-Some-commit_of c =
     ap (λ (o : Option Digest). option_map_or (λ id. Ok (c.args.lake.now.entries, id)) o (Err NoRef)) c.in-Some-commit_of.ensures
-    ∙ in_some (lake_value c.args.lake.now) c.args.repo.now (λ (r : Repository). option_map_or (λ id. Ok (c.args.lake.now.entries, id)) (name_in r c.args.tags c.args.name.now) (Err NoRef))
+    ∙ in_some (lake_value c.args.lake.now) c.args.repo.now
+    (λ (r : Repository). option_map_or (λ id. Ok (c.args.lake.now.entries, id)) (name_in r c.args.tags c.args.name.now) (Err NoRef))
     c.in-Some.repository.now c.in-Some.ensures
 
 pub returns-in-None : goal.returns-in-None
 unfolding lake_value
 returns-in-None c =
     ap (λ (o : Option Digest). option_map_or (λ id. Ok (c.args.lake.now.entries, id)) o (Err NoRef)) c.in-None.ensures
-    ∙ in_some (lake_value c.args.lake.now) c.args.repo.now (λ (r : Repository). option_map_or (λ id. Ok (c.args.lake.now.entries, id)) (name_in r c.args.tags c.args.name.now) (Err NoRef))
+    ∙ in_some (lake_value c.args.lake.now) c.args.repo.now
+    (λ (r : Repository). option_map_or (λ id. Ok (c.args.lake.now.entries, id)) (name_in r c.args.tags c.args.name.now) (Err NoRef))
     c.in-Some.repository.now c.in-Some.ensures

@@ -12,4 +12,5 @@ unfolding lake_value
 returns c =
     let l = lake_value c.args.lake.now in
     (λ i. Ok (record { at = l.entries; values = c.in_ok-found.ensures.names i; more = c.in_ok-found.ensures.more i }))
-    ∙ in_some l c.args.repo.now (λ r. Ok (first_values (state_of l) c.args.amount (names_above r c.args.tags c.args.after.now))) c.in-Some.repository.now c.in-Some.ensures
+    ∙ in_some l c.args.repo.now (λ r. Ok (first_values (state_of l) c.args.amount (names_above r c.args.tags c.args.after.now))) c.in-Some.repository.now
+    c.in-Some.ensures

@@ -14,5 +14,6 @@ unfolding lake_value
 returns-in-Own c =
     let state = state_of (lake_value c.args.lake.now) in
     c.contains_key.ensures ∙ contains_rows c.args.lake.now.gone.entries c.in-Own.number
-    ∙ ap (λ (place : Place). option_map_or (contains_key state.gone) (own_number place) false) (sym c.in-Own.is ∙ ap (λ (entry : EntryValue). entry.place) c.entry.view_is)
+    ∙ ap (λ (place : Place). option_map_or (contains_key state.gone) (own_number place) false)
+    (sym c.in-Own.is ∙ ap (λ (entry : EntryValue). entry.place) c.entry.view_is)
     ∙ ap (λ o. is_gone state (option_copied o)) (sym c.in-Some.is)

@@ -13,26 +13,32 @@ pub returns-in_Some-branch-clause-items : goal.returns-in_Some-branch-clause-ite
 returns-in_Some-branch-clause-items c =
     let r = repository_at c.args.repository.now in
     let is = on_branch r c.args.e.now c.args.id.now (sym c.is_plain_branch.ensures ∙ c.if-not-is_plain_branch.false) (branch_at c.in_Some-branch.branch.now)
-    (found_branch (repository_value c.args.repository.now) c.args.e.now.name (Some c.in_Some-branch.branch.now) (c.in_Some-branch.ensures ∙ ap (λ (e : RefExprValue). get (repository_value c.args.repository.now).branches e.name) c.e.view_is)) in
+    (found_branch (repository_value c.args.repository.now) c.args.e.now.name (Some c.in_Some-branch.branch.now)
+    (c.in_Some-branch.ensures ∙ ap (λ (e : RefExprValue). get (repository_value c.args.repository.now).branches e.name) c.e.view_is)) in
     subst (λ (map : KeyMapValue). IfOk c.page_on.result (λ page. page.items ≡ page_items c.args.query.now map)) (sym is) c.page_on.ensures.items
 
 pub returns-in_Some-branch-clause-more : goal.returns-in_Some-branch-clause-more
 returns-in_Some-branch-clause-more c =
     let r = repository_at c.args.repository.now in
     let is = on_branch r c.args.e.now c.args.id.now (sym c.is_plain_branch.ensures ∙ c.if-not-is_plain_branch.false) (branch_at c.in_Some-branch.branch.now)
-    (found_branch (repository_value c.args.repository.now) c.args.e.now.name (Some c.in_Some-branch.branch.now) (c.in_Some-branch.ensures ∙ ap (λ (e : RefExprValue). get (repository_value c.args.repository.now).branches e.name) c.e.view_is)) in
+    (found_branch (repository_value c.args.repository.now) c.args.e.now.name (Some c.in_Some-branch.branch.now)
+    (c.in_Some-branch.ensures ∙ ap (λ (e : RefExprValue). get (repository_value c.args.repository.now).branches e.name) c.e.view_is)) in
     subst (λ (map : KeyMapValue). IfOk c.page_on.result (λ page. page.has_more ≡ has_more c.args.query.now map)) (sym is) c.page_on.ensures.more
 
 pub returns-in_None-branch-clause-items : goal.returns-in_None-branch-clause-items
 returns-in_None-branch-clause-items c =
     let r = repository_at c.args.repository.now in
     let is = on_none r c.args.e.now c.args.id.now
-    (found_branch (repository_value c.args.repository.now) c.args.e.now.name None (c.in_None-branch.ensures ∙ ap (λ (e : RefExprValue). get (repository_value c.args.repository.now).branches e.name) c.e.view_is)) in
-    subst (λ (map : KeyMapValue). IfOk c.page_of_commit-in_None-branch.result (λ page. page.items ≡ page_items c.args.query.now map)) (sym is) c.page_of_commit-in_None-branch.ensures.items
+    (found_branch (repository_value c.args.repository.now) c.args.e.now.name None
+    (c.in_None-branch.ensures ∙ ap (λ (e : RefExprValue). get (repository_value c.args.repository.now).branches e.name) c.e.view_is)) in
+    subst (λ (map : KeyMapValue). IfOk c.page_of_commit-in_None-branch.result (λ page. page.items ≡ page_items c.args.query.now map))
+    (sym is) c.page_of_commit-in_None-branch.ensures.items
 
 pub returns-in_None-branch-clause-more : goal.returns-in_None-branch-clause-more
 returns-in_None-branch-clause-more c =
     let r = repository_at c.args.repository.now in
     let is = on_none r c.args.e.now c.args.id.now
-    (found_branch (repository_value c.args.repository.now) c.args.e.now.name None (c.in_None-branch.ensures ∙ ap (λ (e : RefExprValue). get (repository_value c.args.repository.now).branches e.name) c.e.view_is)) in
-    subst (λ (map : KeyMapValue). IfOk c.page_of_commit-in_None-branch.result (λ page. page.has_more ≡ has_more c.args.query.now map)) (sym is) c.page_of_commit-in_None-branch.ensures.more
+    (found_branch (repository_value c.args.repository.now) c.args.e.now.name None
+    (c.in_None-branch.ensures ∙ ap (λ (e : RefExprValue). get (repository_value c.args.repository.now).branches e.name) c.e.view_is)) in
+    subst (λ (map : KeyMapValue). IfOk c.page_of_commit-in_None-branch.result (λ page. page.has_more ≡ has_more c.args.query.now map))
+    (sym is) c.page_of_commit-in_None-branch.ensures.more

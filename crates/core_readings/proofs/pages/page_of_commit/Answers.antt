@@ -20,7 +20,8 @@ pub returns-in-Some-clause-more : goal.returns-in-Some-clause-more
 returns-in-Some-clause-more c =
     let rows = c.seek.ensures ∙ ap (λ (tree : Tree). entries tree.map) c.deref.ensures
     ∙ ap entries (map_there (repository_value c.args.repository.now) c.args.id.now c.in-Some.tree.now.value c.in-Some.ensures) in
-    subst (λ (l : List (List ℕ × EntryValue)). IfOk c.page_over.result (λ page. page.has_more ≡ nat_lt c.args.query.now.amount (length (items_left c.args.query.now l)))) rows
+    subst (λ (l : List (List ℕ × EntryValue)).
+    IfOk c.page_over.result (λ page. page.has_more ≡ nat_lt c.args.query.now.amount (length (items_left c.args.query.now l)))) rows
     c.page_over.ensures.more
 
 pub returns-in-None-clause-items : goal.returns-in-None-clause-items

@@ -17,37 +17,49 @@ returns-in-Some-clause-items c =
     let tokens = c.args.branch.now.tokens.changes in
     let map = c.in-Some.tree.now.value.map in
     let staged = c.changes_of-staged.ensures ∙ ap (λ token. entries (changes_under tokens token)) c.staging.ensures.token in
-    let all = c.new-in-Some.ensures.of_map (changes_under tokens c.args.branch.now.record.staging) (apply c.in_ok-sealed.sealed map) staged (c.new-below.ensures.of_map c.in_ok-sealed.sealed map c.new.ensures (c.seek.ensures ∙ ap (λ (tree : Tree). entries tree.map) c.deref.ensures)) in
-    let rows = rows_now (repository_at c.args.repository.now) c.args.branch.now c.in_ok-sealed.sealed c.head.result map c.new-in-Some.result c.in_ok-sealed.ensures c.head.ensures
+    let all = c.new-in-Some.ensures.of_map (changes_under tokens c.args.branch.now.record.staging) (apply c.in_ok-sealed.sealed map) staged
+    (c.new-below.ensures.of_map c.in_ok-sealed.sealed map c.new.ensures (c.seek.ensures ∙ ap (λ (tree : Tree). entries tree.map) c.deref.ensures)) in
+    let rows = rows_now (repository_at c.args.repository.now) c.args.branch.now c.in_ok-sealed.sealed c.head.result map c.new-in-Some.result
+    c.in_ok-sealed.ensures c.head.ensures
     (map_there (repository_value c.args.repository.now) c.head.result c.in-Some.tree.now.value c.in-Some.ensures) all in
-    subst (λ (l : List (List ℕ × EntryValue)). IfOk c.page_over.result (λ page. page.items ≡ take c.args.query.now.amount (items_left c.args.query.now l))) rows c.page_over.ensures.items
+    subst (λ (l : List (List ℕ × EntryValue)). IfOk c.page_over.result (λ page. page.items ≡ take c.args.query.now.amount (items_left c.args.query.now l))) rows
+    c.page_over.ensures.items
 
 pub returns-in-Some-clause-more : goal.returns-in-Some-clause-more
 returns-in-Some-clause-more c =
     let tokens = c.args.branch.now.tokens.changes in
     let map = c.in-Some.tree.now.value.map in
     let staged = c.changes_of-staged.ensures ∙ ap (λ token. entries (changes_under tokens token)) c.staging.ensures.token in
-    let all = c.new-in-Some.ensures.of_map (changes_under tokens c.args.branch.now.record.staging) (apply c.in_ok-sealed.sealed map) staged (c.new-below.ensures.of_map c.in_ok-sealed.sealed map c.new.ensures (c.seek.ensures ∙ ap (λ (tree : Tree). entries tree.map) c.deref.ensures)) in
-    let rows = rows_now (repository_at c.args.repository.now) c.args.branch.now c.in_ok-sealed.sealed c.head.result map c.new-in-Some.result c.in_ok-sealed.ensures c.head.ensures
+    let all = c.new-in-Some.ensures.of_map (changes_under tokens c.args.branch.now.record.staging) (apply c.in_ok-sealed.sealed map) staged
+    (c.new-below.ensures.of_map c.in_ok-sealed.sealed map c.new.ensures (c.seek.ensures ∙ ap (λ (tree : Tree). entries tree.map) c.deref.ensures)) in
+    let rows = rows_now (repository_at c.args.repository.now) c.args.branch.now c.in_ok-sealed.sealed c.head.result map c.new-in-Some.result
+    c.in_ok-sealed.ensures c.head.ensures
     (map_there (repository_value c.args.repository.now) c.head.result c.in-Some.tree.now.value c.in-Some.ensures) all in
-    subst (λ (l : List (List ℕ × EntryValue)). IfOk c.page_over.result (λ page. page.has_more ≡ nat_lt c.args.query.now.amount (length (items_left c.args.query.now l)))) rows c.page_over.ensures.more
+    subst (λ (l : List (List ℕ × EntryValue)).
+    IfOk c.page_over.result (λ page. page.has_more ≡ nat_lt c.args.query.now.amount (length (items_left c.args.query.now l)))) rows c.page_over.ensures.more
 
 pub returns-clause-items : goal.returns-clause-items
 returns-clause-items c =
     let tokens = c.args.branch.now.tokens.changes in
     let map = empty in
     let staged = c.changes_of-staged.ensures ∙ ap (λ token. entries (changes_under tokens token)) c.staging.ensures.token in
-    let all = c.new-in-None-2.ensures.of_map (changes_under tokens c.args.branch.now.record.staging) (apply c.in_ok-sealed.sealed map) staged (c.new-below-in-None.ensures.of_map c.in_ok-sealed.sealed map c.new-in-None.ensures (c.cursor.ensures ∙ ap entries c.new-none.ensures)) in
-    let rows = rows_now (repository_at c.args.repository.now) c.args.branch.now c.in_ok-sealed.sealed c.head.result map c.new-in-None-2.result c.in_ok-sealed.ensures c.head.ensures
+    let all = c.new-in-None-2.ensures.of_map (changes_under tokens c.args.branch.now.record.staging) (apply c.in_ok-sealed.sealed map) staged
+    (c.new-below-in-None.ensures.of_map c.in_ok-sealed.sealed map c.new-in-None.ensures (c.cursor.ensures ∙ ap entries c.new-none.ensures)) in
+    let rows = rows_now (repository_at c.args.repository.now) c.args.branch.now c.in_ok-sealed.sealed c.head.result map c.new-in-None-2.result
+    c.in_ok-sealed.ensures c.head.ensures
     (map_missing (repository_value c.args.repository.now) c.head.result c.in-None.ensures) all in
-    subst (λ (l : List (List ℕ × EntryValue)). IfOk c.page_over-in-None.result (λ page. page.items ≡ take c.args.query.now.amount (items_left c.args.query.now l))) rows c.page_over-in-None.ensures.items
+    subst (λ (l : List (List ℕ × EntryValue)).
+    IfOk c.page_over-in-None.result (λ page. page.items ≡ take c.args.query.now.amount (items_left c.args.query.now l))) rows c.page_over-in-None.ensures.items
 
 pub returns-clause-more : goal.returns-clause-more
 returns-clause-more c =
     let tokens = c.args.branch.now.tokens.changes in
     let map = empty in
     let staged = c.changes_of-staged.ensures ∙ ap (λ token. entries (changes_under tokens token)) c.staging.ensures.token in
-    let all = c.new-in-None-2.ensures.of_map (changes_under tokens c.args.branch.now.record.staging) (apply c.in_ok-sealed.sealed map) staged (c.new-below-in-None.ensures.of_map c.in_ok-sealed.sealed map c.new-in-None.ensures (c.cursor.ensures ∙ ap entries c.new-none.ensures)) in
-    let rows = rows_now (repository_at c.args.repository.now) c.args.branch.now c.in_ok-sealed.sealed c.head.result map c.new-in-None-2.result c.in_ok-sealed.ensures c.head.ensures
+    let all = c.new-in-None-2.ensures.of_map (changes_under tokens c.args.branch.now.record.staging) (apply c.in_ok-sealed.sealed map) staged
+    (c.new-below-in-None.ensures.of_map c.in_ok-sealed.sealed map c.new-in-None.ensures (c.cursor.ensures ∙ ap entries c.new-none.ensures)) in
+    let rows = rows_now (repository_at c.args.repository.now) c.args.branch.now c.in_ok-sealed.sealed c.head.result map c.new-in-None-2.result
+    c.in_ok-sealed.ensures c.head.ensures
     (map_missing (repository_value c.args.repository.now) c.head.result c.in-None.ensures) all in
-    subst (λ (l : List (List ℕ × EntryValue)). IfOk c.page_over-in-None.result (λ page. page.has_more ≡ nat_lt c.args.query.now.amount (length (items_left c.args.query.now l)))) rows c.page_over-in-None.ensures.more
+    subst (λ (l : List (List ℕ × EntryValue)). IfOk c.page_over-in-None.result
+    (λ page. page.has_more ≡ nat_lt c.args.query.now.amount (length (items_left c.args.query.now l)))) rows c.page_over-in-None.ensures.more

@@ -37,7 +37,8 @@ gathered-requires-clause-cut c =
 
 pub gathered-requires-clause-head : goal.gathered-requires-clause-head
 gathered-requires-clause-head c =
-    (has_targets (lake_value c.args.lake.now) c.requires.sound c.args.repo.now c.in-Some.repository.now c.in-Some.ensures).heads c.args.branch.now (branch_at c.in_Some-found.found.now)
+    (has_targets (lake_value c.args.lake.now) c.requires.sound c.args.repo.now c.in-Some.repository.now c.in-Some.ensures).heads c.args.branch.now
+    (branch_at c.in_Some-found.found.now)
     (found_branch (repository_value c.in-Some.repository.now) c.args.branch.now (Some c.in_Some-found.found.now) c.in_Some-found.ensures)
 
 pub gathered-requires-clause-sides : goal.gathered-requires-clause-sides

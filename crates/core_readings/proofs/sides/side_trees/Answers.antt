@@ -29,7 +29,8 @@ returns-in_ok-tree_of-in-Pick-2-clause-maps c =
     let r = repository_value c.args.repository.now in
     let base = c.in_ok-tree_of-in-Pick.field-0.value in
     let source = c.in_ok-tree_of-in-Pick-2.field-0.value in
-    subst (λ (sides : Sides). AreTreesOf r (side_maps (repository_at c.args.repository.now) (branch_at c.args.branch.now) sides) (base, source)) (sym c.in-Pick.is)
+    subst (λ (sides : Sides). AreTreesOf r (side_maps (repository_at c.args.repository.now) (branch_at c.args.branch.now) sides) (base, source))
+    (sym c.in-Pick.is)
     (record {
       base = tree_of_map r c.in-Pick.base base c.in_ok-tree_of-in-Pick.ensures;
       source = tree_of_map r c.in-Pick.source source c.in_ok-tree_of-in-Pick-2.ensures;

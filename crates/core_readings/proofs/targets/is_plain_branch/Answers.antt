@@ -15,6 +15,7 @@ returns-then-is_empty c =
           ∙ plain_if_found (repository_value c.args.repository.now) c.args.e.now c.branch-repository.result
           (c.branch-repository.ensures ∙ ap (λ (e : RefExprValue). get (repository_value c.args.repository.now).branches e.name) c.e.view_is)
           (ap (λ (e : RefExprValue). e.at) (sym c.e.view_is) ∙ w.if-not-e.true)
-          (ap (λ (m : List Move). length m == 0) (ap (λ (e : RefExprValue). e.moves) (sym c.e.view_is) ∙ sym w.as_slice.ensures) ∙ sym w.is_empty.ensures ∙ sym w.value-is ∙ c.if-is_empty.true)
+          (ap (λ (m : List Move). length m == 0) (ap (λ (e : RefExprValue). e.moves) (sym c.e.view_is) ∙ sym w.as_slice.ensures) ∙ sym w.is_empty.ensures
+          ∙ sym w.value-is ∙ c.if-is_empty.true)
       | else-not-e w ↦ absurd cc
     ]

@@ -26,8 +26,10 @@ returns c =
     let open_ones = ap (conflicts_fault c.args.strategy base source) (sym dest) ∙ c.in_ok-changes.ensures.test in
     let changed = c.in_ok-changes.ensures.changes ∙ ap (λ d. differences (merged_map c.args.strategy base source d) d) dest in
     let denied = λ (rules : List HookRule) (changes : ChangesValue). option_map HookDenied (denying_rule rules c.args.branch.now c.args.metadata.now changes) in
-    let allowed = ap (denied c.args.prepared.now.rules.value) (sym changed) ∙ ap (λ rules. denied rules c.in_ok-changes.changes) (sym c.deref.ensures) ∙ c.in_ok-test_hooks.ensures in
-    let objects = c.in_ok-objects.ensures ∙ ap (λ changes. apply changes c.args.head.now) changed ∙ ap (apply (differences merged head)) c.requires.head ∙ apply_differences merged head in (
+    let allowed = ap (denied c.args.prepared.now.rules.value) (sym changed) ∙ ap (λ rules. denied rules c.in_ok-changes.changes) (sym c.deref.ensures)
+    ∙ c.in_ok-test_hooks.ensures in
+    let objects = c.in_ok-objects.ensures ∙ ap (λ changes. apply changes c.args.head.now) changed ∙ ap (apply (differences merged head)) c.requires.head
+    ∙ apply_differences merged head in (
       neither_holds _ _ unchanged (neither_holds _ _ open_ones allowed),
       record {
         map = c.in_ok-build.ensures.map ∙ objects;

@@ -14,7 +14,8 @@ pub returns-in_err-tree-clause-reply : goal.returns-in_err-tree-clause-reply
 returns-in_err-tree-clause-reply g c =
     let p = prepared_value c.in_ok-prepared.prepared in
     let sides = c.as_ref.ensures.value ∙ c.sides_of-sides.ensures in
-    let reply = ap (prepare_reply (state c.args.lake.now) (versions c.args.lake.now) c.args.repo.now c.args.branch.now) (sym sides) ∙ sym c.in_ok-prepared.ensures.reply in
+    let reply =
+    ap (prepare_reply (state c.args.lake.now) (versions c.args.lake.now) c.args.repo.now c.args.branch.now) (sym sides) ∙ sym c.in_ok-prepared.ensures.reply in
     let strategy = ap (λ s. drafted_map s p c.args.branch.now c.about.inside.metadata) c.strategy_of.ensures in
     let metadata = ap (λ (a : AboutValue). drafted_map (strategy_of c.args.kind) p c.args.branch.now a.metadata) c.about.view_is in
     let made = subst (λ d. IsDraft p.cut d (Err c.in_err-tree.field-0.0)) (strategy ∙ metadata) c.in_err-tree.ensures in
@@ -24,7 +25,8 @@ pub returns-clause-reply : goal.returns-clause-reply
 returns-clause-reply g c =
     let p = prepared_value c.in_ok-prepared.prepared in
     let sides = c.as_ref.ensures.value ∙ c.sides_of-sides.ensures in
-    let reply = ap (prepare_reply (state c.args.lake.now) (versions c.args.lake.now) c.args.repo.now c.args.branch.now) (sym sides) ∙ sym c.in_ok-prepared.ensures.reply in
+    let reply =
+    ap (prepare_reply (state c.args.lake.now) (versions c.args.lake.now) c.args.repo.now c.args.branch.now) (sym sides) ∙ sym c.in_ok-prepared.ensures.reply in
     let strategy = ap (λ s. drafted_map s p c.args.branch.now c.about.inside.metadata) c.strategy_of.ensures in
     let metadata = ap (λ (a : AboutValue). drafted_map (strategy_of c.args.kind) p c.args.branch.now a.metadata) c.about.view_is in
     let made = subst (λ d. IsDraft p.cut d (Ok c.in_ok-tree.tree)) (strategy ∙ metadata) c.in_ok-tree.ensures in
@@ -34,19 +36,23 @@ pub returns-clause-ready : goal.returns-clause-ready
 returns-clause-ready g c =
     let p = prepared_value c.in_ok-prepared.prepared in
     let sides = c.as_ref.ensures.value ∙ c.sides_of-sides.ensures in
-    let reply = ap (prepare_reply (state c.args.lake.now) (versions c.args.lake.now) c.args.repo.now c.args.branch.now) (sym sides) ∙ sym c.in_ok-prepared.ensures.reply in
+    let reply =
+    ap (prepare_reply (state c.args.lake.now) (versions c.args.lake.now) c.args.repo.now c.args.branch.now) (sym sides) ∙ sym c.in_ok-prepared.ensures.reply in
     let strategy = ap (λ s. drafted_map s p c.args.branch.now c.about.inside.metadata) c.strategy_of.ensures in
     let metadata = ap (λ (a : AboutValue). drafted_map (strategy_of c.args.kind) p c.args.branch.now a.metadata) c.about.view_is in
     let made = subst (λ d. IsDraft p.cut d (Ok c.in_ok-tree.tree)) (strategy ∙ metadata) c.in_ok-tree.ensures in
     ready (state c.args.lake.now) (versions c.args.lake.now) c.args.repo.now c.args.branch.now c.args.about.now c.args.kind p c.in_ok-tree.tree reply
-    (some_sides (HasSides (state c.args.lake.now) c.args.repo.now) (sides_of c.args.kind) c.requires) c.in_ok-prepared.prepared.version c.in_ok-prepared.prepared.settings made
+    (some_sides (HasSides (state c.args.lake.now) c.args.repo.now) (sides_of c.args.kind) c.requires) c.in_ok-prepared.prepared.version
+    c.in_ok-prepared.prepared.settings made
 
 pub returns-clause-waits : goal.returns-clause-waits
 returns-clause-waits g c =
     let p = prepared_value c.in_ok-prepared.prepared in
     let sides = c.as_ref.ensures.value ∙ c.sides_of-sides.ensures in
-    let reply = ap (prepare_reply (state c.args.lake.now) (versions c.args.lake.now) c.args.repo.now c.args.branch.now) (sym sides) ∙ sym c.in_ok-prepared.ensures.reply in
+    let reply =
+    ap (prepare_reply (state c.args.lake.now) (versions c.args.lake.now) c.args.repo.now c.args.branch.now) (sym sides) ∙ sym c.in_ok-prepared.ensures.reply in
     let strategy = ap (λ s. drafted_map s p c.args.branch.now c.about.inside.metadata) c.strategy_of.ensures in
     let metadata = ap (λ (a : AboutValue). drafted_map (strategy_of c.args.kind) p c.args.branch.now a.metadata) c.about.view_is in
     let made = subst (λ d. IsDraft p.cut d (Ok c.in_ok-tree.tree)) (strategy ∙ metadata) c.in_ok-tree.ensures in
-    c.law_of_waiting.ensures (lake_value c.args.lake.now.opened) _ c.args.lake.now.history c.args.repo.now c.args.branch.now c.args.kind c.args.about.now p c.in_ok-tree.tree c.entries.ensures.stands reply c.requires made
+    c.law_of_waiting.ensures (lake_value c.args.lake.now.opened) _ c.args.lake.now.history c.args.repo.now c.args.branch.now c.args.kind c.args.about.now p
+    c.in_ok-tree.tree c.entries.ensures.stands reply c.requires made

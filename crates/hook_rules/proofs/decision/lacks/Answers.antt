@@ -8,5 +8,6 @@ use Rattle.hook_rules.proofs.decision.lacks.Goals as goal
 pub returns : goal.returns
 returns c =
     let key = c.args.key.now in
-    all_from_yields_List (λ pair. not (bytes_eq pair.0 key)) _ _ _ c.all.ensures.ran (YieldsList-from_slice c.args.metadata.now cc) (λ x b q k. search (rules, tests))
+    all_from_yields_List (λ pair. not (bytes_eq pair.0 key)) _ _ _ c.all.ensures.ran (YieldsList-from_slice c.args.metadata.now cc)
+    (λ x b q k. search (rules, tests))
     ∙ none_is key c.args.metadata.now

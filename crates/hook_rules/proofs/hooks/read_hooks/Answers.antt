@@ -9,4 +9,5 @@ use Rattle.hook_rules.proofs.hooks.read_hooks.Goals as goal
 pub invariant_of-result : goal.invariant_of-result
 invariant_of-result c =
     let ended : drop c.loop-rule.rule c.in_ok-list.list.now ≡ [] = drop_all c.loop-rule.rule c.in_ok-list.list.now (omega arith) in
-    rw c.of.ensures (AreHooks-read (view c.args.value.now) (items_view c.in_ok-list.list.now) c.loop-rule.rules.items c.in_ok-list.ensures.members (all_read hook_of c.in_ok-list.list.now c.loop-rule.rule c.loop-rule.rules.items c.loop-rule.invariant ended))
+    rw c.of.ensures (AreHooks-read (view c.args.value.now) (items_view c.in_ok-list.list.now) c.loop-rule.rules.items c.in_ok-list.ensures.members
+    (all_read hook_of c.in_ok-list.list.now c.loop-rule.rule c.loop-rule.rules.items c.loop-rule.invariant ended))

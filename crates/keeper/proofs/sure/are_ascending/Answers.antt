@@ -13,7 +13,8 @@ loop-at-preserved c =
     let at = c.loop-at.at in
     let x = c.index-pairs-at.result in
     let y = c.index-pairs-at-in-loop-at.result in
-    let order = compared_keys pairs (at - 1) at x y c.as_slice.result.now c.as_slice-in-loop-at.result.now c.cmp.result c.index-pairs-at.is c.index-pairs-at-in-loop-at.is c.as_slice.ensures c.as_slice-in-loop-at.ensures c.cmp.ensures in
+    let order = compared_keys pairs (at - 1) at x y c.as_slice.result.now c.as_slice-in-loop-at.result.now c.cmp.result c.index-pairs-at.is
+    c.index-pairs-at-in-loop-at.is c.as_slice.ensures c.as_slice-in-loop-at.ensures c.cmp.ensures in
     let below : T (is_lt (byte_order x.key y.key)) = subst T (sym (sym (ap is_lt order) ∙ sym c.is_lt.ensures ∙ c.if-not-is_lt.false)) tt in
     let same : at + 1 - 1 ≡ at = omega arith in
     let within : at < length (entries_of pairs) = omega (arith, entries_len pairs) in
@@ -27,7 +28,8 @@ returns-then-not-is_lt c =
     let at = c.loop-at.at in
     let x = c.index-pairs-at.result in
     let y = c.index-pairs-at-in-loop-at.result in
-    let order = compared_keys pairs (at - 1) at x y c.as_slice.result.now c.as_slice-in-loop-at.result.now c.cmp.result c.index-pairs-at.is c.index-pairs-at-in-loop-at.is c.as_slice.ensures c.as_slice-in-loop-at.ensures c.cmp.ensures in
+    let order = compared_keys pairs (at - 1) at x y c.as_slice.result.now c.as_slice-in-loop-at.result.now c.cmp.result c.index-pairs-at.is
+    c.index-pairs-at-in-loop-at.is c.as_slice.ensures c.as_slice-in-loop-at.ensures c.cmp.ensures in
     let not_below : is_lt (byte_order x.key y.key) ≡ false = sym (ap is_lt order) ∙ sym c.is_lt.ensures ∙ c.if-not-is_lt.true in
     let within : at < length (entries_of pairs) = omega (arith, entries_len pairs) in (
       λ no. absurd cc,
@@ -37,4 +39,8 @@ returns-then-not-is_lt c =
     )
 
 pub returns : goal.returns
-returns c = (λ _. end_tells nat_list_cmp_total (entries_of c.args.pairs.now) (c.loop-at.at - 1) (omega (arith, entries_len c.args.pairs.now)) c.loop-at.invariant, λ _. refl)
+returns c = (
+  λ _.
+      end_tells nat_list_cmp_total (entries_of c.args.pairs.now) (c.loop-at.at - 1) (omega (arith, entries_len c.args.pairs.now)) c.loop-at.invariant,
+  λ _. refl,
+)

@@ -7,6 +7,8 @@ use Rattle.key_merge.proofs.laws.law_of_merges.Goals as goal
 pub returns : goal.returns
 returns c = record {
   applied = λ strategy base source dest. apply_differences (merged_map strategy base source dest) dest;
-  answer = λ strategy base source dest. ap (λ m. cond (is_refused strategy base source dest) None (Some m)) (sym (apply_differences (merged_map strategy base source dest) dest));
-  empty = λ strategy base source dest. (no_differences (merged_map strategy base source dest) dest, differences_none (merged_map strategy base source dest) dest);
+  answer = λ strategy base source dest.
+      ap (λ m. cond (is_refused strategy base source dest) None (Some m)) (sym (apply_differences (merged_map strategy base source dest) dest));
+  empty =
+      λ strategy base source dest. (no_differences (merged_map strategy base source dest) dest, differences_none (merged_map strategy base source dest) dest);
 }

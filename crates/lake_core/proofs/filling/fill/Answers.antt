@@ -38,7 +38,8 @@ returns g c = (
 
 pub returns-in_err-put_all : goal.returns-in_err-put_all
 returns-in_err-put_all g c =
-    put_failed (record { kept = g.K.Keeper.kept; faults = g.K.Keeper.faults; calls = g.K.Keeper.calls }) c.args.cut c.args.keeper.now c.load.new.self c.put_all.new.self c.as_slice-2.result.now (c.as_slice-2.ensures.value ∙ c.in_ok-puts.ensures)
+    put_failed (record { kept = g.K.Keeper.kept; faults = g.K.Keeper.faults; calls = g.K.Keeper.calls }) c.args.cut c.args.keeper.now c.load.new.self
+    c.put_all.new.self c.as_slice-2.result.now (c.as_slice-2.ensures.value ∙ c.in_ok-puts.ensures)
     c.in_ok-pairs.ensures.kept
     (had_none _ c.in_ok-pairs.pairs.items c.in_ok-pairs.ensures.pairs
     (sym c.as_slice.ensures.value ∙ c.has_pairs.ensures.none c.if-has_pairs.false))

@@ -13,15 +13,21 @@ use Rattle.lake_core.proofs.paths.ready_stage.Goals as goal
 pub returns-in_err-test_stage-clause-tells : goal.returns-in_err-test_stage-clause-tells
 returns-in_err-test_stage-clause-tells c given has =
     told_again
-    (λ ready. (first_cause (stage_causes (state_of (lake_value c.args.lake.now)) given c.args.repo.now c.args.branch.now c.args.version) ≡ None) × IsReadyChange (Stage c.args.repo.now c.args.branch.now c.args.path.now c.args.change.now) (stage_puts c.args.repo.now c.args.branch.now c.args.path.now c.args.change.now (lake_value c.args.lake.now)) ready)
-    (λ fault. (fault ≡ NoMemory) ⊎ ((first_cause (stage_causes (state_of (lake_value c.args.lake.now)) given c.args.repo.now c.args.branch.now c.args.version) ≡ Some fault) × (c.args.lake.now ≡ c.args.lake.now)))
+    (λ ready. (first_cause (stage_causes (state_of (lake_value c.args.lake.now)) given c.args.repo.now c.args.branch.now c.args.version) ≡ None)
+    × IsReadyChange (Stage c.args.repo.now c.args.branch.now c.args.path.now c.args.change.now)
+    (stage_puts c.args.repo.now c.args.branch.now c.args.path.now c.args.change.now (lake_value c.args.lake.now)) ready)
+    (λ fault. (fault ≡ NoMemory) ⊎ ((first_cause (stage_causes (state_of (lake_value c.args.lake.now)) given c.args.repo.now c.args.branch.now c.args.version)
+    ≡ Some fault) × (c.args.lake.now ≡ c.args.lake.now)))
     c.from_residual.result _ c.from_residual.ensures.1 (inr (c.in_err-test_stage.ensures given has, refl))
 
 pub returns-in_err-ready-clause-tells : goal.returns-in_err-ready-clause-tells
 returns-in_err-ready-clause-tells c given has =
     told_again
-    (λ ready. (first_cause (stage_causes (state_of (lake_value c.args.lake.now)) given c.args.repo.now c.args.branch.now c.args.version) ≡ None) × IsReadyChange (Stage c.args.repo.now c.args.branch.now c.args.path.now c.args.change.now) (stage_puts c.args.repo.now c.args.branch.now c.args.path.now c.args.change.now (lake_value c.args.lake.now)) ready)
-    (λ fault. (fault ≡ NoMemory) ⊎ ((first_cause (stage_causes (state_of (lake_value c.args.lake.now)) given c.args.repo.now c.args.branch.now c.args.version) ≡ Some fault) × (c.parts_of_stage.new.lake ≡ c.args.lake.now)))
+    (λ ready. (first_cause (stage_causes (state_of (lake_value c.args.lake.now)) given c.args.repo.now c.args.branch.now c.args.version) ≡ None)
+    × IsReadyChange (Stage c.args.repo.now c.args.branch.now c.args.path.now c.args.change.now)
+    (stage_puts c.args.repo.now c.args.branch.now c.args.path.now c.args.change.now (lake_value c.args.lake.now)) ready)
+    (λ fault. (fault ≡ NoMemory) ⊎ ((first_cause (stage_causes (state_of (lake_value c.args.lake.now)) given c.args.repo.now c.args.branch.now c.args.version)
+    ≡ Some fault) × (c.parts_of_stage.new.lake ≡ c.args.lake.now)))
     c.from_residual-in_err-ready.result NoMemory c.from_residual-in_err-ready.ensures.1 (inl refl)
 
 pub returns-clause-tells : goal.returns-clause-tells

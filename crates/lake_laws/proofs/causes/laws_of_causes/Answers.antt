@@ -1,4 +1,5 @@
-use Rattle.lake_laws.proofs.ToldLemmas.{change_refused, write_refused, stage_refused, copy_refused, seal_refused, create_branch_refused, delete_branch_refused, create_tag_refused, delete_tag_refused, set_note_refused, create_repository_refused, expire_refused, swap_refused}
+use Rattle.lake_laws.proofs.ToldLemmas.{change_refused, write_refused, stage_refused, copy_refused, seal_refused, create_branch_refused, delete_branch_refused}
+use Rattle.lake_laws.proofs.ToldLemmas.{create_tag_refused, delete_tag_refused, set_note_refused, create_repository_refused, expire_refused, swap_refused}
 use Rattle.lake_laws.proofs.causes.laws_of_causes.Goals as goal
 
 pub returns : goal.returns

@@ -7,7 +7,8 @@ use Rattle.lake_laws.proofs.identity.law_of_identity.Goals as goal
 
 pub returns-clause-commits : goal.returns-clause-commits
 returns-clause-commits c state entries repo r id commit legal is has =
-    kept-replay (λ s. HasRepository s repo (HasMapped id commit (map_of r id))) entries state (λ s entry. mapped-after id commit (map_of r id) s entry repo) legal (r, is, (has, refl))
+    kept-replay (λ s. HasRepository s repo (HasMapped id commit (map_of r id))) entries state (λ s entry. mapped-after id commit (map_of r id) s entry repo)
+    legal (r, is, (has, refl))
 
 pub returns-clause-tags : goal.returns-clause-tags
 returns-clause-tags c state entries repo tag r id legal is has stays = tagged-replay tag id repo entries state legal stays (r, is, has)

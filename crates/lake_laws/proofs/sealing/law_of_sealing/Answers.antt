@@ -22,8 +22,10 @@ returns-clause-look c state seal repo e path =
 
 pub returns-clause-page : goal.returns-clause-page
 returns-clause-page c state seal repo e query =
-    sealed_reply state seal repo (λ r. expression_map r e then λ map. Ok (record { at = state.entries; items = page_items query map; more = has_more query map }))
-    (λ r. ap (λ found. found then λ map. Ok (record { at = state.entries; items = page_items query map; more = has_more query map })) (sealed_map_of seal.branch r e))
+    sealed_reply state seal repo
+    (λ r. expression_map r e then λ map. Ok (record { at = state.entries; items = page_items query map; more = has_more query map }))
+    (λ r. ap (λ found. found then λ map. Ok (record { at = state.entries; items = page_items query map; more = has_more query map }))
+    (sealed_map_of seal.branch r e))
 
 pub returns-clause-log : goal.returns-clause-log
 returns-clause-log c state seal repo e after since amount =

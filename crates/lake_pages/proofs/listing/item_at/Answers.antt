@@ -13,6 +13,7 @@ returns-in_default g c =
 pub returns : goal.returns
 returns g c =
     rw c.in_ok-text.ensures
-    (prefix_listed c.args.query.now (c.args.path.now, c.args.entry.now) (g.C.EntriesLeft.left c.args.cursor.now) (g.C.EntriesLeft.left c.seek.new.self) c.in-Some.name.now c.requires.rest c.requires.under
+    (prefix_listed c.args.query.now (c.args.path.now, c.args.entry.now) (g.C.EntriesLeft.left c.args.cursor.now)
+    (g.C.EntriesLeft.left c.seek.new.self) c.in-Some.name.now c.requires.rest c.requires.under
     (ap (common_prefix c.args.query.now.prefix c.args.query.now.delimiter) (sym c.as_slice.ensures.bytes) ∙ sym c.in-Some.ensures.name)
     (c.seek.ensures.from ∙ ap (λ l. entries_from l (g.C.EntriesLeft.left c.args.cursor.now)) (c.as_slice-2.ensures.value ∙ c.in_ok-name_end.ensures)))

@@ -4,7 +4,8 @@ use Rattle.lake_pages.proofs.ListingNameLemmas.{low_end, end_is}
 use Rattle.lake_pages.proofs.listing.name_end.Goals as goal
 
 -- the last byte, as a read of the copy gives it
-read_is : (name items : List ℕ) (read : ℕ) → 0 < length name → items ≡ name → read ≡ get_or items (length name - 1) read → read ≡ get_or name (length name - 1) 0
+read_is : (name items : List ℕ) (read : ℕ) → 0 < length name → items ≡ name → read ≡ get_or items (length name - 1) read
+    → read ≡ get_or name (length name - 1) 0
 read_is name items read some same is =
     is ∙ ap (λ l. get_or l (length name - 1) read) same ∙ get_or_default name (length name - 1) read 0 (omega arith)
 

@@ -19,7 +19,8 @@ short text is = (grind (arith, nat_tests), grind (arith, nat_tests))
 
 parsed : {E : Type 0} (text : List ℕ) (r : Result ℕ E) → ParsesUnsigned 64 10 text r → is_number text ≡ true → r ≡ Ok (number_after 0 text)
 parsed text r parses is =
-    parse_gives own 64 text r parses (digits_all text is) ((short text is).0) (omega (arith, digits_value_short own text 19 (digits_all text is) ((short text is).1)))
+    parse_gives own 64 text r parses (digits_all text is) ((short text is).0)
+    (omega (arith, digits_value_short own text 19 (digits_all text is) ((short text is).1)))
 
 pub unreachable-requires : goal.unreachable-requires
 unreachable-requires c = let is = parsed c.args.digits.now c.parse.result c.parse.ensures.value.0 c.requires in cc (is, c.in-Err.is)

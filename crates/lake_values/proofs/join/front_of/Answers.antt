@@ -11,7 +11,8 @@ returns-in-Less g c =
 
 pub returns-in-Equal : goal.returns-in-Equal
 returns-in-Equal g c =
-    rw (rest_is c.args.left.now, rest_is c.args.right.now) (front_equal c.args.left.now c.args.right.now c.item-item-2.result c.other-item.result c.requires.left c.requires.right
+    rw (rest_is c.args.left.now, rest_is c.args.right.now)
+    (front_equal c.args.left.now c.args.right.now c.item-item-2.result c.other-item.result c.requires.left c.requires.right
     (grind arith) (grind arith) c.item-item-2.is c.other-item.is (sym c.in-Equal.ensures))
 
 pub returns-in-Greater : goal.returns-in-Greater

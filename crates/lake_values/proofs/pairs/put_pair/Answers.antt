@@ -22,7 +22,8 @@ returns-in-Ok-clause-pairs c =
     let old = c.args.pairs.now.items in
     let sorted = ascend_from old c.requires.pairs.ascending in
     let is : IsAt old c.args.key c.in-Ok.at = rw (← c.as_slice.ensures.value) c.in-Ok.ensures in
-    subst ArePairs (sym (returns-in-Ok-clause-set c).1) (put_pairs c.args.key c.args.value old c.requires.pairs c.requires.pair (inl (found_at c.args.key old c.in-Ok.at c.replace-old.result sorted is)))
+    subst ArePairs (sym (returns-in-Ok-clause-set c).1)
+    (put_pairs c.args.key c.args.value old c.requires.pairs c.requires.pair (inl (found_at c.args.key old c.in-Ok.at c.replace-old.result sorted is)))
 
 pub returns-then-as_slice-ge-PAIRS_LIMIT-clause-set : goal.returns-then-as_slice-ge-PAIRS_LIMIT-clause-set
 returns-then-as_slice-ge-PAIRS_LIMIT-clause-set c =
@@ -42,4 +43,5 @@ pub returns-in_ok-insert-in-Err-clause-pairs : goal.returns-in_ok-insert-in-Err-
 returns-in_ok-insert-in-Err-clause-pairs c =
     let old = c.args.pairs.now.items in
     subst ArePairs (sym (returns-in_ok-insert-in-Err-clause-set c).1)
-    (put_pairs c.args.key c.args.value old c.requires.pairs c.requires.pair (inr (subst (λ l. length l < 64) c.as_slice-in-Err.ensures.value c.if-as_slice-ge-PAIRS_LIMIT.false)))
+    (put_pairs c.args.key c.args.value old c.requires.pairs c.requires.pair
+    (inr (subst (λ l. length l < 64) c.as_slice-in-Err.ensures.value c.if-as_slice-ge-PAIRS_LIMIT.false)))

@@ -10,7 +10,8 @@ returns-then-eq c =
     let same : bytes_eq c.rule-item.result.branch c.args.branch.now ≡ true =
     subst (λ (xs : List ℕ). bytes_eq xs c.args.branch.now ≡ true) c.as_slice.ensures.bytes
     (subst (λ (ys : List ℕ). bytes_eq c.as_slice.result.now ys ≡ true) c.as_slice-in-loop-rule.ensures.bytes (sym c.eq.ensures ∙ c.if-eq.true)) in
-    let found = days_found c.rules.inside.default_days c.as_slice-rule-items.result.now c.args.branch.now c.loop-rule.rule-index c.rule-item.result c.loop-rule-test.true c.rule-item.is c.loop-rule.invariant same in
+    let found = days_found c.rules.inside.default_days c.as_slice-rule-items.result.now c.args.branch.now c.loop-rule.rule-index c.rule-item.result
+    c.loop-rule-test.true c.rule-item.is c.loop-rule.invariant same in
     subst (λ (rules : RulesValue). c.rule-item.result.days ≡ days_of rules c.args.branch.now) c.rules.view_is
     (found ∙ ap (λ rules. days_in c.rules.inside.default_days rules c.args.branch.now) c.as_slice-rule-items.ensures)
 

@@ -13,9 +13,12 @@ loop-at-preserved g c =
     let x = c.index-items-at.result in
     let y = c.index-items-at-in-loop-at.result in
     let o = g.met.K.Ord.total in
-    let below : T (is_lt (g.K.Ord.cmp x.0 y.0)) = subst T (sym (sym (ap is_lt (compared o items at x y c.cmp.result c.index-items-at.is c.index-items-at-in-loop-at.is c.cmp.ensures)) ∙ sym c.is_lt.ensures ∙ c.if-not-is_lt.false)) tt in
+    let below : T (is_lt (g.K.Ord.cmp x.0 y.0)) =
+    subst T (sym (sym (ap is_lt (compared o items at x y c.cmp.result c.index-items-at.is c.index-items-at-in-loop-at.is c.cmp.ensures)) ∙ sym c.is_lt.ensures
+    ∙ c.if-not-is_lt.false)) tt in
     let same : at + 1 - 1 ≡ at = omega arith in
-    subst (λ n. TellsAll o items (drop n items)) (sym same) (next_tells o items at x y (omega arith) (omega arith) c.index-items-at.is c.index-items-at-in-loop-at.is below c.loop-at.invariant)
+    subst (λ n. TellsAll o items (drop n items)) (sym same)
+    (next_tells o items at x y (omega arith) (omega arith) c.index-items-at.is c.index-items-at-in-loop-at.is below c.loop-at.invariant)
 
 pub returns-then-not-is_lt : goal.returns-then-not-is_lt
 returns-then-not-is_lt g c =
@@ -24,9 +27,12 @@ returns-then-not-is_lt g c =
     let x = c.index-items-at.result in
     let y = c.index-items-at-in-loop-at.result in
     let o = g.met.K.Ord.total in
-    let not_below : is_lt (g.K.Ord.cmp x.0 y.0) ≡ false = sym (ap is_lt (compared o items at x y c.cmp.result c.index-items-at.is c.index-items-at-in-loop-at.is c.cmp.ensures)) ∙ sym c.is_lt.ensures ∙ c.if-not-is_lt.true in (
+    let not_below : is_lt (g.K.Ord.cmp x.0 y.0) ≡ false =
+    sym (ap is_lt (compared o items at x y c.cmp.result c.index-items-at.is c.index-items-at-in-loop-at.is c.cmp.ensures)) ∙ sym c.is_lt.ensures
+    ∙ c.if-not-is_lt.true in (
       λ no. absurd cc,
-      λ h. absurd (stray_tells o items at x y (omega arith) (omega arith) c.index-items-at.is c.index-items-at-in-loop-at.is (λ lt. subst T not_below lt) c.loop-at.invariant h),
+      λ h. absurd (stray_tells o items at x y (omega arith)
+          (omega arith) c.index-items-at.is c.index-items-at-in-loop-at.is (λ lt. subst T not_below lt) c.loop-at.invariant h),
     )
 
 pub returns : goal.returns

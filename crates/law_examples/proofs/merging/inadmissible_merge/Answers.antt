@@ -9,4 +9,5 @@ pub returns-clause-refused : goal.returns-clause-refused
 returns-clause-refused c = inadmissible
 
 pub returns-clause-expired : goal.returns-clause-expired
-returns-clause-expired c fork about distinct = expired_merge (diverged_lake fork) fork b outside (diverged fork) about distinct (merge_commit about fork) (merge_commit_is fork about distinct)
+returns-clause-expired c fork about distinct =
+    expired_merge (diverged_lake fork) fork b outside (diverged fork) about distinct (merge_commit about fork) (merge_commit_is fork about distinct)

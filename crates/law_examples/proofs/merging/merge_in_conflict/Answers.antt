@@ -20,7 +20,8 @@ returns-clause-source_wins c fork about distinct = fork_allowed (rival_lake fork
 
 pub returns-clause-of_source : goal.returns-clause-of_source
 unfolding same_entry
-returns-clause-of_source c fork about distinct = fork_merged (rival_lake fork) fork a larger_object (rival fork) SourceWins about distinct a (Some larger_object) refl
+returns-clause-of_source c fork about distinct =
+    fork_merged (rival_lake fork) fork a larger_object (rival fork) SourceWins about distinct a (Some larger_object) refl
 
 pub returns-clause-dest_wins : goal.returns-clause-dest_wins
 returns-clause-dest_wins c fork about distinct = fork_allowed (rival_lake fork) fork a larger_object (rival fork) DestWins about distinct refl

@@ -1,4 +1,5 @@
-use Rattle.law_examples.proofs.WritingLemmas.{ready_take, barred_take, ready_put, barred_put, ready_deletion, barred_deletion, copy_allowed, barred_copy, ready_reset, barred_reset, ready_seal, barred_seal, ready_commit, barred_commit}
+use Rattle.law_examples.proofs.WritingLemmas.{ready_take, barred_take, ready_put, barred_put, ready_deletion, barred_deletion, copy_allowed, barred_copy}
+use Rattle.law_examples.proofs.WritingLemmas.{ready_reset, barred_reset, ready_seal, barred_seal, ready_commit, barred_commit}
 use Rattle.law_examples.proofs.writing.protected_branch.Goals as goal
 
 pub returns-clause-allowed_take : goal.returns-clause-allowed_take

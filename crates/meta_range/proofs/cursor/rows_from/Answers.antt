@@ -10,5 +10,6 @@ returns c =
     let least = c.args.least.now in
     let rows = c.args.rows.now in
     let parted = partitioned (λ k. is_lt (byte_order k least)) (λ a b lt low. below_down least a b lt low) rows c.requires in
-    let point = IsPartitionPoint-from_clause (λ e. is_lt (byte_order e.0 least)) rows c.partition_point-at.result c.partition_point-at.ensures.partitioned parted (λ a r f k. search rules) in
+    let point = IsPartitionPoint-from_clause (λ e. is_lt (byte_order e.0 least)) rows c.partition_point-at.result c.partition_point-at.ensures.partitioned
+    parted (λ a r f k. search rules) in
     c.split_at.ensures.back ∙ seek_from least rows c.partition_point-at.result c.partition_point-at.ensures.bound point.0 point.1

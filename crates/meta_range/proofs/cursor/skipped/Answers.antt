@@ -25,7 +25,8 @@ returns-then-not-is_empty-clause-left c =
     let rows = c.args.rows.now in
     let more = rows_of c.args.ranges.now in
     let some = some_left c.rows_from-rows.result.now c.is_empty.result c.is_empty.ensures c.if-not-is_empty.true in
-    let from = ap (λ l. l ++ more) c.rows_from-rows.ensures ∙ rows_stay least rows more c.requires.ascend (subst (λ l. 0 < length l) c.rows_from-rows.ensures some) in
+    let from =
+    ap (λ l. l ++ more) c.rows_from-rows.ensures ∙ rows_stay least rows more c.requires.ascend (subst (λ l. 0 < length l) c.rows_from-rows.ensures some) in
     left_from least (rows ++ more) c.rows_from-rows.result.now c.args.ranges.now c.requires.ascend from c.requires.each
 
 pub returns-clause-from : goal.returns-clause-from

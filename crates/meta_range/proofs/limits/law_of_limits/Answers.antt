@@ -11,7 +11,8 @@ pub returns : goal.returns
 returns c =
     let ranges = c.ranges-ranges.result.now in
     let are = c.ranges-ranges.ensures.valid in
-    let rows : rows_of ranges ≡ entries c.args.tree.now.map = sym (ap (λ (tree : TreeValue). entries tree.map) c.ranges-ranges.ensures.ranges ∙ entries-from_sorted byte_order (rows_of ranges) are.ascend) in
+    let rows : rows_of ranges ≡ entries c.args.tree.now.map =
+    sym (ap (λ (tree : TreeValue). entries tree.map) c.ranges-ranges.ensures.ranges ∙ entries-from_sorted byte_order (rows_of ranges) are.ascend) in
     record {
       each = subst (AllByRecursion IsRow) rows (rows_within ranges are.each);
       few = omega (arith, len-entries c.args.tree.now.map, ap length rows, are.few);

@@ -6,4 +6,5 @@ use Rattle.meta_range.proofs.metarange.metarange_bytes.Given as goal
 
 -- what is said of the ranges so far is written
 abbrev pub invariant-loop-range : goal.invariant-loop-range
-invariant-loop-range l = l.out.items ≡ (1 ∷ to_be_bytes w32 (length l.ranges)) ++ flat_map (λ range. line_spelling (line_of range)) (take l.range-index l.ranges)
+invariant-loop-range l =
+    l.out.items ≡ (1 ∷ to_be_bytes w32 (length l.ranges)) ++ flat_map (λ range. line_spelling (line_of range)) (take l.range-index l.ranges)

@@ -20,4 +20,5 @@ overflow_add-count c =
     omega (arith, long, few, c.loop-range.invariant.few)
 
 pub returns : goal.returns
-returns c = c.loop-range.invariant.counted ∙ ap (λ (rs : List (List RowValue)). length (rows_of rs)) (take_all c.loop-range.range-index c.args.ranges.now c.loop-range-test.false)
+returns c = c.loop-range.invariant.counted
+    ∙ ap (λ (rs : List (List RowValue)). length (rows_of rs)) (take_all c.loop-range.range-index c.args.ranges.now c.loop-range-test.false)

@@ -28,7 +28,8 @@ returns-then-not-is_first c =
     let more = rows_of (drop (c.loop-at.at + 1) read) in
     let tells = (c.is_first.ensures more (sym c.first_row_from.ensures)).1 in
     stray_here cut read c.loop-at.at range (not_cut cut read) c.loop-at-test.true c.index-ranges-at.is c.rows.ensures.valid.some c.loop-at.invariant
-    (λ same. absurd (cc (sym c.if-not-is_first.true ∙ tells (subst (λ (rows : List RowValue). length rows ≡ first_len cut (rows ++ more)) (sym c.rows.ensures.rows) same))))
+    (λ same. absurd
+    (cc (sym c.if-not-is_first.true ∙ tells (subst (λ (rows : List RowValue). length rows ≡ first_len cut (rows ++ more)) (sym c.rows.ensures.rows) same))))
 
 pub returns : goal.returns
 returns c = stray_none c.args.cut.now c.args.ranges.now c.loop-at.at (not_cut c.args.cut.now c.args.ranges.now) c.loop-at-test.false c.loop-at.invariant

@@ -5,7 +5,8 @@ use Rattle.pair_format.proofs.ReadingLemmas.{found, again}
 use Rattle.pair_format.proofs.decoding.decode_parts.Goals as goal
 
 pub returns-clause-found : goal.returns-clause-found
-returns-clause-found c = found c.args.key.now c.args.value.now c.in_ok-stored.stored (λ i. omega (arith, c.type_inv.key i)) (λ i. omega (arith, c.type_inv.value i)) c.in_ok-stored.ensures
+returns-clause-found c = found c.args.key.now c.args.value.now c.in_ok-stored.stored (λ i. omega (arith, c.type_inv.key i))
+    (λ i. omega (arith, c.type_inv.value i)) c.in_ok-stored.ensures
 
 pub returns-clause-only : goal.returns-clause-only
 returns-clause-only c = λ s is k v.

@@ -9,12 +9,14 @@ use Rattle.plain_reference.proofs.ancestry.+is_reached.Goals as goal
 
 pub returns-then-eq : goal.returns-then-eq
 returns-then-eq t c =
-    let same = same_bytes c.as_slice.result.now c.as_slice-2.result.now c.args.id.now.0 c.args.old.now.0 c.eq.result c.as_slice.ensures c.as_slice-2.ensures c.eq.ensures c.if-eq.true in
+    let same = same_bytes c.as_slice.result.now c.as_slice-2.result.now c.args.id.now.0 c.args.old.now.0 c.eq.result c.as_slice.ensures c.as_slice-2.ensures
+    c.eq.ensures c.if-eq.true in
     true_for (reached_here (graph_of c.args.commits.now) c.args.steps c.args.old.now c.args.id.now same)
 
 pub returns-then-steps-eq0 : goal.returns-then-steps-eq0
 returns-then-steps-eq0 t c =
-    let other = other_bytes c.as_slice.result.now c.as_slice-2.result.now c.args.id.now.0 c.args.old.now.0 c.eq.result c.as_slice.ensures c.as_slice-2.ensures c.eq.ensures c.if-eq.false in
+    let other = other_bytes c.as_slice.result.now c.as_slice-2.result.now c.args.id.now.0 c.args.old.now.0 c.eq.result c.as_slice.ensures c.as_slice-2.ensures
+    c.eq.ensures c.if-eq.false in
     let none = reached_not (graph_of c.args.commits.now) c.args.old.now c.args.id.now other in
     false_for (λ w. none (subst (λ n. IsReachedWithin (graph_of c.args.commits.now) n c.args.old.now c.args.id.now) c.if-steps-eq0.true w))
 
@@ -26,7 +28,8 @@ returns-then-is_reached t c =
     let nothing : Digest = record { 0 = [] } in
     let items = c.parents-parent-items.result.now in
     let parent = get_or items c.loop-parent.parent-index nothing in
-    let has : Contains (parents g id) parent = subst (λ l. Contains l parent) c.parents-parent-items.ensures (Contains-get_or items c.loop-parent.parent-index nothing c.loop-parent-test.true) in
+    let has : Contains (parents g id) parent =
+    subst (λ l. Contains l parent) c.parents-parent-items.ensures (Contains-get_or items c.loop-parent.parent-index nothing c.loop-parent-test.true) in
     let some : 0 < c.args.steps = omega (arith, c.if-steps-eq0.false) in
     true_for (reached_through g c.args.steps old id parent some has (c.is_reached.ensures.0 c.if-is_reached.true))
 
@@ -34,7 +37,8 @@ pub loop-parent-preserved : goal.loop-parent-preserved
 loop-parent-preserved t c =
     let nothing : Digest = record { 0 = [] } in
     let items = c.parents-parent-items.result.now in
-    one_more (λ parent. IsReachedWithin (graph_of c.args.commits.now) (c.args.steps - 1) c.args.old.now parent → ⊥) items c.loop-parent.parent-index nothing c.loop-parent-test.true c.loop-parent.invariant
+    one_more (λ parent. IsReachedWithin (graph_of c.args.commits.now) (c.args.steps - 1) c.args.old.now parent → ⊥) items c.loop-parent.parent-index nothing
+    c.loop-parent-test.true c.loop-parent.invariant
     (λ w. differ (sym (c.is_reached.ensures.1 w) ∙ c.if-is_reached.false))
 
 pub returns : goal.returns
@@ -43,7 +47,9 @@ returns t c =
     let old = c.args.old.now in
     let id = c.args.id.now in
     let items = c.parents-parent-items.result.now in
-    let other = other_bytes c.as_slice.result.now c.as_slice-2.result.now id.0 old.0 c.eq.result c.as_slice.ensures c.as_slice-2.ensures c.eq.ensures c.if-eq.false in
+    let other =
+    other_bytes c.as_slice.result.now c.as_slice-2.result.now id.0 old.0 c.eq.result c.as_slice.ensures c.as_slice-2.ensures c.eq.ensures c.if-eq.false in
     false_for (reached_never g c.args.steps old id other
-    (λ parent has. within_contains (λ p. IsReachedWithin g (c.args.steps - 1) old p → ⊥) items c.loop-parent.parent-index parent c.loop-parent-test.false c.loop-parent.invariant
+    (λ parent has. within_contains (λ p. IsReachedWithin g (c.args.steps - 1) old p → ⊥) items c.loop-parent.parent-index parent c.loop-parent-test.false
+    c.loop-parent.invariant
     (subst (λ l. Contains l parent) (sym c.parents-parent-items.ensures) has)))

@@ -20,12 +20,14 @@ loop-old-preserved c =
     let list = c.loop-old.ancestors.items in
     elim c.if-is_ancestor.branch [
       | then-is_ancestor+in_ok-put_in_log w ↦
-          those_more (log_total g) (log_same g) (λ old. IsAncestor g old id) commits i list c.loop-old.invariant c.loop-old-item.result c.loop-old-test.true c.loop-old-item.is
+          those_more (log_total g) (log_same g)
+          (λ old. IsAncestor g old id) commits i list c.loop-old.invariant c.loop-old-item.result c.loop-old-test.true c.loop-old-item.is
           (c.is_ancestor.ensures.0 w.if-is_ancestor.true) c.if-is_ancestor.ancestors.items
           (ap (λ v. v.items) w.ancestors-is ∙ w.in_ok-put_in_log.ensures.put)
       | else-is_ancestor w ↦
           subst (HasThose (log_order g) (λ old. IsAncestor g old id) commits (i + 1)) (sym (ap (λ v. v.items) w.ancestors-is))
-          (those_same (log_total g) (log_same g) (λ old. IsAncestor g old id) commits i list c.loop-old.invariant c.loop-old-item.result c.loop-old-test.true c.loop-old-item.is
+          (those_same (log_total g) (log_same g)
+          (λ old. IsAncestor g old id) commits i list c.loop-old.invariant c.loop-old-item.result c.loop-old-test.true c.loop-old-item.is
           (λ a. differ (sym (c.is_ancestor.ensures.1 a) ∙ w.if-is_ancestor.false)))
     ]
 

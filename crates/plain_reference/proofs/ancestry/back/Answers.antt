@@ -6,12 +6,15 @@ use Rattle.plain_reference.proofs.ancestry.back.Goals as goal
 
 pub returns-in_err-commit_of : goal.returns-in_err-commit_of
 returns-in_err-commit_of c =
-    let none = none_where_none c.commit_of.result (commit_of (graph_of c.args.commits.now) c.args.id.now) c.commit_of.ensures (ap is_some c.in_err-commit_of.was) in
-    c.from_residual.ensures ∙ sym (back_past (graph_of c.args.commits.now) 0 c.args.steps c.args.id.now (no_walk (graph_of c.args.commits.now) c.args.id.now none) (omega arith))
+    let none =
+    none_where_none c.commit_of.result (commit_of (graph_of c.args.commits.now) c.args.id.now) c.commit_of.ensures (ap is_some c.in_err-commit_of.was) in
+    c.from_residual.ensures
+    ∙ sym (back_past (graph_of c.args.commits.now) 0 c.args.steps c.args.id.now (no_walk (graph_of c.args.commits.now) c.args.id.now none) (omega arith))
 
 pub loop-init : goal.loop-init
 loop-init c =
-    let there : IsSome (commit_of (graph_of c.args.commits.now) c.args.id.now) = there_where_found c.commit_of.result (commit_of (graph_of c.args.commits.now) c.args.id.now) c.commit_of.ensures (ap is_some c.in_ok-commit_of.was) in
+    let there : IsSome (commit_of (graph_of c.args.commits.now) c.args.id.now) =
+    there_where_found c.commit_of.result (commit_of (graph_of c.args.commits.now) c.args.id.now) c.commit_of.ensures (ap is_some c.in_ok-commit_of.was) in
     starts (graph_of c.args.commits.now) c.args.id.now there
 
 pub returns-in_err-at : goal.returns-in_err-at

@@ -20,7 +20,8 @@ loop-id-preserved c =
           (best_more g a b commits i x c.loop-id-test.true c.loop-id-item.is c.loop-id.best c.loop-id.invariant (c.is_common.ensures.0 w.if-is_common.true))
       | else-is_common w ↦
           subst (BestOf g a b commits (i + 1)) (sym w.best-is)
-          (best_stays g a b commits i x c.loop-id-test.true c.loop-id-item.is c.loop-id.best c.loop-id.invariant (λ both. differ (sym (c.is_common.ensures.1 both) ∙ w.if-is_common.false)))
+          (best_stays g a b commits i x c.loop-id-test.true c.loop-id-item.is c.loop-id.best c.loop-id.invariant
+          (λ both. differ (sym (c.is_common.ensures.1 both) ∙ w.if-is_common.false)))
     ]
 
 pub returns : goal.returns

@@ -6,7 +6,8 @@ use Rattle.plain_reference.proofs.ancestry.commit_of.Goals as goal
 pub returns-then-eq : goal.returns-then-eq
 returns-then-eq c =
     let same : bytes_eq c.loop-other-item.result.0.0 c.args.id.now.0 ≡ true = cc (sym c.eq.ensures ∙ c.if-eq.true) in
-    found_here c.args.commits.now c.args.id.now c.loop-other.other-index c.loop-other.invariant c.loop-other-item.result c.loop-other-test.true c.loop-other-item.is same
+    found_here c.args.commits.now c.args.id.now c.loop-other.other-index c.loop-other.invariant c.loop-other-item.result c.loop-other-test.true
+    c.loop-other-item.is same
 
 pub returns : goal.returns
 returns c =
@@ -16,4 +17,5 @@ returns c =
 pub loop-other-preserved : goal.loop-other-preserved
 loop-other-preserved c =
     let other : bytes_eq c.loop-other-item.result.0.0 c.args.id.now.0 ≡ false = cc (sym c.eq.ensures ∙ c.if-eq.false) in
-    found_later c.args.commits.now c.args.id.now c.loop-other.other-index c.loop-other.invariant c.loop-other-item.result c.loop-other-test.true c.loop-other-item.is other
+    found_later c.args.commits.now c.args.id.now c.loop-other.other-index c.loop-other.invariant c.loop-other-item.result c.loop-other-test.true
+    c.loop-other-item.is other

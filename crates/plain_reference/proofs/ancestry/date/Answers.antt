@@ -5,7 +5,8 @@ use Rattle.lake_values.proofs.AncestryLemmas.{date_some, date_none}
 use Rattle.plain_reference.proofs.ancestry.date.Goals as goal
 
 pub returns-in-Some : goal.returns-in-Some
-returns-in-Some c = ap (λ (x : CommitRecordValue). x.date) c.commit.view_is ∙ date_some (graph_of c.args.commits.now) c.args.id.now c.in-Some.commit.now c.in-Some.ensures
+returns-in-Some c =
+    ap (λ (x : CommitRecordValue). x.date) c.commit.view_is ∙ date_some (graph_of c.args.commits.now) c.args.id.now c.in-Some.commit.now c.in-Some.ensures
 
 pub returns-in-None : goal.returns-in-None
 returns-in-None c = date_none (graph_of c.args.commits.now) c.args.id.now c.in-None.ensures

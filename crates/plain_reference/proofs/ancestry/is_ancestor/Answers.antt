@@ -7,5 +7,7 @@ use Rattle.plain_reference.proofs.ancestry.is_ancestor.Goals as goal
 
 pub returns-then-is_some : goal.returns-then-is_some
 returns-then-is_some c =
-    let there : IsSome (commit_of (graph_of c.args.commits.now) c.args.old.now) = there_where_found c.commit_of.result (commit_of (graph_of c.args.commits.now) c.args.old.now) c.commit_of.ensures (sym c.is_some.ensures ∙ c.if-is_some.true) in
-    ancestor_tested (graph_of c.args.commits.now) c.requires c.args.old.now c.args.id.now c.generation.result c.is_reached.result there c.generation.ensures c.is_reached.ensures
+    let there : IsSome (commit_of (graph_of c.args.commits.now) c.args.old.now) = there_where_found c.commit_of.result
+    (commit_of (graph_of c.args.commits.now) c.args.old.now) c.commit_of.ensures (sym c.is_some.ensures ∙ c.if-is_some.true) in
+    ancestor_tested (graph_of c.args.commits.now) c.requires c.args.old.now c.args.id.now c.generation.result c.is_reached.result there c.generation.ensures
+    c.is_reached.ensures

@@ -8,4 +8,5 @@ pub returns : goal.returns
 returns c =
     let commits = c.args.commits.now in
     graph_tested commits _
-    (cases_from_all _ _ _ (λ x. IsDue (graph_of commits) x.0) (λ x. IsDue (graph_of commits) x.0 → ⊥) c.all.ensures.ran (YieldsList-from_slice commits cc) (λ x q k. search (rules, tests)) (λ x q k. search (rules, tests)))
+    (cases_from_all _ _ _ (λ x. IsDue (graph_of commits) x.0) (λ x. IsDue (graph_of commits) x.0 → ⊥) c.all.ensures.ran (YieldsList-from_slice commits cc)
+    (λ x q k. search (rules, tests)) (λ x q k. search (rules, tests)))

@@ -5,7 +5,8 @@ use Rattle.lake_values.proofs.AncestryLemmas.{parents_some, parents_none}
 use Rattle.plain_reference.proofs.ancestry.parents.Goals as goal
 
 pub returns-in-Some : goal.returns-in-Some
-returns-in-Some c = c.as_slice.ensures ∙ ap (λ (x : CommitRecordValue). x.parents) c.commit.view_is ∙ parents_some (graph_of c.args.commits.now) c.args.id.now c.in-Some.commit.now c.in-Some.ensures
+returns-in-Some c = c.as_slice.ensures ∙ ap (λ (x : CommitRecordValue). x.parents) c.commit.view_is
+    ∙ parents_some (graph_of c.args.commits.now) c.args.id.now c.in-Some.commit.now c.in-Some.ensures
 
 pub returns-in-None : goal.returns-in-None
 returns-in-None c = parents_none (graph_of c.args.commits.now) c.args.id.now c.in-None.ensures

@@ -11,7 +11,8 @@ returns-clause-spelled c =
     let m = c.commit.inside in
     let committer = c.as_bytes.ensures.value ∙ c.as_str.ensures.bytes in
     let message = c.as_bytes-2.ensures.value ∙ c.as_str-2.ensures.bytes in
-    eight (1 ∷ []) m.meta_range.0 (to_be_bytes w64 m.generation) (to_be_bytes w64 m.date) (to_be_bytes w16 (length m.parents)) (flat_map (λ parent. parent.0) m.parents)
+    eight (1 ∷ []) m.meta_range.0 (to_be_bytes w64 m.generation) (to_be_bytes w64 m.date) (to_be_bytes w16 (length m.parents))
+    (flat_map (λ parent. parent.0) m.parents)
     (short_text m.committer) (long_text m.message) (pairs_spelling m.metadata)
     c.put_metadata.new.out.items c.push.new.self.items c.put_digest.new.out.items c.extend_from_slice.new.self.items c.extend_from_slice-2.new.self.items
     c.put_parents.new.out.items c.put_text.new.out.items c.put_long_text.new.out.items
@@ -19,7 +20,8 @@ returns-clause-spelled c =
     c.in_ok-put_digest.ensures.spelled
     (c.in_ok-extend_from_slice.ensures.items ∙ ap (λ b. c.put_digest.new.out.items ++ b) c.to_be_bytes.ensures)
     (c.in_ok-extend_from_slice-2.ensures.items ∙ ap (λ b. c.extend_from_slice.new.self.items ++ b) c.to_be_bytes-2.ensures)
-    (c.in_ok-put_parents.ensures.spelled ∙ ap (λ p. c.extend_from_slice-2.new.self.items ++ (to_be_bytes w16 (length p) ++ flat_map (λ parent. parent.0) p)) c.as_slice.ensures)
+    (c.in_ok-put_parents.ensures.spelled
+    ∙ ap (λ p. c.extend_from_slice-2.new.self.items ++ (to_be_bytes w16 (length p) ++ flat_map (λ parent. parent.0) p)) c.as_slice.ensures)
     (c.in_ok-put_text.ensures.spelled ∙ ap (λ t. c.put_parents.new.out.items ++ short_text t) committer)
     (c.in_ok-put_long_text.ensures.spelled ∙ ap (λ t. c.put_text.new.out.items ++ long_text t) message)
     c.in_ok-put_metadata.ensures.spelled

@@ -13,21 +13,25 @@ use Rattle.plain_reference.proofs.files.files.Goals as goal
 
 pub range_bytes-requires-clause-some : goal.range_bytes-requires-clause-some
 range_bytes-requires-clause-some c =
-    (first_of c.args.cut.now c.loop-rest.rest.now c.first_range.result.0.now c.first_range.result.1.now (some_left c.loop-rest.rest.now c.is_empty.result c.is_empty.ensures c.loop-rest-test.true)
+    (first_of c.args.cut.now c.loop-rest.rest.now c.first_range.result.0.now c.first_range.result.1.now
+    (some_left c.loop-rest.rest.now c.is_empty.result c.is_empty.ensures c.loop-rest-test.true)
     c.first_range.ensures.front c.first_range.ensures.rest).some
 
 pub range_bytes-requires-clause-ascend : goal.range_bytes-requires-clause-ascend
 range_bytes-requires-clause-ascend c =
-    subst HasAscendingKeys (sym c.first_range.ensures.front) (ascends_take (first_len c.args.cut.now c.loop-rest.rest.now) c.loop-rest.rest.now c.loop-rest.invariant.ascend)
+    subst HasAscendingKeys (sym c.first_range.ensures.front)
+    (ascends_take (first_len c.args.cut.now c.loop-rest.rest.now) c.loop-rest.rest.now c.loop-rest.invariant.ascend)
 
 pub line_of-requires-clause-some : goal.line_of-requires-clause-some
 line_of-requires-clause-some c =
-    (first_of c.args.cut.now c.loop-rest.rest.now c.first_range.result.0.now c.first_range.result.1.now (some_left c.loop-rest.rest.now c.is_empty.result c.is_empty.ensures c.loop-rest-test.true)
+    (first_of c.args.cut.now c.loop-rest.rest.now c.first_range.result.0.now c.first_range.result.1.now
+    (some_left c.loop-rest.rest.now c.is_empty.result c.is_empty.ensures c.loop-rest-test.true)
     c.first_range.ensures.front c.first_range.ensures.rest).some
 
 pub loop-rest-smaller : goal.loop-rest-smaller
 loop-rest-smaller c =
-    (first_of c.args.cut.now c.loop-rest.rest.now c.first_range.result.0.now c.first_range.result.1.now (some_left c.loop-rest.rest.now c.is_empty.result c.is_empty.ensures c.loop-rest-test.true)
+    (first_of c.args.cut.now c.loop-rest.rest.now c.first_range.result.0.now c.first_range.result.1.now
+    (some_left c.loop-rest.rest.now c.is_empty.result c.is_empty.ensures c.loop-rest-test.true)
     c.first_range.ensures.front c.first_range.ensures.rest).shorter
 
 pub loop-rest-init : goal.loop-rest-init
@@ -50,7 +54,8 @@ loop-rest-preserved c =
     let rest = c.loop-rest.rest.now in
     let front = c.first_range.result.0.now in
     let left = c.first_range.result.1.now in
-    let first : IsFirst cut rest front left = first_of cut rest front left (some_left rest c.is_empty.result c.is_empty.ensures c.loop-rest-test.true) c.first_range.ensures.front c.first_range.ensures.rest in
+    let first : IsFirst cut rest front left = first_of cut rest front left (some_left rest c.is_empty.result c.is_empty.ensures c.loop-rest-test.true)
+    c.first_range.ensures.front c.first_range.ensures.rest in
     let cons = ap length first.cons in
     let pushed = ap length c.in_ok-push.ensures.items in
     let one = length_push c.loop-rest.lines.items c.in_ok-line_of.field-0 in
@@ -60,10 +65,12 @@ loop-rest-preserved c =
       counted = omega arith;
       each = λ after. c.loop-rest.invariant.each (subst (AllByRecursion IsRange) (sym first.cons) (c.in_ok-bytes.ensures.limits, after));
       made = ap (λ done. done ++ map range_spelling (ranges cut left)) c.in_ok-push-2.ensures.items
-          ∙ one_more range_spelling c.loop-rest.ranges.items c.of-in-loop-rest.result front (ranges cut rest) (ranges cut left) (map range_spelling (ranges cut c.as_slice-rest.result.now))
+          ∙ one_more range_spelling c.loop-rest.ranges.items c.of-in-loop-rest.result front (ranges cut rest) (ranges cut left)
+          (map range_spelling (ranges cut c.as_slice-rest.result.now))
           c.loop-rest.invariant.made first.cons (c.of-in-loop-rest.ensures ∙ c.in_ok-bytes.ensures.spelled);
       said = ap (λ lines. lines ++ map line_of (ranges cut left)) c.in_ok-push.ensures.items
-          ∙ one_more line_of c.loop-rest.lines.items c.in_ok-line_of.field-0 front (ranges cut rest) (ranges cut left) (map line_of (ranges cut c.as_slice-rest.result.now))
+          ∙ one_more line_of c.loop-rest.lines.items c.in_ok-line_of.field-0 front (ranges cut rest) (ranges cut left)
+          (map line_of (ranges cut c.as_slice-rest.result.now))
           c.loop-rest.invariant.said first.cons c.in_ok-line_of.ensures;
     }
 
@@ -99,7 +106,8 @@ returns-clause-limits c =
     let rows = c.as_slice-rest.result.now in
     let none = none_left c.loop-rest.rest.now c.is_empty.result c.is_empty.ensures c.loop-rest-test.false in
     subst (λ rows. IsMetarange (map line_of (ranges cut rows))) c.as_slice-rest.ensures.entries
-    (subst IsMetarange (c.as_slice-2.ensures.value ∙ all_done line_of cut rows c.loop-rest.rest.now c.loop-rest.lines.items none c.loop-rest.invariant.said) c.in_ok-metarange.ensures.limits)
+    (subst IsMetarange (c.as_slice-2.ensures.value ∙ all_done line_of cut rows c.loop-rest.rest.now c.loop-rest.lines.items none c.loop-rest.invariant.said)
+    c.in_ok-metarange.ensures.limits)
 
 pub returns-clause-spelled : goal.returns-clause-spelled
 unfolding files

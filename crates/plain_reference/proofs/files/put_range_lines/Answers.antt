@@ -10,7 +10,9 @@ put_range_line-requires c = all_at IsSpan c.args.lines.now c.loop-line.line-inde
 pub loop-line-preserved : goal.loop-line-preserved
 loop-line-preserved c = record {
   written =
-      flat_more line_spelling c.args.out.now.items c.loop-line.out.items c.put_range_line.new.out.items c.args.lines.now c.loop-line.line-index c.line-item.result
+      flat_more line_spelling c.args.out.now.items c.loop-line.out.items c.put_range_line.new.out.items c.args.lines.now c.loop-line.line-index
+      c.line-item.result
       (omega arith) c.line-item.is c.loop-line.invariant.written c.in_ok-put_range_line.ensures.spelled;
-  limits = all_more IsLine c.args.lines.now c.loop-line.line-index c.line-item.result (omega arith) c.line-item.is c.loop-line.invariant.limits c.in_ok-put_range_line.ensures.limits;
+  limits = all_more IsLine c.args.lines.now c.loop-line.line-index c.line-item.result (omega arith) c.line-item.is c.loop-line.invariant.limits
+      c.in_ok-put_range_line.ensures.limits;
 }

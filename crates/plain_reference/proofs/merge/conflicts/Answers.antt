@@ -13,8 +13,10 @@ pub loop-path-preserved : goal.loop-path-preserved
 loop-path-preserved c =
     let item = c.loop-path-item.result in
     let so_far : List (List ℕ) = conflicting c.args.base.now c.args.source.now c.args.dest.now (take c.loop-path.path-index c.as_slice-path-items.result.now) in
-    let answer : c.eq.result ≡ is_conflict c.args.base.now c.args.source.now c.args.dest.now item.0 = c.eq.ensures ∙ told_neither c.side_at.result ∙ ap is_neither c.side_at.ensures in
-    conflicting_next c.args.base.now c.args.source.now c.args.dest.now c.as_slice-path-items.result.now c.loop-path.path-index item c.loop-path-test.true c.loop-path-item.is
+    let answer : c.eq.result ≡ is_conflict c.args.base.now c.args.source.now c.args.dest.now item.0 =
+    c.eq.ensures ∙ told_neither c.side_at.result ∙ ap is_neither c.side_at.ensures in
+    conflicting_next c.args.base.now c.args.source.now c.args.dest.now c.as_slice-path-items.result.now c.loop-path.path-index item c.loop-path-test.true
+    c.loop-path-item.is
     c.if-eq.paths.items
     (λ conflict. elim c.if-eq.branch [
       | then-eq+in_ok-copy+in_ok-push w ↦

@@ -8,8 +8,10 @@ use Rattle.plain_reference.proofs.merge.has_conflict.Goals as goal
 pub loop-path-preserved : goal.loop-path-preserved
 loop-path-preserved c =
     let item = c.loop-path-item.result in
-    let answer : c.eq.result ≡ is_conflict c.args.base.now c.args.source.now c.args.dest.now item.0 = c.eq.ensures ∙ told_neither c.side_at.result ∙ ap is_neither c.side_at.ensures in
-    conflicting_next c.args.base.now c.args.source.now c.args.dest.now c.as_slice-path-items.result.now c.loop-path.path-index item c.loop-path-test.true c.loop-path-item.is
+    let answer : c.eq.result ≡ is_conflict c.args.base.now c.args.source.now c.args.dest.now item.0 =
+    c.eq.ensures ∙ told_neither c.side_at.result ∙ ap is_neither c.side_at.ensures in
+    conflicting_next c.args.base.now c.args.source.now c.args.dest.now c.as_slice-path-items.result.now c.loop-path.path-index item c.loop-path-test.true
+    c.loop-path-item.is
     _
     (λ conflict. absurd (false≢true (sym c.if-eq.false ∙ answer ∙ conflict)))
     (λ calm. c.loop-path.invariant)

@@ -16,7 +16,8 @@ loop-path-preserved c =
 
 pub returns : goal.returns
 returns c =
-    IfOk-weaker c.apply.result (λ map. map ≡ apply c.loop-path.changes c.args.dest.now) (λ map. map ≡ merged_map c.args.strategy c.args.base.now c.args.source.now c.args.dest.now)
+    IfOk-weaker c.apply.result (λ map. map ≡ apply c.loop-path.changes c.args.dest.now)
+    (λ map. map ≡ merged_map c.args.strategy c.args.base.now c.args.source.now c.args.dest.now)
     (λ map is.
     is ∙ merges_all c.args.strategy c.args.base.now c.args.source.now c.args.dest.now c.loop-path.changes c.args.paths.now
     c.as_slice-path-items.result.now c.loop-path.path-index c.loop-path-test.false c.as_slice-path-items.ensures.changes c.requires c.loop-path.invariant)

@@ -11,7 +11,8 @@ use Rattle.plain_reference.proofs.retention.kept.Goals.{then-is_kept+in_ok-put_i
 
 pub loop-id-init : goal.loop-id-init
 loop-id-init c =
-    those_start ids_total ids_same (IsKept (graph_of c.args.commits.now) c.args.heads.now c.args.tags.now (option_copied c.args.rules) c.args.now) c.args.commits.now
+    those_start ids_total ids_same (IsKept (graph_of c.args.commits.now) c.args.heads.now c.args.tags.now (option_copied c.args.rules) c.args.now)
+    c.args.commits.now
     c.new-kept.result.items c.new-kept.ensures.items
 
 pub loop-id-preserved : goal.loop-id-preserved

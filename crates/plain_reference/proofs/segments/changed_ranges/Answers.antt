@@ -21,11 +21,15 @@ loop-before-preserved c =
     let few = ranges_few c.args.cut.now c.first_segment.result.0.now in
     elim c.if-not-is_carried.branch [
       | then-not-is_carried w ↦
-          let more = changed_more c.args.cut.now c.args.old.now (option_copied c.loop-before.before) (option_copied c.last_path-before.result) c.loop-before.rest.now
-          c.first_segment.result.0.now c.first_segment.result.1.now c.is_carried.result c.first_segment.ensures c.is_carried.ensures w.if-not-is_carried.true c.last_path-before.ensures in
+          let more =
+          changed_more c.args.cut.now c.args.old.now (option_copied c.loop-before.before) (option_copied c.last_path-before.result) c.loop-before.rest.now
+          c.first_segment.result.0.now c.first_segment.result.1.now c.is_carried.result c.first_segment.ensures c.is_carried.ensures w.if-not-is_carried.true
+          c.last_path-before.ensures in
           record { counted = omega arith; few = omega arith }
       | else-not-is_carried w ↦
-          let over = changed_over c.args.cut.now c.args.old.now (option_copied c.loop-before.before) (option_copied c.last_path-before.result) c.loop-before.rest.now
-          c.first_segment.result.0.now c.first_segment.result.1.now c.is_carried.result c.first_segment.ensures c.is_carried.ensures w.if-not-is_carried.false c.last_path-before.ensures in
+          let over =
+          changed_over c.args.cut.now c.args.old.now (option_copied c.loop-before.before) (option_copied c.last_path-before.result) c.loop-before.rest.now
+          c.first_segment.result.0.now c.first_segment.result.1.now c.is_carried.result c.first_segment.ensures c.is_carried.ensures w.if-not-is_carried.false
+          c.last_path-before.ensures in
           record { counted = omega arith; few = omega arith }
     ]

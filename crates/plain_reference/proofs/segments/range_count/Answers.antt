@@ -5,7 +5,8 @@ use Rattle.plain_reference.proofs.segments.range_count.Goals as goal
 
 pub overflow_add-count : goal.overflow_add-count
 overflow_add-count c =
-    let first = first_of c.args.cut.now c.loop-rest.rest.now c.first_range.result.0.now c.first_range.result.1.now (some_left c.loop-rest.rest.now c.is_empty.result c.is_empty.ensures c.loop-rest-test.true)
+    let first = first_of c.args.cut.now c.loop-rest.rest.now c.first_range.result.0.now c.first_range.result.1.now
+    (some_left c.loop-rest.rest.now c.is_empty.result c.is_empty.ensures c.loop-rest-test.true)
     c.first_range.ensures.front c.first_range.ensures.rest in
     let cons = ap length first.cons in
     let few = ranges_few c.args.cut.now c.args.rows.now in
@@ -13,12 +14,14 @@ overflow_add-count c =
 
 pub loop-rest-smaller : goal.loop-rest-smaller
 loop-rest-smaller c =
-    (first_of c.args.cut.now c.loop-rest.rest.now c.first_range.result.0.now c.first_range.result.1.now (some_left c.loop-rest.rest.now c.is_empty.result c.is_empty.ensures c.loop-rest-test.true)
+    (first_of c.args.cut.now c.loop-rest.rest.now c.first_range.result.0.now c.first_range.result.1.now
+    (some_left c.loop-rest.rest.now c.is_empty.result c.is_empty.ensures c.loop-rest-test.true)
     c.first_range.ensures.front c.first_range.ensures.rest).shorter
 
 pub loop-rest-preserved : goal.loop-rest-preserved
 loop-rest-preserved c =
-    let first = first_of c.args.cut.now c.loop-rest.rest.now c.first_range.result.0.now c.first_range.result.1.now (some_left c.loop-rest.rest.now c.is_empty.result c.is_empty.ensures c.loop-rest-test.true)
+    let first = first_of c.args.cut.now c.loop-rest.rest.now c.first_range.result.0.now c.first_range.result.1.now
+    (some_left c.loop-rest.rest.now c.is_empty.result c.is_empty.ensures c.loop-rest-test.true)
     c.first_range.ensures.front c.first_range.ensures.rest in
     let cons = ap length first.cons in
     omega arith

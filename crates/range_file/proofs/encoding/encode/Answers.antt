@@ -14,12 +14,15 @@ loop-row-preserved c =
     let at = c.loop-row.row-index in
     let here = c.in_ok-put_row.ensures.spelled ∙ ap (λ (r : RowValue). c.loop-row.out.items ++ row_spelling r) c.row.view_is in
     record {
-      written = flat_more row_spelling (1 ∷ to_be_bytes w32 (length rows)) c.loop-row.out.items c.put_row.new.out.items rows at row c.loop-row-test.true c.row-item.is c.loop-row.invariant.written here;
-      limits = all_more IsRow rows at row c.loop-row-test.true c.row-item.is c.loop-row.invariant.limits (subst IsRow c.row.view_is c.in_ok-put_row.ensures.limits);
+      written = flat_more row_spelling (1 ∷ to_be_bytes w32 (length rows)) c.loop-row.out.items c.put_row.new.out.items rows at row c.loop-row-test.true
+          c.row-item.is c.loop-row.invariant.written here;
+      limits =
+          all_more IsRow rows at row c.loop-row-test.true c.row-item.is c.loop-row.invariant.limits (subst IsRow c.row.view_is c.in_ok-put_row.ensures.limits);
     }
 
 pub returns-clause-spelled : goal.returns-clause-spelled
 unfolding range_spelling
 returns-clause-spelled c =
     let rows = c.args.rows.now in
-    c.loop-row.invariant.written ∙ ap (λ all. (1 ∷ to_be_bytes w32 (length rows)) ++ flat_map row_spelling all) (take_all c.loop-row.row-index rows (omega arith))
+    c.loop-row.invariant.written
+    ∙ ap (λ all. (1 ∷ to_be_bytes w32 (length rows)) ++ flat_map row_spelling all) (take_all c.loop-row.row-index rows (omega arith))

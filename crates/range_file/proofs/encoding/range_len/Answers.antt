@@ -10,6 +10,7 @@ pub loop-row-preserved : goal.loop-row-preserved
 loop-row-preserved c =
     let row = c.row-item.result in
     let so_far = flat_map row_spelling (take c.loop-row.row-index c.args.rows.now) in
-    let more = ap length (flat_take row_spelling c.args.rows.now c.loop-row.row-index row c.loop-row-test.true c.row-item.is) ∙ length-append so_far (row_spelling row) in
+    let more =
+    ap length (flat_take row_spelling c.args.rows.now c.loop-row.row-index row c.loop-row-test.true c.row-item.is) ∙ length-append so_far (row_spelling row) in
     let len = c.row_len-len.ensures.bytes ∙ ap (λ (r : RowValue). length (row_spelling r)) c.row.view_is in
     record { counted = omega (arith, more, len); few = omega arith }

@@ -11,7 +11,8 @@ returns-clause-left g c =
     let below = g.C.EntriesLeft.left c.args.below in
     let ascend : HasAscendingKeys below = subst HasAscendingKeys c.new.ensures.same c.new.ensures.ascend in
     over_slices (from_sorted changes) (rows_ahead c.next-change.result (g.D.ChangesLeft.left c.next-change.new.self)) c.new.result (from_sorted below)
-    (ahead_of c.next-change.result changes (g.D.ChangesLeft.left c.next-change.new.self) c.next-change.ensures.change ∙ sym (entries-from_sorted byte_order changes c.next-change.ensures.ascend))
+    (ahead_of c.next-change.result changes (g.D.ChangesLeft.left c.next-change.new.self) c.next-change.ensures.change
+    ∙ sym (entries-from_sorted byte_order changes c.next-change.ensures.ascend))
     (c.new.ensures.same ∙ sym (entries-from_sorted byte_order below ascend))
 
 pub returns-clause-of_map : goal.returns-clause-of_map

@@ -10,7 +10,8 @@ pub invariant_of-self : goal.invariant_of-self
 invariant_of-self g c =
     let inside = c.self.inside in
     let least = c.args.least.now in (
-      subst HasAscendingKeys (sym c.seek_changes.ensures) (ascends_from least (rows_ahead inside.change (g.D.ChangesLeft.left inside.after)) c.self.invariant.0),
+      subst HasAscendingKeys (sym c.seek_changes.ensures)
+          (ascends_from least (rows_ahead inside.change (g.D.ChangesLeft.left inside.after)) c.self.invariant.0),
       subst HasAscendingKeys (sym c.seek.ensures.from) (ascends_from least inside.below c.self.invariant.1),
     )
 

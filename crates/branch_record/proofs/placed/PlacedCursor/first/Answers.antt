@@ -9,4 +9,5 @@ use Rattle.branch_record.proofs.placed.PlacedCursor.first.Goals as goal
 pub returns-clause-ascend : goal.returns-clause-ascend
 returns-clause-ascend c =
     let placed = c.self.inside.placed.now in
-    subst HasAscendingKeys c.self.view_is (ascends_left (entries placed) (entries_sorted placed) (option_map deref_pair c.self.inside.first) c.self.inside.rest c.self.invariant)
+    subst HasAscendingKeys c.self.view_is
+    (ascends_left (entries placed) (entries_sorted placed) (option_map deref_pair c.self.inside.first) c.self.inside.rest c.self.invariant)

@@ -7,5 +7,6 @@ use Rattle.branch_record.proofs.placed.PlacedCursor.pass.Goals as goal
 pub invariant_of-self : goal.invariant_of-self
 invariant_of-self c =
     let placed = c.self.inside.placed.now in
-    stands_after (entries placed) (entries_sorted placed) (option_map deref_pair c.self.inside.first) c.next-self-inside.result c.self.inside.rest c.next-self-inside.new.self
+    stands_after (entries placed) (entries_sorted placed)
+    (option_map deref_pair c.self.inside.first) c.next-self-inside.result c.self.inside.rest c.next-self-inside.new.self
     c.next-self-inside.ensures.steps c.self.invariant

@@ -11,7 +11,8 @@ pub returns-then-is_empty : goal.returns-then-is_empty
 returns-then-is_empty c =
     let r = c.args.self.now in
     let t = c.args.tokens.now.changes in
-    let none : r.sealed ≡ [] = sym c.sealed-sealed.ensures.tokens ∙ nil_from_length c.sealed-sealed.result.now (eqb-true _ _ (sym c.is_empty.ensures ∙ c.if-is_empty.true)) in
+    let none : r.sealed ≡ [] =
+    sym c.sealed-sealed.ensures.tokens ∙ nil_from_length c.sealed-sealed.result.now (eqb-true _ _ (sym c.is_empty.ensures ∙ c.if-is_empty.true)) in
     c.in_ok-staged.ensures ∙ ap (changes_under t) c.staging.ensures.token
     ∙ sym (over_none (staged_changes r t)) ∙ ap (over (staged_changes r t)) (sym (ap (layers_of t) none ∙ layers_none t))
     ∙ ap (λ b. cond b (sealed_changes r t) (over (staged_changes r t) (sealed_changes r t))) (sym c.if-sealed_only.false)

@@ -10,7 +10,8 @@ use Rattle.branch_record.proofs.record.BranchRecord.seal.Goals.{In_ok-put_fresh,
 abbrev with_room : BranchRecordValue → BranchRecordValue → BranchRecordValue
 with_room new r = record r { spare = new.spare }
 
-fresh_record : (c : In_ok-put_fresh) → c.put_fresh.new.self ≡ with_room c.put_fresh.new.self (record_after_seal c.args.self.now c.args.tokens.now.changes c.args.fresh)
+fresh_record : (c : In_ok-put_fresh)
+    → c.put_fresh.new.self ≡ with_room c.put_fresh.new.self (record_after_seal c.args.self.now c.args.tokens.now.changes c.args.fresh)
 fresh_record c =
     let r = c.args.self.now in
     let t = c.args.tokens.now.changes in
@@ -22,12 +23,14 @@ returns-in_ok-put_fresh-clause-branch c = fresh_record c
 
 pub returns-in_ok-put_fresh-clause-sealed : goal.returns-in_ok-put_fresh-clause-sealed
 returns-in_ok-put_fresh-clause-sealed c =
-    ap (λ (x : BranchRecordValue). sealed_changes x c.args.tokens.now.changes) (fresh_record c) ∙ sealed_then c.args.self.now c.args.tokens.now.changes c.args.fresh
+    ap (λ (x : BranchRecordValue). sealed_changes x c.args.tokens.now.changes) (fresh_record c)
+    ∙ sealed_then c.args.self.now c.args.tokens.now.changes c.args.fresh
 
 pub returns-in_ok-put_fresh-clause-staged : goal.returns-in_ok-put_fresh-clause-staged
 returns-in_ok-put_fresh-clause-staged c =
     let t = c.args.tokens.now.changes in
-    ap (λ (x : BranchRecordValue). staged_changes x t) (fresh_record c) ∙ staged_then c.args.self.now t c.args.fresh (under_none t c.args.fresh c.requires.unused)
+    ap (λ (x : BranchRecordValue). staged_changes x t) (fresh_record c)
+    ∙ staged_then c.args.self.now t c.args.fresh (under_none t c.args.fresh c.requires.unused)
 
 absent : (c : Else-has_changes) → contains_key c.args.tokens.now.changes c.args.self.now.staging ≡ false
 absent c = ap (contains_key c.args.tokens.now.changes) (sym c.staging.ensures.token) ∙ sym c.has_changes.ensures.there ∙ c.if-has_changes.false

@@ -15,11 +15,13 @@ returns-in-Some c =
 pub returns-in-Some-get : goal.returns-in-Some-get
 returns-in-Some-get c =
     let rows = c.self.inside.changes.entries in
-    get_found rows c.self.inside.waiting c.args.token c.args.path.now None _ c.in-None.ensures (c.get-in-Some-get.ensures ∙ ap (λ o. get (value o) c.args.path.now) c.in-Some-get.ensures.value)
+    get_found rows c.self.inside.waiting c.args.token c.args.path.now None _ c.in-None.ensures
+    (c.get-in-Some-get.ensures ∙ ap (λ o. get (value o) c.args.path.now) c.in-Some-get.ensures.value)
     ∙ ap (λ (x : TokensValue). get (changes_under x.changes c.args.token) c.args.path.now) c.self.view_is
 
 pub returns-in-None-get : goal.returns-in-None-get
 returns-in-None-get c =
     let rows = c.self.inside.changes.entries in
-    get_found rows c.self.inside.waiting c.args.token c.args.path.now None None c.in-None.ensures (sym (get-empty byte_order c.args.path.now) ∙ ap (λ o. get (value o) c.args.path.now) c.in-None-get.ensures.value)
+    get_found rows c.self.inside.waiting c.args.token c.args.path.now None None c.in-None.ensures
+    (sym (get-empty byte_order c.args.path.now) ∙ ap (λ o. get (value o) c.args.path.now) c.in-None-get.ensures.value)
     ∙ ap (λ (x : TokensValue). get (changes_under x.changes c.args.token) c.args.path.now) c.self.view_is

@@ -16,7 +16,9 @@ returns-in-None-clause-there c =
     ∙ ap (λ (x : TokensValue). contains_key x.changes c.args.token) c.self.view_is
 
 pub returns-in-Some-clause-some : goal.returns-in-Some-clause-some
-returns-in-Some-clause-some c = subst (λ (x : TokensValue). HasNoEmptyToken x.changes) c.self.view_is (no_empty_token c.self.inside.changes.entries c.self.inside.waiting)
+returns-in-Some-clause-some c =
+    subst (λ (x : TokensValue). HasNoEmptyToken x.changes) c.self.view_is (no_empty_token c.self.inside.changes.entries c.self.inside.waiting)
 
 pub returns-in-None-clause-some : goal.returns-in-None-clause-some
-returns-in-None-clause-some c = subst (λ (x : TokensValue). HasNoEmptyToken x.changes) c.self.view_is (no_empty_token c.self.inside.changes.entries c.self.inside.waiting)
+returns-in-None-clause-some c =
+    subst (λ (x : TokensValue). HasNoEmptyToken x.changes) c.self.view_is (no_empty_token c.self.inside.changes.entries c.self.inside.waiting)

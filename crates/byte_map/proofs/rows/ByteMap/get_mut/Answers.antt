@@ -9,6 +9,7 @@ returns g c =
     let law = g.met.K.ByteKey.by_bytes in
     let rows = c.self.inside.rows in
     rw (← c.self.view_is) (
-      lent cmp bytes law c.get_mut.result rows c.get_mut.follows.lender-at-none c.args.key.now c.get_mut.follows.lender c.get_mut.ensures.value c.get_mut.follows.holds c.get_mut.follows.holds-at-none,
+      lent cmp bytes law c.get_mut.result rows c.get_mut.follows.lender-at-none c.args.key.now c.get_mut.follows.lender c.get_mut.ensures.value
+          c.get_mut.follows.holds c.get_mut.follows.holds-at-none,
       record { writes_back = tt; value = found_seen cmp bytes law rows.entries c.args.key.now _ c.get_mut.ensures.value },
     )

@@ -15,4 +15,5 @@ always (Err e) p = p
 
 pub returns-in_err-insert-clause-absent : goal.returns-in_err-insert-clause-absent
 returns-in_err-insert-clause-absent g c =
-    rw (← c.self.view_is) (always _ (sym (found_seen g.K.Ord.cmp g.K.ByteKey.bytes g.met.K.ByteKey.by_bytes c.self.inside.rows.entries c.args.key _ (sym c.in_err-insert.ensures.absent))))
+    rw (← c.self.view_is) (always _
+    (sym (found_seen g.K.Ord.cmp g.K.ByteKey.bytes g.met.K.ByteKey.by_bytes c.self.inside.rows.entries c.args.key _ (sym c.in_err-insert.ensures.absent))))

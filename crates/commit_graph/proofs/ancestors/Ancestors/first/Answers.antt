@@ -9,7 +9,8 @@ returns-in-Some c =
     let g = c.self.inside.graph.now in
     let front = c.self.inside.front.keys in
     let place = c.in-Some.place.now in
-    sym (ap (λ (l : List Digest). slice_get l 0) (sym c.self.view_is) ∙ first_left g front place c.self.invariant (at_first front place c.in-Some.ensures.first) c.in-Some.ensures.all_from)
+    sym (ap (λ (l : List Digest). slice_get l 0) (sym c.self.view_is)
+    ∙ first_left g front place c.self.invariant (at_first front place c.in-Some.ensures.first) c.in-Some.ensures.all_from)
 
 pub returns-in-None : goal.returns-in-None
 returns-in-None c =

@@ -9,5 +9,6 @@ returns-clause-left c =
     let g = c.args.graph.now in
     let id = c.args.id.now in
     let one : c.insert.new.self.keys ≡ place_of g id ∷ [] =
-    c.in_ok-insert.ensures.keys ∙ ap (λ ks. insert_key by_place ks c.place_of.result) c.new-front.ensures.empty ∙ ap (λ (p : Place). p ∷ []) c.place_of.ensures.place in
+    c.in_ok-insert.ensures.keys ∙ ap (λ ks. insert_key by_place ks c.place_of.result) c.new-front.ensures.empty
+    ∙ ap (λ (p : Place). p ∷ []) c.place_of.ensures.place in
     left_all g id c.insert.new.self.keys one

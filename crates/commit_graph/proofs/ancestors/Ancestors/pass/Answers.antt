@@ -13,7 +13,8 @@ put_in-requires c =
     let g = c.self.inside.graph.now in
     let place : Place = (c.in-Some.field-0-0, c.in-Some.id) in
     let rest = c.pop_first.new.self.keys in
-    subst (All (λ id. IsSome (commit_of g id))) (sym c.parents.ensures) (parents_there g place rest (subst (IsFront g) c.in-Some.ensures.removal c.self.invariant))
+    subst (All (λ id. IsSome (commit_of g id))) (sym c.parents.ensures)
+    (parents_there g place rest (subst (IsFront g) c.in-Some.ensures.removal c.self.invariant))
 
 pub invariant_of-self : goal.invariant_of-self
 invariant_of-self c =
@@ -30,7 +31,8 @@ returns-in-Some c =
     let new = c.put_in.new.front.keys in
     let is = c.in-Some.ensures.removal in
     let h = subst (IsFront g) is c.self.invariant in
-    on_ok_weaker c.put_in.result (λ puts. sym (ap (drop 1) (sym c.self.view_is ∙ ap (ancestors_left g) is ∙ passed g place rest new h c.in-Some.ensures.all_above (subst (λ l. PutsIn g l rest new) c.parents.ensures puts))))
+    on_ok_weaker c.put_in.result (λ puts. sym (ap (drop 1) (sym c.self.view_is ∙ ap (ancestors_left g) is
+    ∙ passed g place rest new h c.in-Some.ensures.all_above (subst (λ l. PutsIn g l rest new) c.parents.ensures puts))))
     c.put_in.ensures.put
 
 pub returns-in-None : goal.returns-in-None

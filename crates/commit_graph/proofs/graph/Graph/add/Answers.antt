@@ -28,15 +28,19 @@ invariant_of-self-2 c =
     let id = c.of-id.result in
     let named : id ≡ commit_id c.args.commit = ap id_of (c.of-id.ensures ∙ ap sha256 (c.as_slice-2.ensures.value ∙ c.in_ok-new.ensures.spelled)) in
     let put : graph_of c.insert.new.self.entries ≡ insert graph id.0 c.args.commit =
-    insert_from c.self.inside.commits.entries c.insert.new.self.entries id c.args.commit c.in_ok-insert.ensures.updates.0 ∙ ap (λ g. insert g id.0 c.args.commit) c.self.view_is in
+    insert_from c.self.inside.commits.entries c.insert.new.self.entries id c.args.commit c.in_ok-insert.ensures.updates.0
+    ∙ ap (λ g. insert g id.0 c.args.commit) c.self.view_is in
     let parents = c.as_slice.ensures ∙ ap (λ (x : CommitRecordValue). x.parents) c.commit.view_is in
-    let whole : missing_parent graph c.args.commit.parents ≡ None = ap (missing_parent graph) (sym parents) ∙ no_missing NoParent (missing_parent graph c.as_slice.result.now) c.in_ok-test_parents.ensures in
-    subst IsSound (sym put) (sound_more graph id c.args.commit c.in_default.ensures.valid (sym c.in_default.ensures.found) (record { limits = c.in_ok-new.ensures.limits; named = sym named }) whole (timely graph c.args.commit c.in_ok-test_generation.ensures))
+    let whole : missing_parent graph c.args.commit.parents ≡ None =
+    ap (missing_parent graph) (sym parents) ∙ no_missing NoParent (missing_parent graph c.as_slice.result.now) c.in_ok-test_parents.ensures in
+    subst IsSound (sym put) (sound_more graph id c.args.commit c.in_default.ensures.valid (sym c.in_default.ensures.found)
+    (record { limits = c.in_ok-new.ensures.limits; named = sym named }) whole (timely graph c.args.commit c.in_ok-test_generation.ensures))
 
 pub returns-clause-added : goal.returns-clause-added
 returns-clause-added c =
     let graph = c.args.self.now in
     let id = c.of-id.result in (
       ap id_of (c.of-id.ensures ∙ ap sha256 (c.as_slice-2.ensures.value ∙ c.in_ok-new.ensures.spelled)),
-      insert_from c.self.inside.commits.entries c.insert.new.self.entries id c.args.commit c.in_ok-insert.ensures.updates.0 ∙ ap (λ g. insert g id.0 c.args.commit) c.self.view_is,
+      insert_from c.self.inside.commits.entries c.insert.new.self.entries id c.args.commit c.in_ok-insert.ensures.updates.0
+          ∙ ap (λ g. insert g id.0 c.args.commit) c.self.view_is,
     )

@@ -13,7 +13,8 @@ returns-in_err-get c =
 pub loop-init : goal.loop-init
 loop-init c =
     let g = c.args.self.now in
-    let there : IsSome (commit_of g c.args.id.now) = there_where_found c.get.result (commit_of g c.args.id.now) c.get.ensures.found (ap is_some c.in_ok-get.was) in
+    let there : IsSome (commit_of g c.args.id.now) =
+    there_where_found c.get.result (commit_of g c.args.id.now) c.get.ensures.found (ap is_some c.in_ok-get.was) in
     starts g c.args.id.now there
 
 pub returns-in_err-at : goal.returns-in_err-at

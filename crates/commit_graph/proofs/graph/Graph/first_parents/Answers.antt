@@ -11,7 +11,8 @@ pub returns-in_default : goal.returns-in_default
 returns-in_default c =
     let g = c.args.self.now in
     let lt : c.loop.counter < generation g c.args.from.now = omega (arith, c.generation-end.ensures.generation) in
-    c.in_ok-push.ensures.items ∙ walk_ends g c.loop.counter c.args.from.now c.loop.at c.loop.ids.items c.loop.invariant.so_far (c.loop.invariant.stands lt) c.in_default.ensures lt
+    c.in_ok-push.ensures.items
+    ∙ walk_ends g c.loop.counter c.args.from.now c.loop.at c.loop.ids.items c.loop.invariant.so_far (c.loop.invariant.stands lt) c.in_default.ensures lt
 
 pub loop-preserved : goal.loop-preserved
 loop-preserved c =

@@ -8,12 +8,14 @@ pub returns-then-is_load_listed-clause-sure : goal.returns-then-is_load_listed-c
 returns-then-is_load_listed-clause-sure c =
     let number : c.saturating_add-self-inside.result ≡ next_count c.self.inside.loads = c.saturating_add-self-inside.ensures in
     let is : is_load_to_fail c.args.self.now.fails c.args.self.now.loads ≡ c.is_load_listed.result =
-    rw (← c.self.view_is) (listed c.self.inside.fails.items c.as_slice.result.now c.self.inside.loads c.saturating_add-self-inside.result c.is_load_listed.result c.is_load_listed.ensures c.as_slice.ensures.value number) in
+    rw (← c.self.view_is) (listed c.self.inside.fails.items c.as_slice.result.now c.self.inside.loads c.saturating_add-self-inside.result
+    c.is_load_listed.result c.is_load_listed.ensures c.as_slice.ensures.value number) in
     λ no. cc
 
 pub returns-clause-fails : goal.returns-clause-fails
 returns-clause-fails c =
     let number : c.saturating_add-self-inside.result ≡ next_count c.self.inside.loads = c.saturating_add-self-inside.ensures in
     let is : is_load_to_fail c.args.self.now.fails c.args.self.now.loads ≡ c.is_load_listed.result =
-    rw (← c.self.view_is) (listed c.self.inside.fails.items c.as_slice.result.now c.self.inside.loads c.saturating_add-self-inside.result c.is_load_listed.result c.is_load_listed.ensures c.as_slice.ensures.value number) in
+    rw (← c.self.view_is) (listed c.self.inside.fails.items c.as_slice.result.now c.self.inside.loads c.saturating_add-self-inside.result
+    c.is_load_listed.result c.is_load_listed.ensures c.as_slice.ensures.value number) in
     λ yes. absurd cc

@@ -9,7 +9,8 @@ use Rattle.key_merge.proofs.rows.Rows.at.Goals as goal
 pub returns-in_err-first-clause-found : goal.returns-in_err-first-clause-found
 returns-in_err-first-clause-found c =
     let none : c.pass_below.new.self ≡ [] = sym c.self.view_is ∙ ap (λ first. rows_ahead first c.self.inside.after) (c.in_err-first.was {u = tt}) in
-    ap option_copied c.from_residual.ensures ∙ (at_end c.args.path.now c.args.self.now c.pass_below.new.self c.pass_below.ensures.ascend c.pass_below.ensures.from none).found_is
+    ap option_copied c.from_residual.ensures
+    ∙ (at_end c.args.path.now c.args.self.now c.pass_below.new.self c.pass_below.ensures.ascend c.pass_below.ensures.from none).found_is
 
 pub returns-in_err-first-clause-left : goal.returns-in_err-first-clause-left
 returns-in_err-first-clause-left c =

@@ -16,69 +16,111 @@ ready_copy-requires g c = c.law_of_copies.ensures.sound _ _ _ c.self.invariant
 
 pub returns-in_err-ready-clause-reply : goal.returns-in_err-ready-clause-reply
 returns-in_err-ready-clause-reply g c =
-    holds_now (λ s given. IsCopyReply s given c.args.repo.now c.args.branch.now c.args.version c.args.e.now c.args.from.now c.from_residual.result) c.self.view_is c.self.invariant.replayed
-    (untested_found (state_of (lake_value c.self.inside.present)) (copy_causes (state_of (lake_value c.self.inside.present)) (versions_since (lake_value c.self.inside.opened.value) c.self.inside.history.items) c.args.repo.now c.args.branch.now c.args.version c.args.e.now c.args.from.now) (copied_entry (state_of (lake_value c.self.inside.present)) c.args.repo.now c.args.e.now c.args.from.now) (c.law_of_copies.ensures.refused (state_of (lake_value c.self.inside.present)) (versions_since (lake_value c.self.inside.opened.value) c.self.inside.history.items) c.args.repo.now c.args.branch.now c.args.version c.args.e.now c.args.from.now)
+    holds_now (λ s given. IsCopyReply s given c.args.repo.now c.args.branch.now c.args.version c.args.e.now c.args.from.now c.from_residual.result)
+    c.self.view_is c.self.invariant.replayed
+    (untested_found (state_of (lake_value c.self.inside.present)) (copy_causes (state_of (lake_value c.self.inside.present))
+    (versions_since (lake_value c.self.inside.opened.value) c.self.inside.history.items) c.args.repo.now c.args.branch.now
+    c.args.version c.args.e.now c.args.from.now) (copied_entry (state_of (lake_value c.self.inside.present)) c.args.repo.now c.args.e.now c.args.from.now)
+    (c.law_of_copies.ensures.refused (state_of (lake_value c.self.inside.present)) (versions_since (lake_value c.self.inside.opened.value)
+    c.self.inside.history.items) c.args.repo.now c.args.branch.now c.args.version c.args.e.now c.args.from.now)
     c.from_residual.result _ c.from_residual.ensures.1
-    (elim (c.in_err-ready.ensures.tells (versions_since (lake_value c.self.inside.opened.value) c.self.inside.history.items) c.self.invariant.versions) [ inl memory ↦ inl memory | inr is ↦ inr is.0 ]))
+    (elim (c.in_err-ready.ensures.tells (versions_since (lake_value c.self.inside.opened.value) c.self.inside.history.items) c.self.invariant.versions)
+    [ inl memory ↦ inl memory | inr is ↦ inr is.0 ]))
 
 pub returns-in_err-ready-clause-leaves : goal.returns-in_err-ready-clause-leaves
 returns-in_err-ready-clause-leaves g c =
     let view : KeeperView _ = record { kept = g.K.Keeper.kept; faults = g.K.Keeper.faults; calls = g.K.Keeper.calls } in
     let inside = c.self.inside in
-    untested_leaves view inside.opened.value inside.present c.ready_copy.new.lake inside.history.items inside.keeper c.args.self.now c.self.view_is c.in_err-ready.ensures.same c.args.by
-    (copy c.args.repo.now c.args.branch.now c.args.path c.args.e.now c.args.from.now (lake_value c.args.self.now.present)) c.from_residual.result _ c.from_residual.ensures.1
+    untested_leaves view inside.opened.value inside.present c.ready_copy.new.lake inside.history.items inside.keeper c.args.self.now c.self.view_is
+    c.in_err-ready.ensures.same c.args.by
+    (copy c.args.repo.now c.args.branch.now c.args.path c.args.e.now c.args.from.now (lake_value c.args.self.now.present)) c.from_residual.result _
+    c.from_residual.ensures.1
     (elim (c.in_err-ready.ensures.tells (versions_since (lake_value c.self.inside.opened.value) c.self.inside.history.items) c.self.invariant.versions) [
       | inl memory ↦ inl memory
-      | inr is ↦ inr (c.law_of_copies.ensures.refused (state_of (lake_value c.self.inside.present)) (versions_since (lake_value c.self.inside.opened.value) c.self.inside.history.items) c.args.repo.now c.args.branch.now c.args.version c.args.e.now c.args.from.now _ is.0, is.1)
+      | inr is ↦ inr (
+        c.law_of_copies.ensures.refused (state_of (lake_value c.self.inside.present)) (versions_since (lake_value c.self.inside.opened.value)
+            c.self.inside.history.items) c.args.repo.now c.args.branch.now c.args.version c.args.e.now c.args.from.now _ is.0,
+        is.1,
+      )
     ])
 
 pub keep-requires : goal.keep-requires
 keep-requires g c =
     let found = c.in_ok-ready.ensures.tells (versions_since (lake_value c.self.inside.opened.value) c.self.inside.history.items) c.self.invariant.versions in
-    let may = c.law_of_copies.ensures.may _ _ _ c.args.by c.args.repo.now c.args.branch.now c.args.version c.args.path c.args.e.now c.args.from.now c.in_ok-ready.ready.entry found.1.tested.commit c.self.invariant found.0 found.1.tested.finds in
+    let may = c.law_of_copies.ensures.may _ _ _ c.args.by c.args.repo.now c.args.branch.now c.args.version c.args.path c.args.e.now c.args.from.now
+    c.in_ok-ready.ready.entry found.1.tested.commit c.self.invariant found.0 found.1.tested.finds in
     record { few = subst AreFew (sym c.in_ok-ready.ensures.same) may.few }
 
 pub invariant_of-self-in_err-keep : goal.invariant_of-self-in_err-keep
 invariant_of-self-in_err-keep g c =
     let found = c.in_ok-ready.ensures.tells (versions_since (lake_value c.self.inside.opened.value) c.self.inside.history.items) c.self.invariant.versions in
-    let may = c.law_of_copies.ensures.may _ _ _ c.args.by c.args.repo.now c.args.branch.now c.args.version c.args.path c.args.e.now c.args.from.now c.in_ok-ready.ready.entry found.1.tested.commit c.self.invariant found.0 found.1.tested.finds in
+    let may = c.law_of_copies.ensures.may _ _ _ c.args.by c.args.repo.now c.args.branch.now c.args.version c.args.path c.args.e.now c.args.from.now
+    c.in_ok-ready.ready.entry found.1.tested.commit c.self.invariant found.0 found.1.tested.finds in
     refused_stands may _ _ _ _ _ _ c.self.invariant found.1.tested.operation refl c.in_ok-ready.ensures.same c.in_err-keep.ensures.kept
 
 pub returns-in_err-keep-clause-reply : goal.returns-in_err-keep-clause-reply
 returns-in_err-keep-clause-reply g c =
-    holds_now (λ s given. IsCopyReply s given c.args.repo.now c.args.branch.now c.args.version c.args.e.now c.args.from.now c.from_residual-in_err-keep.result) c.self.view_is c.self.invariant.replayed
-    (unkept_found _ _ _ _ _ _ (state_of (lake_value c.self.inside.present)) (copy_causes (state_of (lake_value c.self.inside.present)) (versions_since (lake_value c.self.inside.opened.value) c.self.inside.history.items) c.args.repo.now c.args.branch.now c.args.version c.args.e.now c.args.from.now) (copied_entry (state_of (lake_value c.self.inside.present)) c.args.repo.now c.args.e.now c.args.from.now) (c.in_ok-ready.ensures.tells (versions_since (lake_value c.self.inside.opened.value) c.self.inside.history.items) c.self.invariant.versions).0 _ _ c.from_residual-in_err-keep.ensures.1 c.in_err-keep.ensures.kept)
+    holds_now (λ s given. IsCopyReply s given c.args.repo.now c.args.branch.now c.args.version c.args.e.now c.args.from.now c.from_residual-in_err-keep.result)
+    c.self.view_is c.self.invariant.replayed
+    (unkept_found _ _ _ _ _ _ (state_of (lake_value c.self.inside.present)) (copy_causes (state_of (lake_value c.self.inside.present))
+    (versions_since (lake_value c.self.inside.opened.value) c.self.inside.history.items) c.args.repo.now c.args.branch.now
+    c.args.version c.args.e.now c.args.from.now) (copied_entry (state_of (lake_value c.self.inside.present)) c.args.repo.now c.args.e.now c.args.from.now)
+    (c.in_ok-ready.ensures.tells (versions_since (lake_value c.self.inside.opened.value) c.self.inside.history.items) c.self.invariant.versions).0 _ _
+    c.from_residual-in_err-keep.ensures.1 c.in_err-keep.ensures.kept)
 
 pub returns-in_err-keep-clause-leaves : goal.returns-in_err-keep-clause-leaves
 returns-in_err-keep-clause-leaves g c =
     let found = c.in_ok-ready.ensures.tells (versions_since (lake_value c.self.inside.opened.value) c.self.inside.history.items) c.self.invariant.versions in
-    unkept_leaves _ _ (λ p. copy c.args.repo.now c.args.branch.now c.args.path c.args.e.now c.args.from.now (lake_value p)) (copy_making c.args.repo.now c.args.branch.now c.args.path (source_of c.args.e.now.name found.1.tested.commit) c.args.from.now c.in_ok-ready.ready.entry (lake_value c.self.inside.present)) _ _ found.1.tested.operation found.1.puts
-    _ _ _ _ _ (record { keeper = c.keep.new.keeper; history = c.keep.new.history.items; present = c.keep.new.present }) c.in_ok-ready.ensures.same (ap (option_and_then (λ source. option_map (λ x. copy_making c.args.repo.now c.args.branch.now c.args.path source c.args.from.now x (lake_value c.self.inside.present)) (copied_entry (state_of (lake_value c.self.inside.present)) c.args.repo.now c.args.e.now c.args.from.now))) found.1.tested.finds.source
-    ∙ ap (option_map (λ x. copy_making c.args.repo.now c.args.branch.now c.args.path (source_of c.args.e.now.name found.1.tested.commit) c.args.from.now x (lake_value c.self.inside.present))) found.1.tested.finds.found) _ c.self.view_is _ _ c.from_residual-in_err-keep.ensures.1 c.in_err-keep.ensures.kept
+    unkept_leaves _ _ (λ p. copy c.args.repo.now c.args.branch.now c.args.path c.args.e.now c.args.from.now (lake_value p))
+    (copy_making c.args.repo.now c.args.branch.now c.args.path (source_of c.args.e.now.name found.1.tested.commit) c.args.from.now c.in_ok-ready.ready.entry
+    (lake_value c.self.inside.present)) _ _ found.1.tested.operation found.1.puts
+    _ _ _ _ _ (record { keeper = c.keep.new.keeper; history = c.keep.new.history.items; present = c.keep.new.present })
+    c.in_ok-ready.ensures.same (ap (option_and_then
+    (λ source. option_map (λ x. copy_making c.args.repo.now c.args.branch.now c.args.path source c.args.from.now x (lake_value c.self.inside.present))
+    (copied_entry (state_of (lake_value c.self.inside.present)) c.args.repo.now c.args.e.now c.args.from.now))) found.1.tested.finds.source
+    ∙ ap (option_map (λ x. copy_making c.args.repo.now c.args.branch.now c.args.path (source_of c.args.e.now.name found.1.tested.commit) c.args.from.now x
+    (lake_value c.self.inside.present))) found.1.tested.finds.found) _ c.self.view_is _ _ c.from_residual-in_err-keep.ensures.1 c.in_err-keep.ensures.kept
 
 pub copy-requires-clause-few : goal.copy-requires-clause-few
 copy-requires-clause-few g c =
     let found = c.in_ok-ready.ensures.tells (versions_since (lake_value c.self.inside.opened.value) c.self.inside.history.items) c.self.invariant.versions in
-    let may = c.law_of_copies.ensures.may _ _ _ c.args.by c.args.repo.now c.args.branch.now c.args.version c.args.path c.args.e.now c.args.from.now c.in_ok-ready.ready.entry found.1.tested.commit c.self.invariant found.0 found.1.tested.finds in
+    let may = c.law_of_copies.ensures.may _ _ _ c.args.by c.args.repo.now c.args.branch.now c.args.version c.args.path c.args.e.now c.args.from.now
+    c.in_ok-ready.ready.entry found.1.tested.commit c.self.invariant found.0 found.1.tested.finds in
     subst AreFew (sym (c.in_ok-keep.ensures.kept.present ∙ c.in_ok-ready.ensures.same)) may.few
 
 pub invariant_of-self-2 : goal.invariant_of-self-2
 invariant_of-self-2 g c =
     let found = c.in_ok-ready.ensures.tells (versions_since (lake_value c.self.inside.opened.value) c.self.inside.history.items) c.self.invariant.versions in
-    let may = c.law_of_copies.ensures.may _ _ _ c.args.by c.args.repo.now c.args.branch.now c.args.version c.args.path c.args.e.now c.args.from.now c.in_ok-ready.ready.entry found.1.tested.commit c.self.invariant found.0 found.1.tested.finds in
+    let may = c.law_of_copies.ensures.may _ _ _ c.args.by c.args.repo.now c.args.branch.now c.args.version c.args.path c.args.e.now c.args.from.now
+    c.in_ok-ready.ready.entry found.1.tested.commit c.self.invariant found.0 found.1.tested.finds in
     made_stands may _ _ _ found.1.tested.operation c.in_ok-keep.ensures.kept.history
-    (c.copy.ensures ∙ ap (after_copy c.args.repo.now c.args.branch.now c.args.path c.in_ok-ready.ready.entry) (c.in_ok-keep.ensures.kept.present ∙ c.in_ok-ready.ensures.same))
+    (c.copy.ensures ∙ ap (after_copy c.args.repo.now c.args.branch.now c.args.path c.in_ok-ready.ready.entry)
+    (c.in_ok-keep.ensures.kept.present ∙ c.in_ok-ready.ensures.same))
 
 pub returns-clause-reply : goal.returns-clause-reply
 returns-clause-reply g c =
     let found = c.in_ok-ready.ensures.tells (versions_since (lake_value c.self.inside.opened.value) c.self.inside.history.items) c.self.invariant.versions in
-    holds_now (λ s given. IsCopyReply s given c.args.repo.now c.args.branch.now c.args.version c.args.e.now c.args.from.now (Ok (c.place.result, c.in_ok-ready.ready.answer))) c.self.view_is c.self.invariant.replayed
-    (found.0, (c.place.ensures ∙ ap (λ l. l.entries) (c.copy.ensures ∙ ap (after_copy c.args.repo.now c.args.branch.now c.args.path c.in_ok-ready.ready.entry) (c.in_ok-keep.ensures.kept.present ∙ c.in_ok-ready.ensures.same)), found.1.tested.finds.found ∙ ap Some (sym found.1.tested.answer)))
+    holds_now (λ s given. IsCopyReply s given c.args.repo.now c.args.branch.now c.args.version c.args.e.now c.args.from.now
+    (Ok (c.place.result, c.in_ok-ready.ready.answer))) c.self.view_is c.self.invariant.replayed (
+      found.0,
+      (
+        c.place.ensures ∙ ap (λ l. l.entries) (c.copy.ensures ∙ ap (after_copy c.args.repo.now c.args.branch.now c.args.path c.in_ok-ready.ready.entry)
+            (c.in_ok-keep.ensures.kept.present ∙ c.in_ok-ready.ensures.same)),
+        found.1.tested.finds.found ∙ ap Some (sym found.1.tested.answer),
+      ),
+    )
 
 pub returns-clause-leaves : goal.returns-clause-leaves
 returns-clause-leaves g c =
     let found = c.in_ok-ready.ensures.tells (versions_since (lake_value c.self.inside.opened.value) c.self.inside.history.items) c.self.invariant.versions in
-    made_leaves _ _ (λ p. copy c.args.repo.now c.args.branch.now c.args.path c.args.e.now c.args.from.now (lake_value p)) (copy_making c.args.repo.now c.args.branch.now c.args.path (source_of c.args.e.now.name found.1.tested.commit) c.args.from.now c.in_ok-ready.ready.entry (lake_value c.self.inside.present)) _ _ found.1.tested.operation found.1.puts
-    _ _ _ _ _ (record { keeper = c.keep.new.keeper; history = c.keep.new.history.items; present = c.keep.new.present }) c.in_ok-ready.ensures.same (ap (option_and_then (λ source. option_map (λ x. copy_making c.args.repo.now c.args.branch.now c.args.path source c.args.from.now x (lake_value c.self.inside.present)) (copied_entry (state_of (lake_value c.self.inside.present)) c.args.repo.now c.args.e.now c.args.from.now))) found.1.tested.finds.source
-    ∙ ap (option_map (λ x. copy_making c.args.repo.now c.args.branch.now c.args.path (source_of c.args.e.now.name found.1.tested.commit) c.args.from.now x (lake_value c.self.inside.present))) found.1.tested.finds.found) _ c.self.view_is _ c.in_ok-keep.ensures.kept
-    (c.copy.ensures ∙ ap (after_copy c.args.repo.now c.args.branch.now c.args.path c.in_ok-ready.ready.entry) (c.in_ok-keep.ensures.kept.present ∙ c.in_ok-ready.ensures.same))
+    made_leaves _ _ (λ p. copy c.args.repo.now c.args.branch.now c.args.path c.args.e.now c.args.from.now (lake_value p))
+    (copy_making c.args.repo.now c.args.branch.now c.args.path (source_of c.args.e.now.name found.1.tested.commit) c.args.from.now c.in_ok-ready.ready.entry
+    (lake_value c.self.inside.present)) _ _ found.1.tested.operation found.1.puts
+    _ _ _ _ _ (record { keeper = c.keep.new.keeper; history = c.keep.new.history.items; present = c.keep.new.present })
+    c.in_ok-ready.ensures.same (ap (option_and_then
+    (λ source. option_map (λ x. copy_making c.args.repo.now c.args.branch.now c.args.path source c.args.from.now x (lake_value c.self.inside.present))
+    (copied_entry (state_of (lake_value c.self.inside.present)) c.args.repo.now c.args.e.now c.args.from.now))) found.1.tested.finds.source
+    ∙ ap (option_map (λ x. copy_making c.args.repo.now c.args.branch.now c.args.path (source_of c.args.e.now.name found.1.tested.commit) c.args.from.now x
+    (lake_value c.self.inside.present))) found.1.tested.finds.found) _ c.self.view_is _ c.in_ok-keep.ensures.kept
+    (c.copy.ensures ∙ ap (after_copy c.args.repo.now c.args.branch.now c.args.path c.in_ok-ready.ready.entry)
+    (c.in_ok-keep.ensures.kept.present ∙ c.in_ok-ready.ensures.same))

@@ -7,67 +7,94 @@ use Rattle.core_changes.specs.LakeChanges.{after_branch_create}
 use Rattle.core_puts.specs.KeeperViews.{KeeperView}
 use Rattle.lake_core.specs.Lakes.{state}
 use Rattle.lake_core.specs.Makings.{branch_making, create_branch}
-use Rattle.lake_core.proofs.StepLemmas.{holds_now, made_leaves, made_stands, refused_found, refused_leaves, refused_stands, starved_found, unkept_found, unkept_leaves, unready_leaves}
+use Rattle.lake_core.proofs.StepLemmas.{holds_now, made_leaves, made_stands, refused_found, refused_leaves, refused_stands, starved_found, unkept_found}
+use Rattle.lake_core.proofs.StepLemmas.{unkept_leaves, unready_leaves}
 use Rattle.lake_core.proofs.lake.Lake.create_branch.Goals as goal
 
 pub returns-in_err-commit-clause-reply : goal.returns-in_err-commit-clause-reply
 returns-in_err-commit-clause-reply g c =
     holds_now (λ s given. IsCreateBranchReply s c.args.repo.now c.args.name c.args.e.now c.from_residual.result) c.self.view_is c.self.invariant.replayed
-    (refused_found (state_of (lake_value c.self.inside.present)) (create_branch_causes (state_of (lake_value c.self.inside.present)) c.args.repo.now c.args.name c.args.e.now) (in_it (state_of (lake_value c.self.inside.present)) c.args.repo.now (λ r. target_in r c.args.e.now)) (c.laws_of_causes.ensures.create_branch (state_of (lake_value c.self.inside.present)) c.args.repo.now c.args.name c.args.e.now) _ _ c.from_residual.ensures.1
+    (refused_found (state_of (lake_value c.self.inside.present))
+    (create_branch_causes (state_of (lake_value c.self.inside.present)) c.args.repo.now c.args.name c.args.e.now)
+    (in_it (state_of (lake_value c.self.inside.present)) c.args.repo.now (λ r. target_in r c.args.e.now)) (c.laws_of_causes.ensures.create_branch
+    (state_of (lake_value c.self.inside.present)) c.args.repo.now c.args.name c.args.e.now) _ _ c.from_residual.ensures.1
     c.in_err-commit.ensures)
 
 pub keep-requires : goal.keep-requires
 keep-requires g c =
     let none = c.in_ok-commit.ensures.0 in
-    let may = c.laws_of_names.ensures.create_branch _ _ _ c.args.by c.args.repo.now c.args.name c.args.e.now c.in_ok-commit.commit c.self.invariant c.requires none c.in_ok-commit.ensures.1 in
+    let may = c.laws_of_names.ensures.create_branch _ _ _ c.args.by c.args.repo.now c.args.name c.args.e.now c.in_ok-commit.commit c.self.invariant c.requires
+    none c.in_ok-commit.ensures.1 in
     record { few = subst AreFew (sym c.in_ok-operation.ensures.same) may.few }
 
 pub invariant_of-self-in_err-keep : goal.invariant_of-self-in_err-keep
 invariant_of-self-in_err-keep g c =
     let none = c.in_ok-commit.ensures.0 in
-    let may = c.laws_of_names.ensures.create_branch _ _ _ c.args.by c.args.repo.now c.args.name c.args.e.now c.in_ok-commit.commit c.self.invariant c.requires none c.in_ok-commit.ensures.1 in
+    let may = c.laws_of_names.ensures.create_branch _ _ _ c.args.by c.args.repo.now c.args.name c.args.e.now c.in_ok-commit.commit c.self.invariant c.requires
+    none c.in_ok-commit.ensures.1 in
     refused_stands may _ _ _ _ _ _ c.self.invariant c.in_ok-operation.ensures.ready.operation refl c.in_ok-operation.ensures.same c.in_err-keep.ensures.kept
 
 pub returns-in_err-keep-clause-reply : goal.returns-in_err-keep-clause-reply
 returns-in_err-keep-clause-reply g c =
-    holds_now (λ s given. IsCreateBranchReply s c.args.repo.now c.args.name c.args.e.now c.from_residual-in_err-keep.result) c.self.view_is c.self.invariant.replayed
-    (unkept_found _ _ _ _ _ _ (state_of (lake_value c.self.inside.present)) (create_branch_causes (state_of (lake_value c.self.inside.present)) c.args.repo.now c.args.name c.args.e.now) (in_it (state_of (lake_value c.self.inside.present)) c.args.repo.now (λ r. target_in r c.args.e.now)) (c.in_ok-commit.ensures.0) _ _ c.from_residual-in_err-keep.ensures.1 c.in_err-keep.ensures.kept)
+    holds_now (λ s given. IsCreateBranchReply s c.args.repo.now c.args.name c.args.e.now c.from_residual-in_err-keep.result) c.self.view_is
+    c.self.invariant.replayed
+    (unkept_found _ _ _ _ _ _ (state_of (lake_value c.self.inside.present)) (create_branch_causes (state_of (lake_value c.self.inside.present))
+    c.args.repo.now c.args.name c.args.e.now) (in_it (state_of (lake_value c.self.inside.present)) c.args.repo.now (λ r. target_in r c.args.e.now))
+    (c.in_ok-commit.ensures.0) _ _ c.from_residual-in_err-keep.ensures.1 c.in_err-keep.ensures.kept)
 
 pub returns-in_err-keep-clause-leaves : goal.returns-in_err-keep-clause-leaves
 returns-in_err-keep-clause-leaves g c =
     unkept_leaves _ _ (λ p. create_branch c.args.repo.now c.args.name c.args.e.now (lake_value p))
-    (branch_making c.args.repo.now c.args.name c.in_ok-commit.commit (lake_value c.self.inside.present)) _ _ c.in_ok-operation.ensures.ready.operation c.in_ok-operation.ensures.ready.puts
-    _ _ _ _ _ (record { keeper = c.keep.new.keeper; history = c.keep.new.history.items; present = c.keep.new.present }) c.in_ok-operation.ensures.same (ap (option_map (λ id. branch_making c.args.repo.now c.args.name id (lake_value c.self.inside.present))) c.in_ok-commit.ensures.1) _ c.self.view_is _ _ c.from_residual-in_err-keep.ensures.1 c.in_err-keep.ensures.kept
+    (branch_making c.args.repo.now c.args.name c.in_ok-commit.commit (lake_value c.self.inside.present)) _ _ c.in_ok-operation.ensures.ready.operation
+    c.in_ok-operation.ensures.ready.puts
+    _ _ _ _ _ (record { keeper = c.keep.new.keeper; history = c.keep.new.history.items; present = c.keep.new.present }) c.in_ok-operation.ensures.same
+    (ap (option_map (λ id. branch_making c.args.repo.now c.args.name id (lake_value c.self.inside.present))) c.in_ok-commit.ensures.1) _ c.self.view_is _ _
+    c.from_residual-in_err-keep.ensures.1 c.in_err-keep.ensures.kept
 
 pub invariant_of-self-2 : goal.invariant_of-self-2
 invariant_of-self-2 g c =
     let none = c.in_ok-commit.ensures.0 in
-    let may = c.laws_of_names.ensures.create_branch _ _ _ c.args.by c.args.repo.now c.args.name c.args.e.now c.in_ok-commit.commit c.self.invariant c.requires none c.in_ok-commit.ensures.1 in
+    let may = c.laws_of_names.ensures.create_branch _ _ _ c.args.by c.args.repo.now c.args.name c.args.e.now c.in_ok-commit.commit c.self.invariant c.requires
+    none c.in_ok-commit.ensures.1 in
     made_stands may _ _ _ c.in_ok-operation.ensures.ready.operation c.in_ok-keep.ensures.kept.history
-    (c.create_branch.ensures ∙ ap (after_branch_create c.args.repo.now c.args.name c.in_ok-commit.commit) (c.in_ok-keep.ensures.kept.present ∙ c.in_ok-operation.ensures.same))
+    (c.create_branch.ensures
+    ∙ ap (after_branch_create c.args.repo.now c.args.name c.in_ok-commit.commit) (c.in_ok-keep.ensures.kept.present ∙ c.in_ok-operation.ensures.same))
 
 pub returns-clause-reply : goal.returns-clause-reply
 returns-clause-reply g c =
-    holds_now (λ s given. IsCreateBranchReply s c.args.repo.now c.args.name c.args.e.now (Ok (c.place.result, c.in_ok-commit.commit))) c.self.view_is c.self.invariant.replayed
-    (c.in_ok-commit.ensures.0, (c.place.ensures ∙ ap (λ l. l.entries) (c.create_branch.ensures ∙ ap (after_branch_create c.args.repo.now c.args.name c.in_ok-commit.commit) (c.in_ok-keep.ensures.kept.present ∙ c.in_ok-operation.ensures.same)), c.in_ok-commit.ensures.1))
+    holds_now (λ s given. IsCreateBranchReply s c.args.repo.now c.args.name c.args.e.now (Ok (c.place.result, c.in_ok-commit.commit))) c.self.view_is
+    c.self.invariant.replayed (
+      c.in_ok-commit.ensures.0,
+      (
+        c.place.ensures ∙ ap (λ l. l.entries) (c.create_branch.ensures ∙ ap (after_branch_create c.args.repo.now c.args.name
+            c.in_ok-commit.commit) (c.in_ok-keep.ensures.kept.present ∙ c.in_ok-operation.ensures.same)),
+        c.in_ok-commit.ensures.1,
+      ),
+    )
 
 pub returns-clause-leaves : goal.returns-clause-leaves
 returns-clause-leaves g c =
     made_leaves _ _ (λ p. create_branch c.args.repo.now c.args.name c.args.e.now (lake_value p))
-    (branch_making c.args.repo.now c.args.name c.in_ok-commit.commit (lake_value c.self.inside.present)) _ _ c.in_ok-operation.ensures.ready.operation c.in_ok-operation.ensures.ready.puts
-    _ _ _ _ _ (record { keeper = c.keep.new.keeper; history = c.keep.new.history.items; present = c.keep.new.present }) c.in_ok-operation.ensures.same (ap (option_map (λ id. branch_making c.args.repo.now c.args.name id (lake_value c.self.inside.present))) c.in_ok-commit.ensures.1) _ c.self.view_is _ c.in_ok-keep.ensures.kept
-    (c.create_branch.ensures ∙ ap (after_branch_create c.args.repo.now c.args.name c.in_ok-commit.commit) (c.in_ok-keep.ensures.kept.present ∙ c.in_ok-operation.ensures.same))
+    (branch_making c.args.repo.now c.args.name c.in_ok-commit.commit (lake_value c.self.inside.present)) _ _ c.in_ok-operation.ensures.ready.operation
+    c.in_ok-operation.ensures.ready.puts
+    _ _ _ _ _ (record { keeper = c.keep.new.keeper; history = c.keep.new.history.items; present = c.keep.new.present }) c.in_ok-operation.ensures.same
+    (ap (option_map (λ id. branch_making c.args.repo.now c.args.name id (lake_value c.self.inside.present))) c.in_ok-commit.ensures.1) _ c.self.view_is _
+    c.in_ok-keep.ensures.kept
+    (c.create_branch.ensures
+    ∙ ap (after_branch_create c.args.repo.now c.args.name c.in_ok-commit.commit) (c.in_ok-keep.ensures.kept.present ∙ c.in_ok-operation.ensures.same))
 
 pub ready_create-requires : goal.ready_create-requires
 ready_create-requires g c =
     let none = c.in_ok-commit.ensures.0 in
-    let may = c.laws_of_names.ensures.create_branch _ _ _ c.args.by c.args.repo.now c.args.name c.args.e.now c.in_ok-commit.commit c.self.invariant c.requires none c.in_ok-commit.ensures.1 in
+    let may = c.laws_of_names.ensures.create_branch _ _ _ c.args.by c.args.repo.now c.args.name c.args.e.now c.in_ok-commit.commit c.self.invariant c.requires
+    none c.in_ok-commit.ensures.1 in
     record { plain = c.requires; few = may.few }
 
 pub create_branch-requires-clause-few : goal.create_branch-requires-clause-few
 create_branch-requires-clause-few g c =
     let none = c.in_ok-commit.ensures.0 in
-    let may = c.laws_of_names.ensures.create_branch _ _ _ c.args.by c.args.repo.now c.args.name c.args.e.now c.in_ok-commit.commit c.self.invariant c.requires none c.in_ok-commit.ensures.1 in
+    let may = c.laws_of_names.ensures.create_branch _ _ _ c.args.by c.args.repo.now c.args.name c.args.e.now c.in_ok-commit.commit c.self.invariant c.requires
+    none c.in_ok-commit.ensures.1 in
     subst AreFew (sym (c.in_ok-keep.ensures.kept.present ∙ c.in_ok-operation.ensures.same)) may.few
 
 pub returns-in_err-commit-clause-leaves : goal.returns-in_err-commit-clause-leaves
@@ -77,12 +104,15 @@ returns-in_err-commit-clause-leaves g c =
 
 pub returns-in_err-operation-clause-reply : goal.returns-in_err-operation-clause-reply
 returns-in_err-operation-clause-reply g c =
-    starved_found (state c.args.self.now) (create_branch_causes (state c.args.self.now) c.args.repo.now c.args.name c.args.e.now) (in_it (state c.args.self.now) c.args.repo.now (λ r. target_in r c.args.e.now))
+    starved_found (state c.args.self.now) (create_branch_causes (state c.args.self.now) c.args.repo.now c.args.name c.args.e.now)
+    (in_it (state c.args.self.now) c.args.repo.now (λ r. target_in r c.args.e.now))
     c.from_residual-in_err-operation.result c.from_residual-in_err-operation.ensures.1
 
 pub returns-in_err-operation-clause-leaves : goal.returns-in_err-operation-clause-leaves
 returns-in_err-operation-clause-leaves g c =
     let view : KeeperView _ = record { kept = g.K.Keeper.kept; faults = g.K.Keeper.faults; calls = g.K.Keeper.calls } in
     let inside = c.self.inside in
-    unready_leaves view inside.opened.value inside.present c.ready_create.new.lake inside.history.items inside.keeper c.args.self.now c.self.view_is c.ready_create.ensures.same c.args.by
-    (create_branch c.args.repo.now c.args.name c.args.e.now (lake_value c.args.self.now.present)) c.from_residual-in_err-operation.result c.from_residual-in_err-operation.ensures.1
+    unready_leaves view inside.opened.value inside.present c.ready_create.new.lake inside.history.items inside.keeper c.args.self.now c.self.view_is
+    c.ready_create.ensures.same c.args.by
+    (create_branch c.args.repo.now c.args.name c.args.e.now (lake_value c.args.self.now.present)) c.from_residual-in_err-operation.result
+    c.from_residual-in_err-operation.ensures.1

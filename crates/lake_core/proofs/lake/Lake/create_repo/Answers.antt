@@ -14,28 +14,32 @@ ready_repository-requires g c = record {
   plain = c.requires;
   sound = c.law_of_present.ensures _ _ _ c.self.invariant;
   index = c.self.invariant.index;
-  few = λ clash there none. (c.law_of_repository.ensures _ _ _ c.args.by c.args.repo c.args.branch c.args.date clash c.self.invariant none there c.requires).few;
+  few =
+      λ clash there none. (c.law_of_repository.ensures _ _ _ c.args.by c.args.repo c.args.branch c.args.date clash c.self.invariant none there c.requires).few;
 }
 
 pub returns-in_err-ready-clause-reply : goal.returns-in_err-ready-clause-reply
 returns-in_err-ready-clause-reply g c =
     let l = lake_value c.self.inside.present in
     holds_now (λ s given. IsCreateRepositoryReply s c.args.repo c.args.branch c.args.date c.from_residual.result) c.self.view_is c.self.invariant.replayed
-    (refused_creation (state_of l) c.args.repo c.args.branch c.args.date _ c.in_err-ready.ensures.asks (λ clash. c.laws_of_causes.ensures.create_repository (state_of l) c.args.repo clash) c.from_residual.result c.from_residual.ensures.1)
+    (refused_creation (state_of l) c.args.repo c.args.branch c.args.date _ c.in_err-ready.ensures.asks
+    (λ clash. c.laws_of_causes.ensures.create_repository (state_of l) c.args.repo clash) c.from_residual.result c.from_residual.ensures.1)
 
 pub returns-in_err-ready-clause-leaves : goal.returns-in_err-ready-clause-leaves
 returns-in_err-ready-clause-leaves g c =
     let view : KeeperView _ = record { kept = g.K.Keeper.kept; faults = g.K.Keeper.faults; calls = g.K.Keeper.calls } in
     let inside = c.self.inside in
     let l = lake_value inside.present in
-    untested_leaves view inside.opened.value inside.present c.ready_repository.new.lake inside.history.items inside.keeper c.args.self.now c.self.view_is c.in_err-ready.ensures.same c.args.by
+    untested_leaves view inside.opened.value inside.present c.ready_repository.new.lake inside.history.items inside.keeper c.args.self.now c.self.view_is
+    c.in_err-ready.ensures.same c.args.by
     (Some (create_repo c.args.repo c.args.branch c.args.date (lake_value c.args.self.now.present))) c.from_residual.result _ c.from_residual.ensures.1
     (elim c.in_err-ready.ensures.refused [
       | inl memory ↦ inl memory
-      | inr same ↦ elim (creation_fault (state_of l) c.args.repo c.args.branch c.args.date _ c.in_err-ready.ensures.asks (λ clash. c.laws_of_causes.ensures.create_repository (state_of l) c.args.repo clash)) [
-        | inl memory ↦ inl memory
-        | inr refusal ↦ inr (refusal, same)
-      ]
+      | inr same ↦ elim (creation_fault (state_of l) c.args.repo c.args.branch c.args.date _ c.in_err-ready.ensures.asks
+          (λ clash. c.laws_of_causes.ensures.create_repository (state_of l) c.args.repo clash)) [
+            | inl memory ↦ inl memory
+            | inr refusal ↦ inr (refusal, same)
+          ]
     ])
 
 pub keep-requires : goal.keep-requires
@@ -56,7 +60,8 @@ pub returns-in_err-keep-clause-reply : goal.returns-in_err-keep-clause-reply
 returns-in_err-keep-clause-reply g c =
     let l = lake_value c.self.inside.present in
     let asks = c.in_ok-ready.ensures.asks in
-    holds_now (λ s given. IsCreateRepositoryReply s c.args.repo c.args.branch c.args.date c.from_residual-in_err-keep.result) c.self.view_is c.self.invariant.replayed
+    holds_now (λ s given. IsCreateRepositoryReply s c.args.repo c.args.branch c.args.date c.from_residual-in_err-keep.result) c.self.view_is
+    c.self.invariant.replayed
     (unkept_creation (state_of l) c.args.repo c.args.branch c.args.date _ _ _ _ _ _ c.in_ok-ready.ready asks c.from_residual-in_err-keep.result _
     c.from_residual-in_err-keep.ensures.1 c.in_err-keep.ensures.kept)
 
@@ -64,8 +69,10 @@ pub returns-in_err-keep-clause-leaves : goal.returns-in_err-keep-clause-leaves
 returns-in_err-keep-clause-leaves g c =
     let l = lake_value c.self.inside.present in
     let ready = c.in_ok-ready.ensures.ready in
-    unkept_leaves _ _ (λ p. Some (create_repo c.args.repo c.args.branch c.args.date (lake_value p))) (create_repo c.args.repo c.args.branch c.args.date l) _ _ ready.operation ready.puts
-    _ _ _ _ _ (record { keeper = c.keep.new.keeper; history = c.keep.new.history.items; present = c.keep.new.present }) c.in_ok-ready.ensures.same refl _ c.self.view_is _ _
+    unkept_leaves _ _ (λ p. Some (create_repo c.args.repo c.args.branch c.args.date (lake_value p)))
+    (create_repo c.args.repo c.args.branch c.args.date l) _ _ ready.operation ready.puts
+    _ _ _ _ _ (record { keeper = c.keep.new.keeper; history = c.keep.new.history.items; present = c.keep.new.present }) c.in_ok-ready.ensures.same refl _
+    c.self.view_is _ _
     c.from_residual-in_err-keep.ensures.1 c.in_err-keep.ensures.kept
 
 pub create_repository-requires-clause-few : goal.create_repository-requires-clause-few
@@ -100,6 +107,8 @@ returns-clause-leaves g c =
     let ready = c.in_ok-ready.ensures.ready in
     let now = c.in_ok-keep.ensures.kept.present ∙ c.in_ok-ready.ensures.same in
     let changed = repository_made c.args.repo c.args.branch c.args.date l _ _ c.in_ok-ready.ready now c.in_ok-ready.ensures.ready c.create_repository.ensures in
-    made_leaves _ _ (λ p. Some (create_repo c.args.repo c.args.branch c.args.date (lake_value p))) (create_repo c.args.repo c.args.branch c.args.date l) _ _ ready.operation ready.puts
-    _ _ _ _ _ (record { keeper = c.keep.new.keeper; history = c.keep.new.history.items; present = c.keep.new.present }) c.in_ok-ready.ensures.same refl _ c.self.view_is _ c.in_ok-keep.ensures.kept
+    made_leaves _ _ (λ p. Some (create_repo c.args.repo c.args.branch c.args.date (lake_value p)))
+    (create_repo c.args.repo c.args.branch c.args.date l) _ _ ready.operation ready.puts
+    _ _ _ _ _ (record { keeper = c.keep.new.keeper; history = c.keep.new.history.items; present = c.keep.new.present }) c.in_ok-ready.ensures.same refl _
+    c.self.view_is _ c.in_ok-keep.ensures.kept
     changed

@@ -8,13 +8,16 @@ use Rattle.core_changes.specs.LakeChanges.{after_branch_delete}
 use Rattle.core_puts.specs.KeeperViews.{KeeperView}
 use Rattle.lake_core.specs.Lakes.{state}
 use Rattle.lake_core.specs.Makings.{delete_branch}
-use Rattle.lake_core.proofs.StepLemmas.{accepted, as_before, at_present, holds_now, made_leaves, made_stands, refused_leaves, refused_reply, refused_stands, starved_leaves, starved_reply, unkept_leaves, unkept_reply}
+use Rattle.lake_core.proofs.StepLemmas.{accepted, as_before, at_present, holds_now, made_leaves, made_stands, refused_leaves, refused_reply, refused_stands}
+use Rattle.lake_core.proofs.StepLemmas.{starved_leaves, starved_reply, unkept_leaves, unkept_reply}
 use Rattle.lake_core.proofs.lake.Lake.delete_branch.Goals as goal
 
 pub returns-in_err-test_delete_branch-clause-reply : goal.returns-in_err-test_delete_branch-clause-reply
 returns-in_err-test_delete_branch-clause-reply g c =
     holds_now (λ s given. GivesOrFails c.from_residual.result (delete_branch_reply s c.args.repo.now c.args.name.now)) c.self.view_is c.self.invariant.replayed
-    (refused_reply (first_cause (delete_branch_causes (state_of (lake_value c.self.inside.present)) c.args.repo.now c.args.name.now)) ((lake_value c.self.inside.present).entries + 1) (c.laws_of_causes.ensures.delete_branch (state_of (lake_value c.self.inside.present)) c.args.repo.now c.args.name.now) _ _ c.from_residual.ensures.1
+    (refused_reply (first_cause (delete_branch_causes (state_of (lake_value c.self.inside.present)) c.args.repo.now c.args.name.now))
+    ((lake_value c.self.inside.present).entries + 1)
+    (c.laws_of_causes.ensures.delete_branch (state_of (lake_value c.self.inside.present)) c.args.repo.now c.args.name.now) _ _ c.from_residual.ensures.1
     c.in_err-test_delete_branch.ensures)
 
 pub keep-requires : goal.keep-requires
@@ -31,14 +34,18 @@ invariant_of-self g c =
 
 pub returns-in_err-keep-clause-reply : goal.returns-in_err-keep-clause-reply
 returns-in_err-keep-clause-reply g c =
-    holds_now (λ s given. GivesOrFails c.from_residual-in_err-keep.result (delete_branch_reply s c.args.repo.now c.args.name.now)) c.self.view_is c.self.invariant.replayed
-    (unkept_reply _ _ _ _ _ _ (first_cause (delete_branch_causes (state_of (lake_value c.self.inside.present)) c.args.repo.now c.args.name.now)) ((lake_value c.self.inside.present).entries + 1) (c.in_ok-test_delete_branch.ensures) _ _ c.from_residual-in_err-keep.ensures.1 c.in_err-keep.ensures.kept)
+    holds_now (λ s given. GivesOrFails c.from_residual-in_err-keep.result (delete_branch_reply s c.args.repo.now c.args.name.now)) c.self.view_is
+    c.self.invariant.replayed
+    (unkept_reply _ _ _ _ _ _ (first_cause (delete_branch_causes (state_of (lake_value c.self.inside.present)) c.args.repo.now c.args.name.now))
+    ((lake_value c.self.inside.present).entries + 1)
+    (c.in_ok-test_delete_branch.ensures) _ _ c.from_residual-in_err-keep.ensures.1 c.in_err-keep.ensures.kept)
 
 pub returns-in_err-keep-clause-leaves : goal.returns-in_err-keep-clause-leaves
 returns-in_err-keep-clause-leaves g c =
     unkept_leaves _ _ (λ p. Some (delete_branch c.args.repo.now c.args.name.now (lake_value p)))
     ((delete_branch c.args.repo.now c.args.name.now (lake_value c.self.inside.present))) _ _ c.in_ok-operation.ensures.operation c.in_ok-operation.ensures.puts
-    _ _ _ _ _ (record { keeper = c.keep.new.keeper; history = c.keep.new.history.items; present = c.keep.new.present }) refl (refl) _ c.self.view_is _ _ c.from_residual-in_err-keep.ensures.1 c.in_err-keep.ensures.kept
+    _ _ _ _ _ (record { keeper = c.keep.new.keeper; history = c.keep.new.history.items; present = c.keep.new.present }) refl (refl) _ c.self.view_is _ _
+    c.from_residual-in_err-keep.ensures.1 c.in_err-keep.ensures.kept
 
 pub invariant_of-self-2 : goal.invariant_of-self-2
 invariant_of-self-2 g c =
@@ -49,14 +56,16 @@ invariant_of-self-2 g c =
 
 pub returns-clause-reply : goal.returns-clause-reply
 returns-clause-reply g c =
-    accepted {X = ℕ} (c.in_ok-test_delete_branch.ensures) (c.place.ensures ∙ ap (λ l. l.entries) (c.delete_branch.ensures ∙ ap (after_branch_delete c.args.repo.now c.args.name.now) (c.in_ok-keep.ensures.kept.present)))
+    accepted {X = ℕ} (c.in_ok-test_delete_branch.ensures) (c.place.ensures
+    ∙ ap (λ l. l.entries) (c.delete_branch.ensures ∙ ap (after_branch_delete c.args.repo.now c.args.name.now) (c.in_ok-keep.ensures.kept.present)))
     ∙ at_present (λ s given. delete_branch_reply s c.args.repo.now c.args.name.now) c.self.view_is c.self.invariant.replayed
 
 pub returns-clause-leaves : goal.returns-clause-leaves
 returns-clause-leaves g c =
     made_leaves _ _ (λ p. Some (delete_branch c.args.repo.now c.args.name.now (lake_value p)))
     ((delete_branch c.args.repo.now c.args.name.now (lake_value c.self.inside.present))) _ _ c.in_ok-operation.ensures.operation c.in_ok-operation.ensures.puts
-    _ _ _ _ _ (record { keeper = c.keep.new.keeper; history = c.keep.new.history.items; present = c.keep.new.present }) refl (refl) _ c.self.view_is _ c.in_ok-keep.ensures.kept
+    _ _ _ _ _ (record { keeper = c.keep.new.keeper; history = c.keep.new.history.items; present = c.keep.new.present }) refl (refl) _ c.self.view_is _
+    c.in_ok-keep.ensures.kept
     (c.delete_branch.ensures ∙ ap (after_branch_delete c.args.repo.now c.args.name.now) (c.in_ok-keep.ensures.kept.present))
 
 pub ready_delete-requires : goal.ready_delete-requires
@@ -78,7 +87,8 @@ returns-in_err-test_delete_branch-clause-leaves g c =
 
 pub returns-in_err-operation-clause-reply : goal.returns-in_err-operation-clause-reply
 returns-in_err-operation-clause-reply g c =
-    starved_reply c.from_residual-in_err-operation.result (delete_branch_reply (state c.args.self.now) c.args.repo.now c.args.name.now) c.from_residual-in_err-operation.ensures.1
+    starved_reply c.from_residual-in_err-operation.result (delete_branch_reply (state c.args.self.now) c.args.repo.now c.args.name.now)
+    c.from_residual-in_err-operation.ensures.1
 
 pub returns-in_err-operation-clause-leaves : goal.returns-in_err-operation-clause-leaves
 returns-in_err-operation-clause-leaves g c =

@@ -6,14 +6,16 @@ use Rattle.core_state.specs.Counts.{AreFew}
 use Rattle.core_state.specs.LakeStates.{lake_value, state_of}
 use Rattle.core_changes.specs.LakeChanges.{after_ticket_drop}
 use Rattle.lake_core.specs.Makings.{drop_ticket}
-use Rattle.lake_core.proofs.StepLemmas.{accepted, at_present, held_then, holds_now, made_leaves, made_stands, refused_leaves, refused_reply, refused_stands, unkept_leaves, unkept_reply}
+use Rattle.lake_core.proofs.StepLemmas.{accepted, at_present, held_then, holds_now, made_leaves, made_stands, refused_leaves, refused_reply, refused_stands}
+use Rattle.lake_core.proofs.StepLemmas.{unkept_leaves, unkept_reply}
 use Rattle.lake_model.specs.Uncommitted.{HasTicket}
 use Rattle.lake_core.proofs.lake.Lake.drop_ticket.Goals as goal
 
 pub returns-in_err-test_change-clause-reply : goal.returns-in_err-test_change-clause-reply
 returns-in_err-test_change-clause-reply g c =
     holds_now (λ s given. GivesOrFails c.from_residual.result (drop_ticket_reply s)) c.self.view_is c.self.invariant.replayed
-    (refused_reply (first_cause (causes_of_change (state_of (lake_value c.self.inside.present)))) ((lake_value c.self.inside.present).entries + 1) (c.laws_of_causes.ensures.change (state_of (lake_value c.self.inside.present))) _ _ c.from_residual.ensures.1
+    (refused_reply (first_cause (causes_of_change (state_of (lake_value c.self.inside.present)))) ((lake_value c.self.inside.present).entries + 1)
+    (c.laws_of_causes.ensures.change (state_of (lake_value c.self.inside.present))) _ _ c.from_residual.ensures.1
     c.in_err-test_change.ensures)
 
 pub keep-requires : goal.keep-requires
@@ -33,13 +35,15 @@ invariant_of-self g c =
 pub returns-in_err-keep-clause-reply : goal.returns-in_err-keep-clause-reply
 returns-in_err-keep-clause-reply g c =
     holds_now (λ s given. GivesOrFails c.from_residual-in_err-keep.result (drop_ticket_reply s)) c.self.view_is c.self.invariant.replayed
-    (unkept_reply _ _ _ _ _ _ (first_cause (causes_of_change (state_of (lake_value c.self.inside.present)))) ((lake_value c.self.inside.present).entries + 1) (c.in_ok-test_change.ensures) _ _ c.from_residual-in_err-keep.ensures.1 c.in_err-keep.ensures.kept)
+    (unkept_reply _ _ _ _ _ _ (first_cause (causes_of_change (state_of (lake_value c.self.inside.present)))) ((lake_value c.self.inside.present).entries + 1)
+    (c.in_ok-test_change.ensures) _ _ c.from_residual-in_err-keep.ensures.1 c.in_err-keep.ensures.kept)
 
 pub returns-in_err-keep-clause-leaves : goal.returns-in_err-keep-clause-leaves
 returns-in_err-keep-clause-leaves g c =
     unkept_leaves _ _ (λ p. Some (drop_ticket c.args.number))
     ((drop_ticket c.args.number)) _ _ c.ready_drop-operation.ensures.operation c.ready_drop-operation.ensures.puts
-    _ _ _ _ _ (record { keeper = c.keep.new.keeper; history = c.keep.new.history.items; present = c.keep.new.present }) refl (refl) _ c.self.view_is _ _ c.from_residual-in_err-keep.ensures.1 c.in_err-keep.ensures.kept
+    _ _ _ _ _ (record { keeper = c.keep.new.keeper; history = c.keep.new.history.items; present = c.keep.new.present }) refl (refl) _ c.self.view_is _ _
+    c.from_residual-in_err-keep.ensures.1 c.in_err-keep.ensures.kept
 
 pub invariant_of-self-2 : goal.invariant_of-self-2
 invariant_of-self-2 g c =
@@ -51,14 +55,16 @@ invariant_of-self-2 g c =
 
 pub returns-clause-reply : goal.returns-clause-reply
 returns-clause-reply g c =
-    accepted {X = ℕ} (c.in_ok-test_change.ensures) (c.place.ensures ∙ ap (λ l. l.entries) (c.drop_ticket.ensures ∙ ap (after_ticket_drop c.args.number) (c.in_ok-keep.ensures.kept.present)))
+    accepted {X = ℕ} (c.in_ok-test_change.ensures)
+    (c.place.ensures ∙ ap (λ l. l.entries) (c.drop_ticket.ensures ∙ ap (after_ticket_drop c.args.number) (c.in_ok-keep.ensures.kept.present)))
     ∙ at_present (λ s given. drop_ticket_reply s) c.self.view_is c.self.invariant.replayed
 
 pub returns-clause-leaves : goal.returns-clause-leaves
 returns-clause-leaves g c =
     made_leaves _ _ (λ p. Some (drop_ticket c.args.number))
     ((drop_ticket c.args.number)) _ _ c.ready_drop-operation.ensures.operation c.ready_drop-operation.ensures.puts
-    _ _ _ _ _ (record { keeper = c.keep.new.keeper; history = c.keep.new.history.items; present = c.keep.new.present }) refl (refl) _ c.self.view_is _ c.in_ok-keep.ensures.kept
+    _ _ _ _ _ (record { keeper = c.keep.new.keeper; history = c.keep.new.history.items; present = c.keep.new.present }) refl (refl) _ c.self.view_is _
+    c.in_ok-keep.ensures.kept
     (c.drop_ticket.ensures ∙ ap (after_ticket_drop c.args.number) (c.in_ok-keep.ensures.kept.present))
 
 pub drop_ticket-requires : goal.drop_ticket-requires

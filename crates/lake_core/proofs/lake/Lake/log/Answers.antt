@@ -9,4 +9,5 @@ pub log-requires : goal.log-requires
 log-requires g c = c.law_of_present.ensures _ _ _ c.self.invariant
 
 pub returns : goal.returns
-returns g c = holds_now (λ s given. Gives (log_answer c.log.result) (log_reply s c.args.repo.now c.args.e.now (option_copied c.args.after) c.args.since c.args.amount)) c.self.view_is c.self.invariant.replayed c.log.ensures
+returns g c = holds_now (λ s given. Gives (log_answer c.log.result)
+    (log_reply s c.args.repo.now c.args.e.now (option_copied c.args.after) c.args.since c.args.amount)) c.self.view_is c.self.invariant.replayed c.log.ensures

@@ -7,4 +7,5 @@ pub look-requires : goal.look-requires
 look-requires g c = c.law_of_present.ensures _ _ _ c.self.invariant
 
 pub returns : goal.returns
-returns g c = holds_now (λ s given. Gives c.look.result (look_reply s c.args.repo.now c.args.e.now c.args.path.now)) c.self.view_is c.self.invariant.replayed c.look.ensures
+returns g c = holds_now (λ s given. Gives c.look.result (look_reply s c.args.repo.now c.args.e.now c.args.path.now)) c.self.view_is c.self.invariant.replayed
+    c.look.ensures

@@ -7,4 +7,5 @@ pub resolve-requires : goal.resolve-requires
 resolve-requires g c = c.law_of_present.ensures _ _ _ c.self.invariant
 
 pub returns : goal.returns
-returns g c = holds_now (λ s given. Gives c.resolve.result (resolve_reply s c.args.repo.now c.args.e.now)) c.self.view_is c.self.invariant.replayed c.resolve.ensures
+returns g c =
+    holds_now (λ s given. Gives c.resolve.result (resolve_reply s c.args.repo.now c.args.e.now)) c.self.view_is c.self.invariant.replayed c.resolve.ensures

@@ -9,13 +9,19 @@ use Rattle.core_changes.specs.LakeChanges.{after_note_set}
 use Rattle.core_puts.specs.KeeperViews.{KeeperView}
 use Rattle.lake_core.specs.Lakes.{state, versions}
 use Rattle.lake_core.specs.Makings.{set_note}
-use Rattle.lake_core.proofs.StepLemmas.{accepted, as_before, at_present, holds_now, made_leaves, made_stands, refused_leaves, refused_reply, refused_stands, starved_leaves, starved_reply, unkept_leaves, unkept_reply}
+use Rattle.lake_core.proofs.StepLemmas.{accepted, as_before, at_present, holds_now, made_leaves, made_stands, refused_leaves, refused_reply, refused_stands}
+use Rattle.lake_core.proofs.StepLemmas.{starved_leaves, starved_reply, unkept_leaves, unkept_reply}
 use Rattle.lake_core.proofs.lake.Lake.set_note.Goals as goal
 
 pub returns-in_err-test_set_note-clause-reply : goal.returns-in_err-test_set_note-clause-reply
 returns-in_err-test_set_note-clause-reply g c =
-    holds_now (λ s given. GivesOrFails c.from_residual.result (set_note_reply s given c.args.repo.now c.args.expected c.args.name c.args.note)) c.self.view_is c.self.invariant.replayed
-    (refused_reply (first_cause (set_note_causes (state_of (lake_value c.self.inside.present)) (versions_since (lake_value c.self.inside.opened.value) c.self.inside.history.items) c.args.repo.now c.args.expected c.args.name c.args.note)) ((lake_value c.self.inside.present).entries + 1) (c.laws_of_causes.ensures.set_note (state_of (lake_value c.self.inside.present)) (versions_since (lake_value c.self.inside.opened.value) c.self.inside.history.items) c.args.repo.now c.args.expected c.args.name c.args.note) _ _ c.from_residual.ensures.1
+    holds_now (λ s given. GivesOrFails c.from_residual.result (set_note_reply s given c.args.repo.now c.args.expected c.args.name c.args.note)) c.self.view_is
+    c.self.invariant.replayed
+    (refused_reply (first_cause (set_note_causes (state_of (lake_value c.self.inside.present))
+    (versions_since (lake_value c.self.inside.opened.value) c.self.inside.history.items) c.args.repo.now c.args.expected c.args.name c.args.note))
+    ((lake_value c.self.inside.present).entries + 1) (c.laws_of_causes.ensures.set_note (state_of (lake_value c.self.inside.present))
+    (versions_since (lake_value c.self.inside.opened.value) c.self.inside.history.items) c.args.repo.now c.args.expected c.args.name c.args.note) _ _
+    c.from_residual.ensures.1
     (c.in_err-test_set_note.ensures _ c.self.invariant.versions))
 
 pub keep-requires : goal.keep-requires
@@ -32,14 +38,20 @@ invariant_of-self g c =
 
 pub returns-in_err-keep-clause-reply : goal.returns-in_err-keep-clause-reply
 returns-in_err-keep-clause-reply g c =
-    holds_now (λ s given. GivesOrFails c.from_residual-in_err-keep.result (set_note_reply s given c.args.repo.now c.args.expected c.args.name c.args.note)) c.self.view_is c.self.invariant.replayed
-    (unkept_reply _ _ _ _ _ _ (first_cause (set_note_causes (state_of (lake_value c.self.inside.present)) (versions_since (lake_value c.self.inside.opened.value) c.self.inside.history.items) c.args.repo.now c.args.expected c.args.name c.args.note)) ((lake_value c.self.inside.present).entries + 1) (c.in_ok-test_set_note.ensures _ c.self.invariant.versions) _ _ c.from_residual-in_err-keep.ensures.1 c.in_err-keep.ensures.kept)
+    holds_now (λ s given. GivesOrFails c.from_residual-in_err-keep.result (set_note_reply s given c.args.repo.now c.args.expected c.args.name c.args.note))
+    c.self.view_is c.self.invariant.replayed
+    (unkept_reply _ _ _ _ _ _ (first_cause (set_note_causes (state_of (lake_value c.self.inside.present))
+    (versions_since (lake_value c.self.inside.opened.value) c.self.inside.history.items) c.args.repo.now c.args.expected c.args.name c.args.note))
+    ((lake_value c.self.inside.present).entries + 1)
+    (c.in_ok-test_set_note.ensures _ c.self.invariant.versions) _ _ c.from_residual-in_err-keep.ensures.1 c.in_err-keep.ensures.kept)
 
 pub returns-in_err-keep-clause-leaves : goal.returns-in_err-keep-clause-leaves
 returns-in_err-keep-clause-leaves g c =
     unkept_leaves _ _ (λ p. Some (set_note c.args.repo.now c.args.name c.args.note (lake_value p)))
-    ((set_note c.args.repo.now c.args.name c.args.note (lake_value c.self.inside.present))) _ _ c.in_ok-operation.ensures.operation c.in_ok-operation.ensures.puts
-    _ _ _ _ _ (record { keeper = c.keep.new.keeper; history = c.keep.new.history.items; present = c.keep.new.present }) refl (refl) _ c.self.view_is _ _ c.from_residual-in_err-keep.ensures.1 c.in_err-keep.ensures.kept
+    ((set_note c.args.repo.now c.args.name c.args.note (lake_value c.self.inside.present))) _ _ c.in_ok-operation.ensures.operation
+    c.in_ok-operation.ensures.puts
+    _ _ _ _ _ (record { keeper = c.keep.new.keeper; history = c.keep.new.history.items; present = c.keep.new.present }) refl (refl) _ c.self.view_is _ _
+    c.from_residual-in_err-keep.ensures.1 c.in_err-keep.ensures.kept
 
 pub invariant_of-self-2 : goal.invariant_of-self-2
 invariant_of-self-2 g c =
@@ -50,21 +62,29 @@ invariant_of-self-2 g c =
 
 pub returns-clause-reply : goal.returns-clause-reply
 returns-clause-reply g c =
-    accepted {X = ℕ} (c.in_ok-test_set_note.ensures _ c.self.invariant.versions) (c.place.ensures ∙ ap (λ l. l.entries) (c.set_note.ensures ∙ ap (after_note_set c.args.repo.now c.args.name c.args.note) (c.in_ok-keep.ensures.kept.present)))
+    accepted {X = ℕ} (c.in_ok-test_set_note.ensures _ c.self.invariant.versions) (c.place.ensures
+    ∙ ap (λ l. l.entries) (c.set_note.ensures ∙ ap (after_note_set c.args.repo.now c.args.name c.args.note) (c.in_ok-keep.ensures.kept.present)))
     ∙ at_present (λ s given. set_note_reply s given c.args.repo.now c.args.expected c.args.name c.args.note) c.self.view_is c.self.invariant.replayed
 
 pub returns-clause-leaves : goal.returns-clause-leaves
 returns-clause-leaves g c =
     made_leaves _ _ (λ p. Some (set_note c.args.repo.now c.args.name c.args.note (lake_value p)))
-    ((set_note c.args.repo.now c.args.name c.args.note (lake_value c.self.inside.present))) _ _ c.in_ok-operation.ensures.operation c.in_ok-operation.ensures.puts
-    _ _ _ _ _ (record { keeper = c.keep.new.keeper; history = c.keep.new.history.items; present = c.keep.new.present }) refl (refl) _ c.self.view_is _ c.in_ok-keep.ensures.kept
+    ((set_note c.args.repo.now c.args.name c.args.note (lake_value c.self.inside.present))) _ _ c.in_ok-operation.ensures.operation
+    c.in_ok-operation.ensures.puts
+    _ _ _ _ _ (record { keeper = c.keep.new.keeper; history = c.keep.new.history.items; present = c.keep.new.present }) refl (refl) _ c.self.view_is _
+    c.in_ok-keep.ensures.kept
     (c.set_note.ensures ∙ ap (after_note_set c.args.repo.now c.args.name c.args.note) (c.in_ok-keep.ensures.kept.present))
 
 pub ready_note-requires : goal.ready_note-requires
 ready_note-requires g c =
     let none = c.in_ok-test_set_note.ensures _ c.self.invariant.versions in
     let may = c.law_of_settings.ensures _ _ _ c.args.by c.args.repo.now c.args.expected c.args.name c.args.note c.self.invariant none c.requires.name in
-    record { name = c.requires.name; text = c.requires.text; plain = c.laws_of_plain_names.ensures.default_branch _ _ _ c.args.repo.now c.self.invariant; few = may.few }
+    record {
+      name = c.requires.name;
+      text = c.requires.text;
+      plain = c.laws_of_plain_names.ensures.default_branch _ _ _ c.args.repo.now c.self.invariant;
+      few = may.few;
+    }
 
 pub set_note-requires : goal.set_note-requires
 set_note-requires g c =
@@ -75,11 +95,13 @@ set_note-requires g c =
 pub returns-in_err-test_set_note-clause-leaves : goal.returns-in_err-test_set_note-clause-leaves
 returns-in_err-test_set_note-clause-leaves g c =
     refused_leaves _ _ (Some (set_note c.args.repo.now c.args.name c.args.note (lake_value c.args.self.now.present))) _ _ refl _ _ c.from_residual.ensures.1
-    (c.laws_of_causes.ensures.set_note (state_of (lake_value c.self.inside.present)) (versions_since (lake_value c.self.inside.opened.value) c.self.inside.history.items) c.args.repo.now c.args.expected c.args.name c.args.note _ (c.in_err-test_set_note.ensures _ c.self.invariant.versions))
+    (c.laws_of_causes.ensures.set_note (state_of (lake_value c.self.inside.present)) (versions_since (lake_value c.self.inside.opened.value)
+    c.self.inside.history.items) c.args.repo.now c.args.expected c.args.name c.args.note _ (c.in_err-test_set_note.ensures _ c.self.invariant.versions))
 
 pub returns-in_err-operation-clause-reply : goal.returns-in_err-operation-clause-reply
 returns-in_err-operation-clause-reply g c =
-    starved_reply c.from_residual-in_err-operation.result (set_note_reply (state c.args.self.now) (versions c.args.self.now) c.args.repo.now c.args.expected c.args.name c.args.note) c.from_residual-in_err-operation.ensures.1
+    starved_reply c.from_residual-in_err-operation.result (set_note_reply (state c.args.self.now)
+    (versions c.args.self.now) c.args.repo.now c.args.expected c.args.name c.args.note) c.from_residual-in_err-operation.ensures.1
 
 pub returns-in_err-operation-clause-leaves : goal.returns-in_err-operation-clause-leaves
 returns-in_err-operation-clause-leaves g c =

@@ -8,13 +8,16 @@ use Rattle.core_changes.specs.LakeChanges.{after_ticket_take}
 use Rattle.core_puts.specs.KeeperViews.{KeeperView}
 use Rattle.lake_core.specs.Lakes.{state}
 use Rattle.lake_core.specs.Makings.{take_ticket}
-use Rattle.lake_core.proofs.StepLemmas.{accepted, at_present, holds_now, made_leaves, made_stands, refused_leaves, refused_reply, refused_stands, starved_reply, unkept_leaves, unkept_reply, unready_leaves}
+use Rattle.lake_core.proofs.StepLemmas.{accepted, at_present, holds_now, made_leaves, made_stands, refused_leaves, refused_reply, refused_stands, starved_reply}
+use Rattle.lake_core.proofs.StepLemmas.{unkept_leaves, unkept_reply, unready_leaves}
 use Rattle.lake_core.proofs.lake.Lake.take_ticket.Goals as goal
 
 pub returns-in_err-test_write-clause-reply : goal.returns-in_err-test_write-clause-reply
 returns-in_err-test_write-clause-reply g c =
     holds_now (λ s given. GivesOrFails c.from_residual.result (take_ticket_reply s c.args.repo.now c.args.branch.now)) c.self.view_is c.self.invariant.replayed
-    (refused_reply (first_cause (write_causes (state_of (lake_value c.self.inside.present)) c.args.repo.now c.args.branch.now)) ((lake_value c.self.inside.present).entries + 1, (lake_value c.self.inside.present).next_number) (c.laws_of_causes.ensures.write (state_of (lake_value c.self.inside.present)) c.args.repo.now c.args.branch.now) _ _ c.from_residual.ensures.1
+    (refused_reply (first_cause (write_causes (state_of (lake_value c.self.inside.present)) c.args.repo.now c.args.branch.now))
+    ((lake_value c.self.inside.present).entries + 1, (lake_value c.self.inside.present).next_number)
+    (c.laws_of_causes.ensures.write (state_of (lake_value c.self.inside.present)) c.args.repo.now c.args.branch.now) _ _ c.from_residual.ensures.1
     c.in_err-test_write.ensures)
 
 pub keep-requires : goal.keep-requires
@@ -31,14 +34,19 @@ invariant_of-self-in_err-keep g c =
 
 pub returns-in_err-keep-clause-reply : goal.returns-in_err-keep-clause-reply
 returns-in_err-keep-clause-reply g c =
-    holds_now (λ s given. GivesOrFails c.from_residual-in_err-keep.result (take_ticket_reply s c.args.repo.now c.args.branch.now)) c.self.view_is c.self.invariant.replayed
-    (unkept_reply _ _ _ _ _ _ (first_cause (write_causes (state_of (lake_value c.self.inside.present)) c.args.repo.now c.args.branch.now)) ((lake_value c.self.inside.present).entries + 1, (lake_value c.self.inside.present).next_number) (c.in_ok-test_write.ensures) _ _ c.from_residual-in_err-keep.ensures.1 c.in_err-keep.ensures.kept)
+    holds_now (λ s given. GivesOrFails c.from_residual-in_err-keep.result (take_ticket_reply s c.args.repo.now c.args.branch.now)) c.self.view_is
+    c.self.invariant.replayed
+    (unkept_reply _ _ _ _ _ _ (first_cause (write_causes (state_of (lake_value c.self.inside.present)) c.args.repo.now c.args.branch.now))
+    ((lake_value c.self.inside.present).entries + 1, (lake_value c.self.inside.present).next_number)
+    (c.in_ok-test_write.ensures) _ _ c.from_residual-in_err-keep.ensures.1 c.in_err-keep.ensures.kept)
 
 pub returns-in_err-keep-clause-leaves : goal.returns-in_err-keep-clause-leaves
 returns-in_err-keep-clause-leaves g c =
     unkept_leaves _ _ (λ p. Some (take_ticket c.args.by.seat c.args.repo.now c.args.branch.now (lake_value p)))
-    ((take_ticket c.args.by.seat c.args.repo.now c.args.branch.now (lake_value c.self.inside.present))) _ _ c.in_ok-operation.ensures.ready.operation c.in_ok-operation.ensures.ready.puts
-    _ _ _ _ _ (record { keeper = c.keep.new.keeper; history = c.keep.new.history.items; present = c.keep.new.present }) c.in_ok-operation.ensures.same (refl) _ c.self.view_is _ _ c.from_residual-in_err-keep.ensures.1 c.in_err-keep.ensures.kept
+    ((take_ticket c.args.by.seat c.args.repo.now c.args.branch.now (lake_value c.self.inside.present))) _ _ c.in_ok-operation.ensures.ready.operation
+    c.in_ok-operation.ensures.ready.puts
+    _ _ _ _ _ (record { keeper = c.keep.new.keeper; history = c.keep.new.history.items; present = c.keep.new.present }) c.in_ok-operation.ensures.same (refl) _
+    c.self.view_is _ _ c.from_residual-in_err-keep.ensures.1 c.in_err-keep.ensures.kept
 
 pub invariant_of-self-2 : goal.invariant_of-self-2
 invariant_of-self-2 g c =
@@ -50,14 +58,17 @@ invariant_of-self-2 g c =
 pub returns-clause-reply : goal.returns-clause-reply
 unfolding lake_value
 returns-clause-reply g c =
-    accepted {X = (ℕ × ℕ)} (c.in_ok-test_write.ensures) (ap (λ at. (at, c.self.inside.present.next_number)) (c.place.ensures ∙ ap (λ l. l.entries) (c.take_ticket.ensures ∙ ap (after_ticket_take c.args.by.seat) (c.in_ok-keep.ensures.kept.present ∙ c.in_ok-operation.ensures.same))))
+    accepted {X = (ℕ × ℕ)} (c.in_ok-test_write.ensures) (ap (λ at. (at, c.self.inside.present.next_number)) (c.place.ensures
+    ∙ ap (λ l. l.entries) (c.take_ticket.ensures ∙ ap (after_ticket_take c.args.by.seat) (c.in_ok-keep.ensures.kept.present ∙ c.in_ok-operation.ensures.same))))
     ∙ at_present (λ s given. take_ticket_reply s c.args.repo.now c.args.branch.now) c.self.view_is c.self.invariant.replayed
 
 pub returns-clause-leaves : goal.returns-clause-leaves
 returns-clause-leaves g c =
     made_leaves _ _ (λ p. Some (take_ticket c.args.by.seat c.args.repo.now c.args.branch.now (lake_value p)))
-    ((take_ticket c.args.by.seat c.args.repo.now c.args.branch.now (lake_value c.self.inside.present))) _ _ c.in_ok-operation.ensures.ready.operation c.in_ok-operation.ensures.ready.puts
-    _ _ _ _ _ (record { keeper = c.keep.new.keeper; history = c.keep.new.history.items; present = c.keep.new.present }) c.in_ok-operation.ensures.same (refl) _ c.self.view_is _ c.in_ok-keep.ensures.kept
+    ((take_ticket c.args.by.seat c.args.repo.now c.args.branch.now (lake_value c.self.inside.present))) _ _ c.in_ok-operation.ensures.ready.operation
+    c.in_ok-operation.ensures.ready.puts
+    _ _ _ _ _ (record { keeper = c.keep.new.keeper; history = c.keep.new.history.items; present = c.keep.new.present }) c.in_ok-operation.ensures.same (refl) _
+    c.self.view_is _ c.in_ok-keep.ensures.kept
     (c.take_ticket.ensures ∙ ap (after_ticket_take c.args.by.seat) (c.in_ok-keep.ensures.kept.present ∙ c.in_ok-operation.ensures.same))
 
 pub ready_ticket-requires : goal.ready_ticket-requires
@@ -74,16 +85,20 @@ take_ticket-requires-clause-few g c =
 
 pub returns-in_err-test_write-clause-leaves : goal.returns-in_err-test_write-clause-leaves
 returns-in_err-test_write-clause-leaves g c =
-    refused_leaves _ _ (Some (take_ticket c.args.by.seat c.args.repo.now c.args.branch.now (lake_value c.args.self.now.present))) _ _ refl _ _ c.from_residual.ensures.1
+    refused_leaves _ _ (Some (take_ticket c.args.by.seat c.args.repo.now c.args.branch.now (lake_value c.args.self.now.present))) _ _ refl _ _
+    c.from_residual.ensures.1
     (c.laws_of_causes.ensures.write (state_of (lake_value c.self.inside.present)) c.args.repo.now c.args.branch.now _ c.in_err-test_write.ensures)
 
 pub returns-in_err-operation-clause-reply : goal.returns-in_err-operation-clause-reply
 returns-in_err-operation-clause-reply g c =
-    starved_reply c.from_residual-in_err-operation.result (take_ticket_reply (state c.args.self.now) c.args.repo.now c.args.branch.now) c.from_residual-in_err-operation.ensures.1
+    starved_reply c.from_residual-in_err-operation.result (take_ticket_reply (state c.args.self.now) c.args.repo.now c.args.branch.now)
+    c.from_residual-in_err-operation.ensures.1
 
 pub returns-in_err-operation-clause-leaves : goal.returns-in_err-operation-clause-leaves
 returns-in_err-operation-clause-leaves g c =
     let view : KeeperView _ = record { kept = g.K.Keeper.kept; faults = g.K.Keeper.faults; calls = g.K.Keeper.calls } in
     let inside = c.self.inside in
-    unready_leaves view inside.opened.value inside.present c.ready_ticket.new.lake inside.history.items inside.keeper c.args.self.now c.self.view_is c.ready_ticket.ensures.same c.args.by
-    (Some (take_ticket c.args.by.seat c.args.repo.now c.args.branch.now (lake_value c.args.self.now.present))) c.from_residual-in_err-operation.result c.from_residual-in_err-operation.ensures.1
+    unready_leaves view inside.opened.value inside.present c.ready_ticket.new.lake inside.history.items inside.keeper c.args.self.now c.self.view_is
+    c.ready_ticket.ensures.same c.args.by
+    (Some (take_ticket c.args.by.seat c.args.repo.now c.args.branch.now (lake_value c.args.self.now.present))) c.from_residual-in_err-operation.result
+    c.from_residual-in_err-operation.ensures.1

@@ -15,8 +15,10 @@ left c = filter_same _ (λ change. not (drops_path c.args.what.now change.0)) _ 
 
 pub invariant_of-self : goal.invariant_of-self
 invariant_of-self c = (
-  subst HasAscendingKeys (sym (left c)) (is_sorted-where_key byte_order (λ path. not (drops_path c.args.what.now path)) c.self.inside.changes.items c.self.invariant.0),
-  subst HasPathKeys (sym (left c)) (all_where (λ key. path_fault key ≡ None) (λ path. not (drops_path c.args.what.now path)) c.self.inside.changes.items c.self.invariant.1),
+  subst HasAscendingKeys (sym (left c))
+      (is_sorted-where_key byte_order (λ path. not (drops_path c.args.what.now path)) c.self.inside.changes.items c.self.invariant.0),
+  subst HasPathKeys (sym (left c))
+      (all_where (λ key. path_fault key ≡ None) (λ path. not (drops_path c.args.what.now path)) c.self.inside.changes.items c.self.invariant.1),
 )
 
 pub returns : goal.returns

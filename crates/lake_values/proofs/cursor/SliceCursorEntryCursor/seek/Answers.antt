@@ -14,5 +14,6 @@ returns-clause-from c =
     let least = c.args.least.now in
     let rest = c.args.self.now.rest.now in
     let parted = partitioned (λ k. is_lt (byte_order k least)) (λ a b lt low. below_down least a b lt low) rest c.args.self.now.ascend in
-    let point = IsPartitionPoint-from_clause (λ e. is_lt (byte_order e.0 least)) rest c.partition_point-at.result c.partition_point-at.ensures.partitioned parted (λ a r f k. search rules) in
+    let point = IsPartitionPoint-from_clause (λ e. is_lt (byte_order e.0 least)) rest c.partition_point-at.result c.partition_point-at.ensures.partitioned
+    parted (λ a r f k. search rules) in
     c.split_at.ensures.back ∙ seek_from least rest c.partition_point-at.result c.partition_point-at.ensures.bound point.0 point.1

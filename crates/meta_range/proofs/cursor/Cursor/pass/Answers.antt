@@ -24,4 +24,5 @@ returns-else-eq c =
     let whole : c.args.self.now ≡ row ∷ rest = sym c.self.view_is ∙ c.in-Some.ensures.row in
     let other : bytes_eq row.0 path ≡ false = ap (λ (r : RowValue). bytes_eq r.0 path) (sym c.row.view_is) ∙ sym c.eq.ensures ∙ c.if-eq.false in
     let never = never_low path row rest (subst (λ rows. entries_from path rows ≡ rows) whole c.requires) in
-    whole ∙ above_stays path row rest (subst HasAscendingKeys c.in-Some.ensures.row c.self.invariant.ascend) never other ∙ ap (rows_above (Some path)) (sym whole)
+    whole ∙ above_stays path row rest (subst HasAscendingKeys c.in-Some.ensures.row c.self.invariant.ascend) never other
+    ∙ ap (rows_above (Some path)) (sym whole)

@@ -10,4 +10,5 @@ returns-in-Some c =
     ∙ named_at given_name c.self.inside.places.entries files c.args.name.now (Some c.in-Some.at.now) c.self.invariant c.in-Some.ensures.value)
 
 pub returns-in-None : goal.returns-in-None
-returns-in-None c = rw (← c.self.view_is) (named_at given_name c.self.inside.places.entries c.self.inside.files.now c.args.name.now None c.self.invariant c.in-None.ensures.value)
+returns-in-None c = rw (← c.self.view_is)
+    (named_at given_name c.self.inside.places.entries c.self.inside.files.now c.args.name.now None c.self.invariant c.in-None.ensures.value)

@@ -8,7 +8,9 @@ pub returns-in-Some : goal.returns-in-Some
 returns-in-Some c =
     let here = lent_at c.deref.result.now c.in-Some.at.now c.get-in-Some.result c.get-in-Some.ensures.lookup in
     rw (← c.self.view_is) (here ∙ ap (λ ranges. slice_get ranges c.in-Some.at.now) c.deref.ensures.value
-    ∙ named_at range_name c.self.inside.places.entries c.self.inside.ranges.items c.args.name.now (Some c.in-Some.at.now) c.self.invariant c.in-Some.ensures.value)
+    ∙ named_at range_name c.self.inside.places.entries c.self.inside.ranges.items c.args.name.now (Some c.in-Some.at.now) c.self.invariant
+    c.in-Some.ensures.value)
 
 pub returns-in-None : goal.returns-in-None
-returns-in-None c = rw (← c.self.view_is) (named_at range_name c.self.inside.places.entries c.self.inside.ranges.items c.args.name.now None c.self.invariant c.in-None.ensures.value)
+returns-in-None c = rw (← c.self.view_is)
+    (named_at range_name c.self.inside.places.entries c.self.inside.ranges.items c.args.name.now None c.self.invariant c.in-None.ensures.value)

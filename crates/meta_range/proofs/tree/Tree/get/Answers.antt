@@ -11,8 +11,10 @@ pub returns-in-None : goal.returns-in-None
 returns-in-None c =
     let path = c.args.path.now in
     let objects = c.args.self.now.map in
-    let from : c.seek.new.self ≡ entries_from path (entries objects) = c.seek.ensures.from ∙ ap (λ p. entries_from p c.cursor-cursor.result) c.as_slice.ensures.bytes ∙ ap (entries_from path) c.cursor-cursor.ensures in
-    sym (get-entries objects path ∙ find_from path (entries objects) (entries_sorted objects) ∙ ap (find byte_order path) (sym from ∙ c.in-None.ensures.entry.0))
+    let from : c.seek.new.self ≡ entries_from path (entries objects) =
+    c.seek.ensures.from ∙ ap (λ p. entries_from p c.cursor-cursor.result) c.as_slice.ensures.bytes ∙ ap (entries_from path) c.cursor-cursor.ensures in
+    sym
+    (get-entries objects path ∙ find_from path (entries objects) (entries_sorted objects) ∙ ap (find byte_order path) (sym from ∙ c.in-None.ensures.entry.0))
 
 is_not : (b : Bool) → not b ≡ true → b ≡ false
 is_not true h = absurd cc
@@ -28,11 +30,13 @@ returns-then-ne c =
     let objects = c.args.self.now.map in
     let row : RowValue = (c.in-Some.found.now, c.in-Some.entry.now) in
     let rest = c.next.new.self in
-    let from : c.seek.new.self ≡ entries_from path (entries objects) = c.seek.ensures.from ∙ ap (λ p. entries_from p c.cursor-cursor.result) c.as_slice.ensures.bytes ∙ ap (entries_from path) c.cursor-cursor.ensures in
+    let from : c.seek.new.self ≡ entries_from path (entries objects) =
+    c.seek.ensures.from ∙ ap (λ p. entries_from p c.cursor-cursor.result) c.as_slice.ensures.bytes ∙ ap (entries_from path) c.cursor-cursor.ensures in
     let first = sym from ∙ c.in-Some.ensures.entry in
     let other = is_not (bytes_eq c.in-Some.found.now path) (sym c.ne.ensures ∙ c.if-ne.true) in
     let never = never_low path row rest (subst (λ rows. entries_from path rows ≡ rows) first (from_again path (entries objects) (entries_sorted objects))) in
-    sym (get-entries objects path ∙ find_from path (entries objects) (entries_sorted objects) ∙ ap (find byte_order path) first ∙ find_other path row rest (subst HasAscendingKeys c.in-Some.ensures.entry c.in-Some.ensures.ascend) never other)
+    sym (get-entries objects path ∙ find_from path (entries objects) (entries_sorted objects) ∙ ap (find byte_order path) first
+    ∙ find_other path row rest (subst HasAscendingKeys c.in-Some.ensures.entry c.in-Some.ensures.ascend) never other)
 
 pub returns-else-ne : goal.returns-else-ne
 returns-else-ne c =
@@ -40,7 +44,8 @@ returns-else-ne c =
     let objects = c.args.self.now.map in
     let row : RowValue = (c.in-Some.found.now, c.in-Some.entry.now) in
     let rest = c.next.new.self in
-    let from : c.seek.new.self ≡ entries_from path (entries objects) = c.seek.ensures.from ∙ ap (λ p. entries_from p c.cursor-cursor.result) c.as_slice.ensures.bytes ∙ ap (entries_from path) c.cursor-cursor.ensures in
+    let from : c.seek.new.self ≡ entries_from path (entries objects) =
+    c.seek.ensures.from ∙ ap (λ p. entries_from p c.cursor-cursor.result) c.as_slice.ensures.bytes ∙ ap (entries_from path) c.cursor-cursor.ensures in
     let first = sym from ∙ c.in-Some.ensures.entry in
     let same = is_so (bytes_eq c.in-Some.found.now path) (sym c.ne.ensures ∙ c.if-ne.false) in
     sym (get-entries objects path ∙ find_from path (entries objects) (entries_sorted objects) ∙ ap (find byte_order path) first ∙ find_first path row rest same)

@@ -10,12 +10,15 @@ pub pass-requires : goal.pass-requires
 pass-requires c =
     let path = c.in-Some.path.now in
     let rows = entries c.args.self.now.map in
-    let from : c.seek.new.self ≡ entries_from path rows = c.seek.ensures.from ∙ ap (λ p. entries_from p c.cursor-cursor.result) c.as_slice.ensures.bytes ∙ ap (entries_from path) c.cursor-cursor.ensures in
+    let from : c.seek.new.self ≡ entries_from path rows =
+    c.seek.ensures.from ∙ ap (λ p. entries_from p c.cursor-cursor.result) c.as_slice.ensures.bytes ∙ ap (entries_from path) c.cursor-cursor.ensures in
     ap (entries_from path) from ∙ from_again path rows (entries_sorted c.args.self.now.map) ∙ sym from
 
 pub returns-in-Some : goal.returns-in-Some
 returns-in-Some c =
     let path = c.in-Some.path.now in
     let rows = entries c.args.self.now.map in
-    let from : c.seek.new.self ≡ entries_from path rows = c.seek.ensures.from ∙ ap (λ p. entries_from p c.cursor-cursor.result) c.as_slice.ensures.bytes ∙ ap (entries_from path) c.cursor-cursor.ensures in
-    c.pass.ensures ∙ ap (rows_above (Some path)) from ∙ above_from path rows (entries_sorted c.args.self.now.map) ∙ ap (λ above. rows_above above rows) (sym (ap option_copied c.in-Some.is))
+    let from : c.seek.new.self ≡ entries_from path rows =
+    c.seek.ensures.from ∙ ap (λ p. entries_from p c.cursor-cursor.result) c.as_slice.ensures.bytes ∙ ap (entries_from path) c.cursor-cursor.ensures in
+    c.pass.ensures ∙ ap (rows_above (Some path)) from ∙ above_from path rows (entries_sorted c.args.self.now.map)
+    ∙ ap (λ above. rows_above above rows) (sym (ap option_copied c.in-Some.is))
