@@ -5,6 +5,7 @@ use Rattle.std.specs.FinMap.{contains_key, get}
 use Rattle.std.specs.Option.{option_or}
 use Rattle.lake_model.specs.declared.fault.StepFault.{StepFault}
 use Rattle.lake_model.specs.declared.fault.StepFault.TheVariants.{Stopped, HistoryFull, NoRepo, NoRef, Protected, NoPath, NoMemory}
+use Rattle.lake_model.specs.declared.fault.Reference.TheVariants.{Named}
 use Rattle.lake_model.specs.Branches.{protected_by}
 use Rattle.lake_model.specs.State.{Repository, State, branch_of}
 use Rattle.lake_model.specs.Refusals.{Causes, cause_if, first_cause, first_of}
@@ -52,7 +53,7 @@ write_told s repo branch = first_pathless (listed (write_causes s repo branch)) 
     (
       if_pathless (not (contains_key s.repositories repo)) NoRepo tt,
       (
-        if_pathless (not (is_some (branch_of s repo branch))) NoRef tt,
+        if_pathless (not (is_some (branch_of s repo branch))) (NoRef Named) tt,
         (tt, (tt, (tt, (tt, (protection_pathless branch (get s.repositories repo), (tt, (tt, (tt, (tt, tt))))))))),
       ),
     ),
@@ -67,7 +68,7 @@ reading_told s repo branch = first_pathless (listed (reading_causes s repo branc
     (
       if_pathless (not (contains_key s.repositories repo)) NoRepo tt,
       (
-        if_pathless (not (is_some (branch_of s repo branch))) NoRef tt,
+        if_pathless (not (is_some (branch_of s repo branch))) (NoRef Named) tt,
         (tt, (tt, (tt, (tt, (tt, (tt, (tt, (tt, (tt, tt))))))))),
       ),
     ),

@@ -5,6 +5,7 @@ use Rattle.std.specs.FinMap.{get}
 use Rattle.std.specs.Option.{option_map_or, option_or}
 use Rattle.lake_model.specs.declared.fault.StepFault.{StepFault}
 use Rattle.lake_model.specs.declared.fault.StepFault.TheVariants.{NoRepo, NoRef, StoreFault, NoMemory}
+use Rattle.lake_model.specs.declared.fault.Reference.TheVariants.{Named}
 use Rattle.lake_model.specs.declared.history.By.{By}
 use Rattle.lake_model.specs.declared.history.HistoryEntry.{HistoryEntry}
 use Rattle.lake_model.specs.declared.reply.Versions.{Versions}
@@ -88,20 +89,20 @@ IsRead version (Err fault) cause = cause ≡ Some fault
 
 -- the first cause at a reading, by whether the repository and the branch are there
 abbrev missing : Bool → Bool → Option StepFault
-missing has_repository has_branch = first_of (None ∷ None ∷ cause_if (not has_repository) NoRepo ∷ cause_if (not has_branch) NoRef
+missing has_repository has_branch = first_of (None ∷ None ∷ cause_if (not has_repository) NoRepo ∷ cause_if (not has_branch) (NoRef Named)
     ∷ None ∷ None ∷ None ∷ None ∷ None ∷ None ∷ None ∷ None ∷ None ∷ [])
 
 read_branch : (given : VersionsGiven) (repo branch : List ℕ) (at : ℕ) (found : Bool) (answer : Result Versions StepFault)
-    → answer ≡ (if found then Ok (versions_at at given repo branch) else Err NoRef)
+    → answer ≡ (if found then Ok (versions_at at given repo branch) else Err (NoRef Named))
     → IsRead (branch_version given repo branch) answer (missing true found)
 read_branch given repo branch at true answer is =
     subst (λ a. IsRead (branch_version given repo branch) a None) (sym is) (refl, refl)
 read_branch given repo branch at false answer is =
-    subst (λ a. IsRead (branch_version given repo branch) a (Some NoRef)) (sym is) refl
+    subst (λ a. IsRead (branch_version given repo branch) a (Some (NoRef Named))) (sym is) refl
 
 read_repository : (given : VersionsGiven) (repo branch : List ℕ) (at : ℕ) (found : Option Repository) (answer : Result Versions StepFault)
     → answer
-    ≡ option_map_or (λ (r : Repository). if is_some (get r.branches branch) then Ok (versions_at at given repo branch) else Err NoRef) found (Err NoRepo)
+    ≡ option_map_or (λ (r : Repository). if is_some (get r.branches branch) then Ok (versions_at at given repo branch) else Err (NoRef Named)) found (Err NoRepo)
     → IsRead (branch_version given repo branch) answer (missing (is_some found) (is_some (option_and_then (λ (r : Repository). get r.branches branch) found)))
 read_repository given repo branch at (Some r) answer is = read_branch given repo branch at (is_some (get r.branches branch)) answer is
 read_repository given repo branch at None answer is =

@@ -73,7 +73,7 @@ abbrev pub refusal_text : CallNames → StepFault → List ℕ
 refusal_text names Stopped = line (codes "Error: store stopped [503]")
 refusal_text names HistoryFull = line (codes "Error: history full [503]")
 refusal_text names NoRepo = line (codes "Error: repository not found: " ++ names.repo ++ codes " [404]")
-refusal_text names NoRef = line (codes "Error: reference not found: " ++ names.reference ++ codes " [404]")
+refusal_text names (NoRef which) = line (codes "Error: reference not found: " ++ names.reference ++ codes " [404]")
 refusal_text names (NoParent number) = line (codes "Error: no such parent: " ++ names.reference ++ codes " [404]")
 refusal_text names NoNote = line (codes "Error: no such setting [404]")
 refusal_text names Exists = line (codes "Error: already exists: " ++ names.reference ++ codes " [409]")

@@ -138,7 +138,7 @@ pub fn step_refusal_text(alloc: Global, fault: &StepFault) -> Result<LineText, N
         StepFault::NoRepo => Ok(LineText::Fixed(
             b"Error: repository not found: quickstart [404]\n",
         )),
-        StepFault::NoRef => Ok(LineText::Fixed(b"Error: reference not found: main [404]\n")),
+        StepFault::NoRef(_) => Ok(LineText::Fixed(b"Error: reference not found: main [404]\n")),
         StepFault::Protected(number) => protected_text(alloc, *number),
         StepFault::NoParent(_) => Ok(LineText::Fixed(b"Error: no such parent: main [404]\n")),
         StepFault::NoNote => Ok(LineText::Fixed(b"Error: no such setting [404]\n")),

@@ -7,6 +7,7 @@ use Rattle.std.specs.FinMap.{get, contains_key}
 use Rattle.byte_map.proofs.ValuesLemmas.{get_map_values}
 use Rattle.lake_model.specs.declared.fault.StepFault.{StepFault}
 use Rattle.lake_model.specs.declared.fault.StepFault.TheVariants.{Changed, NoRepo, NoRef, Protected}
+use Rattle.lake_model.specs.declared.fault.Reference.TheVariants.{Named}
 use Rattle.lake_model.specs.State as model
 use Rattle.lake_model.specs.State.{Repository}
 use Rattle.lake_model.specs.Branches.{protected_by}
@@ -63,18 +64,18 @@ module _ (l : LakeStateValue) (repo : List ℕ) where
 
     -- a branch that is there is no cause
     pub branch_passes : (branch : List ℕ) (b : BranchStateValue) → get r.branches branch ≡ Some b
-        → cause_if (not (is_some (model.branch_of (state_of l) repo branch))) NoRef ≡ None
-    branch_passes branch b is = ap (λ o. cause_if (not (is_some o)) NoRef) (branch_found branch (Some b) is)
+        → cause_if (not (is_some (model.branch_of (state_of l) repo branch))) (NoRef Named) ≡ None
+    branch_passes branch b is = ap (λ o. cause_if (not (is_some o)) (NoRef Named)) (branch_found branch (Some b) is)
 
     -- one that isn't there is the first cause
     pub without_branch : {X : Type 0} (P : X → Type 0) (branch : List ℕ) (c : Causes) → PassesChange c
         → (answer : Result X StepFault) (told : StepFault)
-        → IsErrAnd answer (λ e. e ≡ told) → (told ≡ NoRef) × (get r.branches branch ≡ None)
+        → IsErrAnd answer (λ e. e ≡ told) → (told ≡ NoRef Named) × (get r.branches branch ≡ None)
         → MatchResult answer P (λ e. first_cause (with_branch (state_of l) repo branch c) ≡ Some e)
     without_branch P branch c change answer told err is =
         let asks = with_branch (state_of l) repo branch c in
-        refused P asks answer told NoRef err is.0 (reference_refuses asks change repository_passes NoRef
-        (ap (λ o. cause_if (not (is_some o)) NoRef) (branch_found branch None is.1)))
+        refused P asks answer told (NoRef Named) err is.0 (reference_refuses asks change repository_passes (NoRef Named)
+        (ap (λ o. cause_if (not (is_some o)) (NoRef Named)) (branch_found branch None is.1)))
 
     -- ---- the version of a branch that is there
     module _ (given : VersionsGiven) (counts : HasVersions given l) (branch : List ℕ) (b : BranchStateValue) (has : get r.branches branch ≡ Some b)

@@ -10,6 +10,7 @@ use Rattle.lake_values.specs.Entry.{EntryValue}
 use Rattle.commit_graph.specs.Expressions.{RefExprValue}
 use Rattle.lake_model.specs.declared.fault.StepFault.{StepFault}
 use Rattle.lake_model.specs.declared.fault.StepFault.TheVariants.{Changed, NoPath, NoRef, Protected}
+use Rattle.lake_model.specs.declared.fault.Reference.TheVariants.{Named, Expression}
 use Rattle.lake_model.specs.Branches.{protected_by}
 use Rattle.lake_model.specs.Readings.{◌then◌, expression_map, map_at}
 use Rattle.lake_model.specs.Refusals.{Causes, cause_if, causes_of_change, first_cause}
@@ -34,13 +35,13 @@ module _ (l : LakeStateValue) (given : VersionsGiven) (counts : HasVersions give
   copy = copy_causes (state_of l) given repo branch version e from
 
   abbrev name_cause : Option StepFault
-  name_cause = cause_if (holds_in (state_of l) repo (λ x. is_none (name_target x e.name))) NoRef
+  name_cause = cause_if (holds_in (state_of l) repo (λ x. is_none (name_target x e.name))) (NoRef Expression)
 
   -- the branch isn't there
-  pub copy_nowhere : get r.branches branch ≡ None → first_cause copy ≡ Some NoRef
+  pub copy_nowhere : get r.branches branch ≡ None → first_cause copy ≡ Some (NoRef Named)
   copy_nowhere none =
-      reference_refuses copy (change_passes (state_of l) change) (repository_passes l repo r at) NoRef
-      (ap (λ o. option_or (cause_if (not (is_some o)) NoRef) name_cause) (branch_found l repo r at branch None none))
+      reference_refuses copy (change_passes (state_of l) change) (repository_passes l repo r at) (NoRef Named)
+      (ap (λ o. option_or (cause_if (not (is_some o)) (NoRef Named)) name_cause) (branch_found l repo r at branch None none))
 
   module _ (b : BranchStateValue) (has : get r.branches branch ≡ Some b) where
     reference_is : copy.reference ≡ name_cause

@@ -8,6 +8,7 @@ use Rattle.commit_graph.specs.Expressions.{RefExprValue}
 use Rattle.commit_graph.specs.Moves.{moves_target}
 use Rattle.lake_model.specs.declared.fault.StepFault.{StepFault}
 use Rattle.lake_model.specs.declared.fault.StepFault.TheVariants.{NoRef}
+use Rattle.lake_model.specs.declared.fault.Reference.TheVariants.{Expression}
 use Rattle.lake_model.specs.State.{Repository}
 use Rattle.lake_model.specs.Resolving.{expression_target, moved_target, name_target, parent_fault}
 use Rattle.lake_model.specs.Refusals.{Causes, cause_if, first_cause, first_of}
@@ -26,7 +27,7 @@ no_parent (Err number) fault later is = ap Some cc
 -- a name that leads nowhere, or else a move that finds no parent
 no_target : (r : Repository) (e : RefExprValue) (o : Option Digest) (fault : StepFault) (later : List (Option StepFault))
     → moved_target r e o ≡ Err fault
-    → first_of (cause_if (is_none o) NoRef ∷ move_fault (result_err (moved_target r e o)) ∷ later) ≡ Some fault
+    → first_of (cause_if (is_none o) (NoRef Expression) ∷ move_fault (result_err (moved_target r e o)) ∷ later) ≡ Some fault
 no_target r e None fault later is = ap Some cc
 no_target r e (Some id) fault later is = no_parent (moves_target r.commits 0 id e.moves) fault later is
 
@@ -37,9 +38,9 @@ name_leads r e (Some at) id is = refl
 
 module _ (l : LakeStateValue) (repo : List ℕ) (r : RepositoryStateValue) (at : get l.repositories repo ≡ Some r) where
   module _ (e : RefExprValue) where
-    name_is : cause_if (holds_in (state_of l) repo (λ x. is_none (name_target x e.name))) NoRef
-        ≡ cause_if (is_none (name_target (repository_of r) e.name)) NoRef
-    name_is = ap (λ h. cause_if h NoRef) (tested l repo r at (λ x. is_none (name_target x e.name)))
+    name_is : cause_if (holds_in (state_of l) repo (λ x. is_none (name_target x e.name))) (NoRef Expression)
+        ≡ cause_if (is_none (name_target (repository_of r) e.name)) (NoRef Expression)
+    name_is = ap (λ h. cause_if h (NoRef Expression)) (tested l repo r at (λ x. is_none (name_target x e.name)))
 
     parent_is : in_it (state_of l) repo (λ x. move_fault (result_err (expression_target x e)))
         ≡ move_fault (result_err (expression_target (repository_of r) e))
@@ -47,7 +48,7 @@ module _ (l : LakeStateValue) (repo : List ℕ) (r : RepositoryStateValue) (at :
 
     -- an expression that leads nowhere is the first cause
     pub expression_refuses : (c : Causes) → PassesChange c → c.repository ≡ None
-        → c.reference ≡ cause_if (holds_in (state_of l) repo (λ x. is_none (name_target x e.name))) NoRef
+        → c.reference ≡ cause_if (holds_in (state_of l) repo (λ x. is_none (name_target x e.name))) (NoRef Expression)
         → c.parent ≡ in_it (state_of l) repo (λ x. move_fault (result_err (expression_target x e)))
         → (fault : StepFault) → expression_target (repository_of r) e ≡ Err fault → first_cause c ≡ Some fault
     expression_refuses c change repository reference parent fault is =
@@ -57,9 +58,9 @@ module _ (l : LakeStateValue) (repo : List ℕ) (r : RepositoryStateValue) (at :
 
     -- one that leads to a commit is none
     module _ (id : Digest) (leads : expression_target (repository_of r) e ≡ Ok id) where
-      pub name_passes : cause_if (holds_in (state_of l) repo (λ x. is_none (name_target x e.name))) NoRef ≡ None
+      pub name_passes : cause_if (holds_in (state_of l) repo (λ x. is_none (name_target x e.name))) (NoRef Expression) ≡ None
       name_passes =
-          name_is ∙ ap (λ h. cause_if h NoRef) (name_leads (repository_of r) e (name_target (repository_of r) e.name) id leads)
+          name_is ∙ ap (λ h. cause_if h (NoRef Expression)) (name_leads (repository_of r) e (name_target (repository_of r) e.name) id leads)
 
       pub parent_passes : in_it (state_of l) repo (λ x. move_fault (result_err (expression_target x e))) ≡ None
       parent_passes = parent_is ∙ ap (λ answer. move_fault (result_err answer)) leads

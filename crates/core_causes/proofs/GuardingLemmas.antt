@@ -4,6 +4,7 @@ use Rattle.std.specs.Prelude.{◌==◌, ◌&&◌, Option, Some, None, option_map
 use Rattle.std.specs.FinMap.{get}
 use Rattle.lake_model.specs.declared.fault.StepFault.{StepFault}
 use Rattle.lake_model.specs.declared.fault.StepFault.TheVariants.{Changed, NoRef, NoRepo, Protected}
+use Rattle.lake_model.specs.declared.fault.Reference.TheVariants.{Named}
 use Rattle.lake_model.specs.Branches.{protected_by}
 use Rattle.lake_model.specs.Refusals.{cause_if, causes_of_change, first_cause}
 use Rattle.lake_model.specs.Steps.{is_current}
@@ -30,7 +31,7 @@ module _ (l : LakeStateValue) (given : VersionsGiven) (repo branch : List ℕ) (
   module _ (r : RepositoryStateValue) (at : get l.repositories repo ≡ Some r) where
     -- its branch isn't there
     pub no_branch : {X : Type 0} (P : X → Type 0) (protects : Bool) (answer : Result X StepFault) (told : StepFault) → IsErrAnd answer (λ e. e ≡ told)
-        → (told ≡ NoRef) × (get r.branches branch ≡ None)
+        → (told ≡ NoRef Named) × (get r.branches branch ≡ None)
         → MatchResult answer P (λ e. first_cause (guard_causes protects (state_of l) given repo branch version settings) ≡ Some e)
     no_branch P true =
         without_branch l repo r at P branch (guard_causes true (state_of l) given repo branch version settings) (change_passes (state_of l) change)

@@ -10,6 +10,7 @@ use Rattle.lake_values.specs.declared.settings.Note.{Note}
 use Rattle.lake_values.specs.declared.settings.NoteName.{NoteName}
 use Rattle.lake_model.specs.declared.fault.StepFault.{StepFault}
 use Rattle.lake_model.specs.declared.fault.StepFault.TheVariants.{Changed, DefaultBranch, NoNote, NoRef, Protected}
+use Rattle.lake_model.specs.declared.fault.Reference.TheVariants.{Named}
 use Rattle.lake_model.specs.Branches.{protected_by}
 use Rattle.lake_model.specs.NoteChanges.{note_at}
 use Rattle.lake_model.specs.Refusals.{cause_if, causes_of_change, first_cause}
@@ -57,14 +58,14 @@ module _ (l : LakeStateValue) (repo : List ℕ) (r : RepositoryStateValue) (at :
   -- ---- a tag goes
   module _ (name : List ℕ) where
     tag_is : (o : Option Digest) → get r.tags name ≡ o
-        → cause_if (not (holds_in (state_of l) repo (λ x. contains_key x.tags name))) NoRef ≡ cause_if (not (is_some o)) NoRef
-    tag_is o is = ap (λ h. cause_if (not h) NoRef) (tested l repo r at (λ x. contains_key x.tags name) ∙ ap is_some is)
+        → cause_if (not (holds_in (state_of l) repo (λ x. contains_key x.tags name))) (NoRef Named) ≡ cause_if (not (is_some o)) (NoRef Named)
+    tag_is o is = ap (λ h. cause_if (not h) (NoRef Named)) (tested l repo r at (λ x. contains_key x.tags name) ∙ ap is_some is)
 
     -- it isn't there
-    pub tag_first : get r.tags name ≡ None → first_cause (delete_tag_causes (state_of l) repo name) ≡ Some NoRef
+    pub tag_first : get r.tags name ≡ None → first_cause (delete_tag_causes (state_of l) repo name) ≡ Some (NoRef Named)
     tag_first none =
         reference_refuses (delete_tag_causes (state_of l) repo name) (change_passes (state_of l) change)
-        (repository_passes l repo r at) NoRef (tag_is None none)
+        (repository_passes l repo r at) (NoRef Named) (tag_is None none)
 
     -- it is
     pub tag_passes : (id : Digest) → get r.tags name ≡ Some id → first_cause (delete_tag_causes (state_of l) repo name) ≡ None

@@ -8,12 +8,13 @@ ghost use Rattle.core_state.specs.BranchStates.{branch_value};
 ghost use Rattle.core_state.specs.LakeStates.{lake_value, state_of};
 ghost use Rattle.core_state.specs.RepositoryStates.{repository_of, repository_value};
 ghost use Rattle.lake_model.specs.declared.fault.StepFault.TheVariants.{Changed, NoRef, NoRepo, Protected};
+ghost use Rattle.lake_model.specs.declared.fault.Reference.TheVariants.{Named};
 ghost use Rattle.core_causes.specs.Asking.{Asks};
 
 use core_state::{BranchState, LakeState, RepositoryState};
 use hook_rules::protects;
 use lake_base::{RefName, RepoName};
-use lake_model::StepFault;
+use lake_model::{Reference, StepFault};
 use lake_model::history::HISTORY_LIMIT;
 use lake_values::CommitId;
 
@@ -53,11 +54,11 @@ pub(crate) fn branch_at<'a>(
 ) -> Result<&'a BranchState, StepFault>
     ensures { MatchResult result
         (λ branch. get (repository_value repository.now).branches name.now ≡ Some (branch_value branch.now))
-        (λ fault. (fault ≡ NoRef) × (get (repository_value repository.now).branches name.now ≡ None)) }
+        (λ fault. (fault ≡ NoRef Named) × (get (repository_value repository.now).branches name.now ≡ None)) }
 {
     match repository.branch(name) {
         Some(branch) => Ok(branch),
-        None => Err(StepFault::NoRef),
+        None => Err(StepFault::NoRef(Reference::Named)),
     }
 }
 

@@ -17,7 +17,7 @@ use commit_graph::RefExpr;
 use core_readings::target;
 use core_state::{LakeState, RepositoryState};
 use lake_base::{RefName, RepoName};
-use lake_model::StepFault;
+use lake_model::{Reference, StepFault};
 use lake_values::{CommitId, Note, NoteName};
 
 /// What a new branch asks, and the commit that it starts from: the expression leads to a commit that isn't expired, and
@@ -90,7 +90,7 @@ pub fn test_delete_tag(lake: &LakeState, repo: &RepoName, name: &RefName) -> Res
     let repository = repository_at(lake, repo)?;
     match repository.tag(name) {
         Some(_) => Ok(()),
-        None => Err(StepFault::NoRef),
+        None => Err(StepFault::NoRef(Reference::Named)),
     }
 }
 

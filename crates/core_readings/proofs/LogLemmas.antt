@@ -7,6 +7,7 @@ use Rattle.lake_values.specs.Log.{log_page}
 use Rattle.commit_graph.specs.Expressions.{RefExprValue}
 use Rattle.lake_model.specs.declared.fault.StepFault.{StepFault}
 use Rattle.lake_model.specs.declared.fault.StepFault.TheVariants.{NoRef}
+use Rattle.lake_model.specs.declared.fault.Reference.TheVariants.{Expression}
 use Rattle.lake_model.specs.Readings.{LogReply, ◌then◌, known_commit, log_page_reply, log_reply}
 use Rattle.lake_model.specs.Resolving.{expression_target, moved_target, name_target}
 use Rattle.lake_model.specs.State.{Repository}
@@ -34,9 +35,9 @@ module _ (l : LakeStateValue) (repo : List ℕ) (e : RefExprValue) (after : Opti
   whole = in_some l repo pages_in r there
 
   -- the name leads nowhere
-  pub log_nowhere : None ≡ name_target (repository_at r) e.name → Err NoRef ≡ log_reply (state_of l) repo e after since amount
+  pub log_nowhere : None ≡ name_target (repository_at r) e.name → Err (NoRef Expression) ≡ log_reply (state_of l) repo e after since amount
   log_nowhere none =
-      then_err (expression_target (repository_at r) (record e { moves = [] })) (λ name. pages_after (repository_at r)) NoRef
+      then_err (expression_target (repository_at r) (record e { moves = [] })) (λ name. pages_after (repository_at r)) (NoRef Expression)
       (ap (moved_target (repository_at r) (record e { moves = [] })) none)
       ∙ whole
 

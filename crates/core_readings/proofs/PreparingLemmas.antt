@@ -5,6 +5,7 @@ use Rattle.std.specs.Option.{option_map_or}
 use Rattle.std.specs.FinMap.{get}
 use Rattle.lake_model.specs.declared.fault.StepFault.{StepFault}
 use Rattle.lake_model.specs.declared.fault.StepFault.TheVariants.{NoMemory, NoRef, NoRepo}
+use Rattle.lake_model.specs.declared.fault.Reference.TheVariants.{Named}
 use Rattle.lake_model.specs.declared.reply.Sides.{Sides}
 use Rattle.lake_model.specs.Preparing.{PreparedValue, expired_source, preparation, prepare_reply}
 use Rattle.lake_model.specs.Refusals.{Gives, unless_refused}
@@ -54,7 +55,7 @@ module _ {X : Type 0} where
 module _ (l : LakeStateValue) (given : VersionsGiven) (repo branch : List ℕ) (sides : Option Sides) where
   abbrev of_branch : Repository → Option Branch → Result PreparedValue StepFault
   of_branch r found = option_map_or
-      (λ b. unless_refused (option_map_or (expired_source r) sides None) (preparation (state_of l) given repo branch sides r b)) found (Err NoRef)
+      (λ b. unless_refused (option_map_or (expired_source r) sides None) (preparation (state_of l) given repo branch sides r b)) found (Err (NoRef Named))
 
   abbrev of_repository : Option Repository → Result PreparedValue StepFault
   of_repository found = option_map_or (λ r. of_branch r (get r.branches branch)) found (Err NoRepo)
@@ -68,7 +69,7 @@ module _ (l : LakeStateValue) (given : VersionsGiven) (repo branch : List ℕ) (
     at_repository = sym (ap of_repository (found_repository l repo (Some r) there))
 
     -- no branch
-    pub no_branch : None ≡ get (repository_value r).branches branch → Err NoRef ≡ prepare_reply (state_of l) given repo branch sides
+    pub no_branch : None ≡ get (repository_value r).branches branch → Err (NoRef Named) ≡ prepare_reply (state_of l) given repo branch sides
     no_branch is = sym (ap (of_branch (repository_at r)) (found_branch (repository_value r) branch None is)) ∙ at_repository
 
     module _ (b : BranchState) (is : Some (branch_value b) ≡ get (repository_value r).branches branch) where

@@ -7,6 +7,7 @@ use Rattle.lake_values.specs.declared.settings.Note.{Note}
 use Rattle.lake_values.specs.declared.settings.NoteName.{NoteName}
 use Rattle.lake_model.specs.declared.fault.StepFault.{StepFault}
 use Rattle.lake_model.specs.declared.fault.StepFault.TheVariants.{NoRef, NoNote}
+use Rattle.lake_model.specs.declared.fault.Reference.TheVariants.{Named}
 use Rattle.lake_model.specs.NoteChanges.{note_at}
 use Rattle.lake_model.specs.Readings.{NoteReply, note_reply, versions_at, versions_reply}
 use Rattle.lake_model.specs.State.{Branch, Repository}
@@ -24,7 +25,7 @@ use Rattle.core_readings.proofs.ReplyLemmas.{in_some}
 module _ (l : LakeStateValue) (given : VersionsGiven) (has : HasVersions given l) (repo : List ℕ) (r : RepositoryState)
     (there : Some (repository_value r) ≡ get l.repositories repo) where
   abbrev versions_in : List ℕ → Repository → Result Versions StepFault
-  versions_in branch q = cond (contains_key q.branches branch) (Ok (versions_at l.entries given repo branch)) (Err NoRef)
+  versions_in branch q = cond (contains_key q.branches branch) (Ok (versions_at l.entries given repo branch)) (Err (NoRef Named))
 
   given_settings : r.settings ≡ settings_version given repo
   given_settings = sym (has.settings repo (repository_value r) (sym there))
@@ -34,13 +35,13 @@ module _ (l : LakeStateValue) (given : VersionsGiven) (has : HasVersions given l
   versions_found branch b is =
       let version = sym (has.branches repo (repository_value r) branch (branch_value b) (sym there) (sym is)) in
       (λ i. Ok (record { at = l.entries; version = version i; settings = given_settings i }))
-      ∙ ap (λ (o : Option Branch). cond (is_some o) (Ok (versions_at l.entries given repo branch)) (Err NoRef))
+      ∙ ap (λ (o : Option Branch). cond (is_some o) (Ok (versions_at l.entries given repo branch)) (Err (NoRef Named)))
       (sym (found_branch (repository_value r) branch (Some b) is))
       ∙ in_some l repo (versions_in branch) r there
 
-  pub versions_missing : (branch : List ℕ) → None ≡ get (repository_value r).branches branch → Err NoRef ≡ versions_reply (state_of l) given repo branch
+  pub versions_missing : (branch : List ℕ) → None ≡ get (repository_value r).branches branch → Err (NoRef Named) ≡ versions_reply (state_of l) given repo branch
   versions_missing branch is =
-      ap (λ (o : Option Branch). cond (is_some o) (Ok (versions_at l.entries given repo branch)) (Err NoRef))
+      ap (λ (o : Option Branch). cond (is_some o) (Ok (versions_at l.entries given repo branch)) (Err (NoRef Named)))
       (sym (found_branch (repository_value r) branch None is))
       ∙ in_some l repo (versions_in branch) r there
 

@@ -11,7 +11,7 @@ use crate::{name_target, target};
 use commit_graph::RefExpr;
 use core_state::{LakeState, RepositoryState};
 use lake_base::{NoMemory, RepoName, Sequence, TryCopy};
-use lake_model::StepFault;
+use lake_model::{Reference, StepFault};
 use lake_values::{CommitId, CommitRecord};
 use std::alloc::Global;
 
@@ -35,7 +35,7 @@ pub fn log(
         return Err(StepFault::NoRepo);
     };
     let Some(_) = name_target(repository, &e.name) else {
-        return Err(StepFault::NoRef);
+        return Err(StepFault::NoRef(Reference::Expression));
     };
     test_commit(repository, after)?;
     let from = target(repository, e)?;
@@ -55,7 +55,7 @@ fn test_commit(repository: &RepositoryState, named: Option<&CommitId>) -> Result
     match named {
         Some(id) => match repository.graph.get(id) {
             Some(_) => Ok(()),
-            None => Err(StepFault::NoRef),
+            None => Err(StepFault::NoRef(Reference::After)),
         },
         None => Ok(()),
     }

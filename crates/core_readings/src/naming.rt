@@ -10,7 +10,7 @@ ghost use Rattle.core_readings.specs.Answers.{list_answer};
 use crate::rows::{Name, Tell, first_told};
 use core_state::{BranchState, LakeState, RepositoryState};
 use lake_base::{NameFault, NoMemory, RefName, RepoName, Sequence, Text, TryCopy};
-use lake_model::{RepoInfo, StepFault};
+use lake_model::{Reference, RepoInfo, StepFault};
 use lake_values::CommitId;
 use std::alloc::Global;
 
@@ -164,7 +164,7 @@ pub fn find(
     };
     match commit_of(repository, tags, name) {
         Some(commit) => Ok((lake.entries, commit)),
-        None => Err(StepFault::NoRef),
+        None => Err(StepFault::NoRef(Reference::Named)),
     }
 }
 

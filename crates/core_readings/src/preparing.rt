@@ -19,7 +19,7 @@ use crate::prepared::Prepared;
 use crate::sides::{test_source, tree_of, trio_of};
 use core_state::{BranchState, LakeState, RepositoryState};
 use lake_base::{NoMemory, RefName, RepoName, Sequence, TryCopy};
-use lake_model::{Sides, StepFault};
+use lake_model::{Reference, Sides, StepFault};
 use lake_values::HookRules;
 use std::alloc::Global;
 use std::sync::Arc;
@@ -51,7 +51,7 @@ pub fn prepare(
         return Err(StepFault::NoRepo);
     };
     let Some(found) = repository.branch(branch) else {
-        return Err(StepFault::NoRef);
+        return Err(StepFault::NoRef(Reference::Named));
     };
     test_source(repository, sides)?;
     let prepared = gathered(alloc, lake, repository, found, sides)?;

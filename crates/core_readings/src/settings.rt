@@ -11,7 +11,7 @@ ghost use Rattle.core_readings.specs.Answers.{note_answer};
 
 use core_state::{LakeState, RepositoryState};
 use lake_base::{NoMemory, RefName, RepoName, TryCopy};
-use lake_model::{StepFault, Versions};
+use lake_model::{Reference, StepFault, Versions};
 use lake_values::{Note, NoteName};
 use std::alloc::Global;
 
@@ -72,6 +72,6 @@ pub fn versions(lake: &LakeState, repo: &RepoName, branch: &RefName) -> Result<V
             version: found.record.version(),
             settings: repository.settings,
         }),
-        None => Err(StepFault::NoRef),
+        None => Err(StepFault::NoRef(Reference::Named)),
     }
 }

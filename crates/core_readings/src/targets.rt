@@ -7,7 +7,7 @@ ghost use Rattle.core_state.specs.RepositoryStates.{HasTargets, repository_of, r
 use commit_graph::RefExpr;
 use core_state::RepositoryState;
 use lake_base::{Digest, RefName};
-use lake_model::StepFault;
+use lake_model::{Reference, StepFault};
 use lake_values::CommitId;
 
 /// The commit whose id reads so. It takes no memory.
@@ -47,7 +47,7 @@ pub fn target(repository: &RepositoryState, e: &RefExpr) -> Result<CommitId, Ste
     ensures there { IfOk result (HasCommit (repository_of (repository_value repository.now))) }
 {
     let Some(id) = name_target(repository, &e.name) else {
-        return Err(StepFault::NoRef);
+        return Err(StepFault::NoRef(Reference::Expression));
     };
     match repository.graph.resolve(&id, e.moves.as_slice()) {
         Ok(id) => Ok(id),

@@ -12,6 +12,7 @@ use Rattle.lake_values.specs.declared.settings.HookRule.{HookRule}
 use Rattle.meta_range.specs.Ranges.{TreeValue}
 use Rattle.lake_model.specs.declared.fault.StepFault.{StepFault}
 use Rattle.lake_model.specs.declared.fault.StepFault.TheVariants as step
+use Rattle.lake_model.specs.declared.fault.Reference.TheVariants.{Named}
 use Rattle.lake_model.specs.declared.reply.Sides.{Sides}
 use Rattle.lake_model.specs.declared.reply.SwapKind.{SwapKind}
 use Rattle.lake_model.specs.declared.reply.SwapKind.TheVariants as kind
@@ -79,7 +80,7 @@ module _ (state : State) (given : VersionsGiven) (repo branch : List ℕ) (sides
   -- what is handed out of a repository, of a branch that may be there
   abbrev of_branch : Repository → Option Branch → Result PreparedValue StepFault
   of_branch r found = option_map_or
-      (λ b. unless_refused (option_map_or (expired_source r) sides None) (preparation state given repo branch sides r b)) found (Err step.NoRef)
+      (λ b. unless_refused (option_map_or (expired_source r) sides None) (preparation state given repo branch sides r b)) found (Err (step.NoRef Named))
 
   abbrev of_lake : Option Repository → Result PreparedValue StepFault
   of_lake found = option_map_or (λ r. of_branch r (get r.branches branch)) found (Err step.NoRepo)
@@ -92,7 +93,7 @@ module _ (state : State) (given : VersionsGiven) (repo branch : List ℕ) (sides
   on_branch : (r : Repository) → get state.repositories repo ≡ Some r → (o : Option Branch) → get r.branches branch ≡ o
       → HandedThere state given repo branch sides p
   on_branch r at (Some b) on = record { r = r; b = b; at = at; on = on; same = handed r b at on }
-  on_branch r at None none = let refused : Err step.NoRef ≡ Ok p = sym (ap of_lake at ∙ ap (of_branch r) none) ∙ is in absurd cc
+  on_branch r at None none = let refused : Err (step.NoRef Named) ≡ Ok p = sym (ap of_lake at ∙ ap (of_branch r) none) ∙ is in absurd cc
 
   in_lake : (o : Option Repository) → get state.repositories repo ≡ o → HandedThere state given repo branch sides p
   in_lake (Some r) at = on_branch r at (get r.branches branch) refl

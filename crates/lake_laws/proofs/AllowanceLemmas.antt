@@ -10,6 +10,7 @@ use Rattle.lake_values.specs.declared.commit.ResetWhat.{ResetWhat}
 use Rattle.lake_values.specs.declared.entry.Change.{Change}
 use Rattle.commit_graph.specs.Expressions.{RefExprValue}
 use Rattle.lake_model.specs.declared.fault.StepFault.TheVariants.{NoRef}
+use Rattle.lake_model.specs.declared.fault.Reference.TheVariants.{Named}
 use Rattle.lake_model.specs.declared.history.By.{By}
 use Rattle.lake_model.specs.declared.history.CopySource.{CopySource}
 use Rattle.lake_model.specs.declared.history.Operation.TheVariants.{BranchCreate, BranchDelete, Copy, Reset, Seal, Stage, TagCreate, TagDelete, TicketDrop}
@@ -137,4 +138,4 @@ tag_delete_allowed state by repo name none =
     let no = no_cause (delete_tag_causes state repo name) none in
     allowed state _ no.stopped no.full
     (there state repo (λ r. IsSome (get r.tags name)) no.repository
-    (λ r is. tested state repo (λ x. contains_key x.tags name) r true is (test_holds _ NoRef no.reference)))
+    (λ r is. tested state repo (λ x. contains_key x.tags name) r true is (test_holds _ (NoRef Named) no.reference)))

@@ -5,6 +5,7 @@ use Rattle.std.specs.Option.{option_map_or}
 use Rattle.std.specs.FinMap.{get, contains_key}
 use Rattle.lake_laws.proofs.LookupLemmas.{of_some, some_is}
 use Rattle.lake_model.specs.declared.fault.StepFault.TheVariants.{NoRepo, NoRef, Protected}
+use Rattle.lake_model.specs.declared.fault.Reference.TheVariants.{Named}
 use Rattle.lake_model.specs.State.{Branch, Repository, State, HasRepository, HasBranch, branch_of}
 use Rattle.lake_model.specs.Branches.{IsUnprotected, protected_by}
 use Rattle.lake_model.specs.Refusals.{cause_if, protection_of}
@@ -35,11 +36,11 @@ branch_in branch (Some r) some =
 
 -- a branch that is there is one that has P
 pub branch_there : (state : State) (repo branch : List ℕ) (P : Repository → Branch → Type 0)
-    → cause_if (not (is_some (branch_of state repo branch))) NoRef ≡ None
+    → cause_if (not (is_some (branch_of state repo branch))) (NoRef Named) ≡ None
     → ((r : Repository) (b : Branch) → get state.repositories repo ≡ Some r → get r.branches branch ≡ Some b → P r b)
     → HasBranch state repo branch P
 branch_there state repo branch P none holds =
-    let at = branch_in branch (get state.repositories repo) (test_holds _ NoRef none) in
+    let at = branch_in branch (get state.repositories repo) (test_holds _ (NoRef Named) none) in
     (at.r, at.in_lake, (at.b, at.in_repository, holds at.r at.b at.in_lake at.in_repository))
 
 unprotected_of : (o : Option ℕ) → option_map Protected o ≡ None → o ≡ None
@@ -90,6 +91,6 @@ repository_none state repo r is = cause_not _ NoRepo (some_is (get state.reposit
 
 -- nor is a branch that is there
 pub branch_none : (state : State) (repo branch : List ℕ) (r : Repository) (b : Branch) → get state.repositories repo ≡ Some r
-    → get r.branches branch ≡ Some b → cause_if (not (is_some (branch_of state repo branch))) NoRef ≡ None
+    → get r.branches branch ≡ Some b → cause_if (not (is_some (branch_of state repo branch))) (NoRef Named) ≡ None
 branch_none state repo branch r b is has =
-    cause_not _ NoRef (some_is (branch_of state repo branch) b (answered state repo (λ x. get x.branches branch) r (Some b) is has))
+    cause_not _ (NoRef Named) (some_is (branch_of state repo branch) b (answered state repo (λ x. get x.branches branch) r (Some b) is has))

@@ -11,6 +11,7 @@ use Rattle.lake_values.specs.declared.settings.Note.{Note}
 use Rattle.lake_values.specs.declared.settings.NoteName.{NoteName}
 use Rattle.commit_graph.specs.Expressions.{RefExprValue}
 use Rattle.lake_model.specs.declared.fault.StepFault.TheVariants.{DefaultBranch, Exists, Expired, NoNote, NoRef}
+use Rattle.lake_model.specs.declared.fault.Reference.TheVariants.{Named, Expression}
 use Rattle.lake_model.specs.declared.history.HistoryEntry.{HistoryEntry}
 use Rattle.lake_model.specs.declared.history.SealFor.{SealFor}
 use Rattle.lake_model.specs.declared.history.SealFor.TheVariants as seal
@@ -36,9 +37,9 @@ name_leads r e id (Some at) is = refl
 module _ (state : State) (repo : List ℕ) (r : Repository) (is : get state.repositories repo ≡ Some r) (e : RefExprValue) (id : Digest)
     (leads : target_in r e ≡ Some id) where
   -- so the name is no cause
-  pub reference_none : cause_if (holds_in state repo (λ x. is_none (name_target x e.name))) NoRef ≡ None
+  pub reference_none : cause_if (holds_in state repo (λ x. is_none (name_target x e.name))) (NoRef Expression) ≡ None
   reference_none =
-      cause_fails _ NoRef (test_answered state repo (λ x. is_none (name_target x e.name)) r false is
+      cause_fails _ (NoRef Expression) (test_answered state repo (λ x. is_none (name_target x e.name)) r false is
       (name_leads r e id (name_target r e.name) (taken (expression_target r e) id leads)))
 
   -- nor are the moves
@@ -113,7 +114,7 @@ module _ (state : State) (entry : HistoryEntry) (may : Allows state entry) (repo
   delete_tag_none name at =
       none_holds (delete_tag_causes state repo name) (not_stopped state entry may) (not_full state entry may)
       (repository_none state repo at.0 at.1)
-      (cause_not _ NoRef (test_answered state repo (λ x. contains_key x.tags name) at.0 true at.1 at.2)) refl refl refl refl refl refl refl refl refl
+      (cause_not _ (NoRef Named) (test_answered state repo (λ x. contains_key x.tags name) at.0 true at.1 at.2)) refl refl refl refl refl refl refl refl refl
 
   -- ---- settings
 

@@ -13,6 +13,7 @@ use Rattle.commit_graph.specs.Expressions.{RefExprValue}
 use Rattle.lake_model.specs.declared.fault.StepFault.{StepFault}
 use Rattle.lake_model.specs.declared.fault.StepFault.TheVariants.{Stopped, HistoryFull, NoRepo, NoRef, NoParent, NoNote, Exists, DefaultBranch, Protected}
 use Rattle.lake_model.specs.declared.fault.StepFault.TheVariants.{Changed, NoPath, Expired, NameClash, StoreFault, NoMemory}
+use Rattle.lake_model.specs.declared.fault.Reference.TheVariants.{Named, Expression}
 use Rattle.lake_model.specs.declared.history.SealFor.{SealFor}
 use Rattle.lake_model.specs.declared.history.SealFor.TheVariants as seal
 use Rattle.lake_model.specs.State.{Repository, State, branch_of, is_expired}
@@ -62,7 +63,7 @@ move_told None = tt
 move_told (Some Stopped) = tt
 move_told (Some HistoryFull) = tt
 move_told (Some NoRepo) = tt
-move_told (Some NoRef) = tt
+move_told (Some (NoRef which)) = tt
 move_told (Some (NoParent number)) = tt
 move_told (Some NoNote) = tt
 move_told (Some Exists) = tt
@@ -128,14 +129,14 @@ module _ (state : State) where
     tests : (test : Repository → Bool) (fault : StepFault) → IsRefusal fault → IsTold (cause_if (holds_in state repo test) fault)
     tests test fault is = if_told (holds_in state repo test) fault is
 
-    found : (name : List ℕ) → IsTold (cause_if (not (is_some (branch_of state repo name))) NoRef)
-    found name = if_told (not (is_some (branch_of state repo name))) NoRef tt
+    found : (name : List ℕ) → IsTold (cause_if (not (is_some (branch_of state repo name))) (NoRef Named))
+    found name = if_told (not (is_some (branch_of state repo name))) (NoRef Named) tt
 
     guarded : (name : List ℕ) → IsTold (protection_of state repo name)
     guarded name = in_there (λ r. option_map Protected (protected_by r.notes.protection name)) (λ r. protection_told (protected_by r.notes.protection name))
 
-    named : (e : RefExprValue) → IsTold (cause_if (holds_in state repo (λ r. is_none (name_target r e.name))) NoRef)
-    named e = tests (λ r. is_none (name_target r e.name)) NoRef tt
+    named : (e : RefExprValue) → IsTold (cause_if (holds_in state repo (λ r. is_none (name_target r e.name))) (NoRef Expression))
+    named e = tests (λ r. is_none (name_target r e.name)) (NoRef Expression) tt
 
     moved : (e : RefExprValue) → IsTold (in_it state repo (λ r. move_fault (result_err (expression_target r e))))
     moved e = in_there (λ r. move_fault (result_err (expression_target r e))) (λ r. move_told (result_err (expression_target r e)))
@@ -177,8 +178,8 @@ module _ (state : State) where
           (
             there,
             (
-              or_told (cause_if (not (is_some (branch_of state repo branch))) NoRef)
-                  (cause_if (holds_in state repo (λ r. is_none (name_target r e.name))) NoRef) (found branch) (named e),
+              or_told (cause_if (not (is_some (branch_of state repo branch))) (NoRef Named))
+                  (cause_if (holds_in state repo (λ r. is_none (name_target r e.name))) (NoRef Expression)) (found branch) (named e),
               (
                 moved e,
                 (
@@ -329,7 +330,7 @@ module _ (state : State) where
         (
           there,
           (
-            if_told (not (holds_in state repo (λ r. contains_key r.tags name))) NoRef tt,
+            if_told (not (holds_in state repo (λ r. contains_key r.tags name))) (NoRef Named) tt,
             (tt, (tt, (tt, (tt, (tt, (tt, (tt, (tt, (tt, tt))))))))),
           ),
         ),

@@ -12,6 +12,7 @@ use Rattle.lake_values.specs.declared.settings.HookRule.{HookRule}
 use Rattle.lake_format.specs.declared.cut.Cut.{Cut}
 use Rattle.lake_model.specs.declared.fault.StepFault.{StepFault}
 use Rattle.lake_model.specs.declared.fault.StepFault.TheVariants.{NoRef, Expired}
+use Rattle.lake_model.specs.declared.fault.Reference.TheVariants.{Named}
 use Rattle.lake_model.specs.declared.reply.Sides.{Sides}
 use Rattle.lake_model.specs.declared.reply.Sides.TheVariants.{Merge, Pick}
 use Rattle.lake_model.specs.State.{Branch, Repository, State, head_map, is_expired, map_of}
@@ -63,7 +64,7 @@ expired_source r sides = if is_expired r (source_of sides) then Some (Expired (s
 abbrev pub prepare_reply : State → VersionsGiven → List ℕ → List ℕ → Option Sides → Result PreparedValue StepFault
 prepare_reply state given repo branch sides = in_repository_of state repo (λ r. option_map_or
     (λ b. unless_refused (option_map_or (expired_source r) sides None) (preparation state given repo branch sides r b))
-    (get r.branches branch) (Err NoRef))
+    (get r.branches branch) (Err (NoRef Named)))
 
 -- what the rules of retention are asked of a repository
 pub record RepoRefsValue : Type 0 where

@@ -20,6 +20,7 @@ use Rattle.lake_pages.specs.declared.listing.PageQuery.{PageQuery}
 use Rattle.commit_graph.specs.Expressions.{RefExprValue}
 use Rattle.lake_model.specs.declared.fault.StepFault.{StepFault}
 use Rattle.lake_model.specs.declared.fault.StepFault.TheVariants.{NoRef, NoNote}
+use Rattle.lake_model.specs.declared.fault.Reference.TheVariants.{Named, After}
 use Rattle.lake_model.specs.declared.reply.Point.{Point}
 use Rattle.lake_model.specs.declared.reply.RepoInfo.{RepoInfo}
 use Rattle.lake_model.specs.declared.reply.Seen.{Seen}
@@ -94,7 +95,7 @@ pub record LogReply : Type 0 where
 -- a commit that is named by its id, where one is named
 abbrev pub known_commit : Repository → Option Digest → Result (Option Digest) StepFault
 known_commit r None = Ok None
-known_commit r (Some id) = if is_some (commit_of r.commits id) then Ok (Some id) else Err NoRef
+known_commit r (Some id) = if is_some (commit_of r.commits id) then Ok (Some id) else Err (NoRef After)
 
 abbrev pub log_page_reply : State → Repository → LogPageValue → LogReply
 log_page_reply state r page = record { at = state.entries; commits = commits_in r page.ids; more = page.has_more }
@@ -142,7 +143,7 @@ name_in r false name = option_map (λ b. b.head) (get r.branches name)
 
 abbrev pub find_reply : State → List ℕ → Bool → List ℕ → Result (ℕ × Digest) StepFault
 find_reply state repo tags name =
-    in_repository_of state repo (λ r. option_map_or (λ id. Ok (state.entries, id)) (name_in r tags name) (Err NoRef))
+    in_repository_of state repo (λ r. option_map_or (λ id. Ok (state.entries, id)) (name_in r tags name) (Err (NoRef Named)))
 
 -- a setting, and the version of the repository's settings
 pub record NoteReply : Type 0 where
@@ -162,4 +163,4 @@ versions_at at given repo branch =
 
 abbrev pub versions_reply : State → VersionsGiven → List ℕ → List ℕ → Result Versions StepFault
 versions_reply state given repo branch =
-    in_repository_of state repo (λ r. if contains_key r.branches branch then Ok (versions_at state.entries given repo branch) else Err NoRef)
+    in_repository_of state repo (λ r. if contains_key r.branches branch then Ok (versions_at state.entries given repo branch) else Err (NoRef Named))

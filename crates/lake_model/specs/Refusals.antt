@@ -8,6 +8,7 @@ use Rattle.lake_format.specs.Cutting.{files}
 use Rattle.lake_format.specs.Spelling.{file_name}
 use Rattle.lake_model.specs.declared.fault.StepFault.{StepFault}
 use Rattle.lake_model.specs.declared.fault.StepFault.TheVariants.{Stopped, HistoryFull, NoRepo, NoRef, Protected, Changed, NameClash, StoreFault, NoMemory}
+use Rattle.lake_model.specs.declared.fault.Reference.TheVariants.{Named}
 use Rattle.lake_model.specs.State.{Repository, State, branch_of}
 use Rattle.lake_model.specs.Branches.{protected_by}
 use Rattle.lake_model.specs.Commits.{Draft, AreKept, StandsBefore, bytes_of}
@@ -98,7 +99,7 @@ with_repository state repo c = record c { repository = cause_if (not (contains_k
 -- what names a branch asks whether it and its repository are there
 abbrev pub with_branch : State → List ℕ → List ℕ → Causes → Causes
 with_branch state repo branch c =
-    record (with_repository state repo c) { reference = cause_if (not (is_some (branch_of state repo branch))) NoRef }
+    record (with_repository state repo c) { reference = cause_if (not (is_some (branch_of state repo branch))) (NoRef Named) }
 
 -- the pattern that protects a branch
 abbrev pub protection_of : State → List ℕ → List ℕ → Option StepFault

@@ -11,6 +11,7 @@ use Rattle.commit_graph.specs.Expressions.{RefExprValue}
 use Rattle.commit_graph.specs.Moves.{moves_target}
 use Rattle.lake_model.specs.declared.fault.StepFault.{StepFault}
 use Rattle.lake_model.specs.declared.fault.StepFault.TheVariants.{NoRepo, NoRef, NoParent}
+use Rattle.lake_model.specs.declared.fault.Reference.TheVariants.{Expression}
 use Rattle.lake_model.specs.State.{Repository, State}
 
 -- the commit whose id reads so
@@ -33,7 +34,7 @@ parent_fault (Err number) = Err (NoParent number)
 
 -- where moves lead from what a name leads to
 abbrev pub moved_target : Repository → RefExprValue → Option Digest → Result Digest StepFault
-moved_target r e None = Err NoRef
+moved_target r e None = Err (NoRef Expression)
 moved_target r e (Some id) = parent_fault (moves_target r.commits 0 id e.moves)
 
 -- the commit of an expression: its name's, and from there its moves

@@ -15,6 +15,7 @@ use Rattle.lake_format.specs.Spelling.{commit_id}
 use Rattle.commit_graph.specs.Expressions.{RefExprValue}
 use Rattle.lake_model.specs.declared.fault.StepFault.{StepFault}
 use Rattle.lake_model.specs.declared.fault.StepFault.TheVariants.{NoRef, NoParent, NoNote, Exists, DefaultBranch, NoPath, Expired, StoreFault, NoMemory}
+use Rattle.lake_model.specs.declared.fault.Reference.TheVariants.{Named, Expression}
 use Rattle.lake_model.specs.declared.history.CopySource.{CopySource}
 use Rattle.lake_model.specs.declared.history.CopySource.TheVariants as from
 use Rattle.lake_model.specs.declared.history.Operation.{Operation}
@@ -53,7 +54,7 @@ move_fault _ = None
 -- what takes an expression asks what its name leads to, and then its moves
 abbrev pub with_expression : State → List ℕ → RefExprValue → Causes → Causes
 with_expression state repo e c = record c {
-  reference = option_or c.reference (cause_if (holds_in state repo (λ r. is_none (name_target r e.name))) NoRef);
+  reference = option_or c.reference (cause_if (holds_in state repo (λ r. is_none (name_target r e.name))) (NoRef Expression));
   parent = in_it state repo (λ r. move_fault (result_err (expression_target r e)));
 }
 
@@ -133,7 +134,7 @@ IsCreateTagReply state repo name e =
 -- a tag goes
 abbrev pub delete_tag_causes : State → List ℕ → List ℕ → Causes
 delete_tag_causes state repo name = record (with_repository state repo (causes_of_change state)) {
-  reference = cause_if (not (holds_in state repo (λ r. contains_key r.tags name))) NoRef;
+  reference = cause_if (not (holds_in state repo (λ r. contains_key r.tags name))) (NoRef Named);
 }
 
 abbrev pub delete_tag_reply : State → List ℕ → List ℕ → Result ℕ StepFault

@@ -6,6 +6,17 @@ use lake_base::{Digest, NoMemory, Sequence};
 use lake_values::CommitId;
 use std::alloc::{AllocError, AllocFailed};
 
+/// Which of a call's references leads nowhere.
+#[derive(Clone, Copy, Debug, PartialEq, Eq)]
+pub enum Reference {
+    /// The branch or the tag that the call names.
+    Named,
+    /// The name, or the commit id, that its expression begins with.
+    Expression,
+    /// The commit after which a log is to begin.
+    After,
+}
+
 /// Why a step of the lake was refused. Where several causes stand together, the one that stands first here is answered;
 /// NoMemory may come at any place before StoreFault.
 #[derive(Debug, Drop)]
@@ -16,8 +27,8 @@ pub enum StepFault {
     HistoryFull,
     /// There is no such repository.
     NoRepo,
-    /// There is no such branch, tag or commit.
-    NoRef,
+    /// There is no such branch, tag or commit: the one that this tells.
+    NoRef(Reference),
     /// The move of this number in the expression, counted from 0, finds no parent.
     NoParent(u32),
     /// The setting isn't set.

@@ -11,6 +11,6 @@ pub mod history;
 pub mod laws;
 pub mod reply;
 
-pub use fault::StepFault;
+pub use fault::{Reference, StepFault};
 pub use history::{By, CopySource, EntryKind, HistoryEntry, Operation, RepositoryCommit, SealFor};
 pub use reply::{Point, RepoInfo, Seen, Sides, SwapKind, Versions};

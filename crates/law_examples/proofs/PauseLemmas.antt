@@ -11,6 +11,7 @@ use Rattle.lake_format.specs.Spelling.{commit_id}
 use Rattle.lake_format.specs.declared.cut.Cut.{Cut}
 use Rattle.lake_model.specs.declared.fault.StepFault.{StepFault}
 use Rattle.lake_model.specs.declared.fault.StepFault.TheVariants.{Changed, Expired, NoRef, NoRepo}
+use Rattle.lake_model.specs.declared.fault.Reference.TheVariants.{Named}
 use Rattle.lake_model.specs.declared.history.Operation.TheVariants.{NoteSet}
 use Rattle.lake_model.specs.declared.history.Operation.TheVariants as operation
 use Rattle.lake_model.specs.declared.history.RepositoryCommit.{RepositoryCommit}
@@ -83,9 +84,9 @@ module _ (cut : Cut) (digest : Digest) where
 
       told : prepare_reply quiet given quickstart main pick ≡ Ok (preparation quiet given quickstart main pick (of_main r b) b)
       told =
-          ap (λ (o : Option Repository). option_map_or (λ (q : Repository). option_map_or (answer q) (get q.branches main) (Err NoRef)) o (Err NoRepo))
+          ap (λ (o : Option Repository). option_map_or (λ (q : Repository). option_map_or (answer q) (get q.branches main) (Err (NoRef Named))) o (Err NoRepo))
           (repo_there (of_main r b))
-          ∙ ap (λ (o : Option Branch). option_map_or (answer (of_main r b)) o (Err NoRef)) (main_there b)
+          ∙ ap (λ (o : Option Branch). option_map_or (answer (of_main r b)) o (Err (NoRef Named))) (main_there b)
           ∙ ap (λ (t : Bool). unless_refused (cond t (Some (Expired (one cut digest))) None) (preparation quiet given quickstart main pick (of_main r b) b))
           (live_one cut digest).1
 
@@ -137,8 +138,8 @@ module _ (cut : Cut) (digest : Digest) (given : VersionsGiven) (version settings
 
   has_branch : causes.reference ≡ None
   has_branch =
-      ap (λ o. cause_if (not (is_some (option_and_then (λ (q : Repository). get q.branches main) o))) NoRef) (repo_there main_now)
-      ∙ ap (λ o. cause_if (not (is_some o)) NoRef) (main_there (clean_second cut digest))
+      ap (λ o. cause_if (not (is_some (option_and_then (λ (q : Repository). get q.branches main) o))) (NoRef Named)) (repo_there main_now)
+      ∙ ap (λ o. cause_if (not (is_some o)) (NoRef Named)) (main_there (clean_second cut digest))
 
   has_versions : causes.version ≡ None
   has_versions = ap (λ b. cause_if (not b) (Changed (branch_version given quickstart main) (settings_version given quickstart))) current

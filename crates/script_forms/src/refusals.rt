@@ -25,7 +25,7 @@ fn refusal_name(fault: &StepFault) -> &'static str {
         StepFault::Stopped => "Stopped",
         StepFault::HistoryFull => "HistoryFull",
         StepFault::NoRepo => "NoRepo",
-        StepFault::NoRef => "NoRef",
+        StepFault::NoRef(_) => "NoRef",
         StepFault::NoParent(_) => "NoParent",
         StepFault::NoNote => "NoNote",
         StepFault::Exists => "Exists",

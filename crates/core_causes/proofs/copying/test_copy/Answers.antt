@@ -1,5 +1,6 @@
 use Rattle.std.proofs.Common.{refl, sym}
 use Rattle.lake_model.specs.declared.fault.StepFault.TheVariants.{NoRef}
+use Rattle.lake_model.specs.declared.fault.Reference.TheVariants.{Named}
 use Rattle.lake_model.specs.Steps.{copy_causes}
 use Rattle.core_state.specs.BranchStates.{branch_value}
 use Rattle.core_state.specs.LakeStates.{lake_value, state_of}
@@ -21,7 +22,7 @@ pub returns-in_err-found : goal.returns-in_err-found
 returns-in_err-found c = λ given counts.
     let l = lake_value c.args.lake.now in
     let causes = copy_causes (state_of l) given c.args.repo.now c.args.branch.now c.args.version c.args.e.now c.args.from.now in
-    refused _ causes _ _ NoRef c.from_residual-in_err-found.ensures.1 c.in_err-found.ensures.0
+    refused _ causes _ _ (NoRef Named) c.from_residual-in_err-found.ensures.1 c.in_err-found.ensures.0
     (copy_nowhere l given counts c.args.repo.now c.args.branch.now c.args.version c.args.e.now c.args.from.now
     (repository_value c.in_ok-repository.repository.now) c.in_ok-repository.ensures c.in_ok-test_change.ensures c.in_err-found.ensures.1)
 

@@ -4,6 +4,7 @@ use Rattle.std.specs.Option.{option_map_or}
 use Rattle.lake_values.specs.Log.{log_page}
 use Rattle.lake_pages.specs.Listing.{page_items, has_more}
 use Rattle.lake_model.specs.declared.fault.StepFault.TheVariants.{NoRef, NoNote}
+use Rattle.lake_model.specs.declared.fault.Reference.TheVariants.{Named}
 use Rattle.lake_model.specs.NoteChanges.{note_at}
 use Rattle.lake_model.specs.Resolving.{expression_target}
 use Rattle.lake_model.specs.Readings.{◌then◌, expression_map, first_values, known_commit, log_page_reply, name_in, names_above, point_of, seen_in}
@@ -45,8 +46,8 @@ returns-clause-names c state seal repo tags after amount =
 
 pub returns-clause-find : goal.returns-clause-find
 returns-clause-find c state seal repo tags name =
-    sealed_reply state seal repo (λ r. option_map_or (λ id. Ok (state.entries, id)) (name_in r tags name) (Err NoRef))
-    (λ r. ap (λ found. option_map_or (λ id. Ok (state.entries, id)) found (Err NoRef)) (sealed_name seal.branch r tags name))
+    sealed_reply state seal repo (λ r. option_map_or (λ id. Ok (state.entries, id)) (name_in r tags name) (Err (NoRef Named)))
+    (λ r. ap (λ found. option_map_or (λ id. Ok (state.entries, id)) found (Err (NoRef Named))) (sealed_name seal.branch r tags name))
 
 pub returns-clause-note : goal.returns-clause-note
 returns-clause-note c state given seal repo name =
