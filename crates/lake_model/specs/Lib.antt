@@ -15,3 +15,4 @@ pub mod Resolving
 pub mod Readings
 pub mod Steps
 pub mod Preparing
+pub mod HeadRefusals

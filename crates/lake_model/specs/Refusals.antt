@@ -48,7 +48,7 @@ no_causes = record {
 }
 
 -- the first cause that holds
-abbrev pub first_of : List (Option StepFault) → Option StepFault
+abbrev pub first_of : {X : Type 0} → List (Option X) → Option X
 first_of [] = None
 first_of (None ∷ later) = first_of later
 first_of (Some fault ∷ later) = Some fault

@@ -171,13 +171,18 @@ copied_entry state repo e path = in_it state repo (λ r. option_and_then (λ map
 abbrev pub source_fault : Repository → RefExprValue → Option StepFault
 source_fault r e = if is_plain_branch r e then None else option_and_then (expired_fault r) (target_in r e)
 
--- the entry of an expression at a path is staged at another, by a version of the branch
-abbrev pub copy_causes : State → VersionsGiven → List ℕ → List ℕ → ℕ → RefExprValue → List ℕ → Causes
-copy_causes state given repo branch version e from =
-    record (with_expression state repo e (stage_causes state given repo branch version)) {
+-- the entry of an expression at a path is staged at another
+abbrev pub copy_causes_of : State → List ℕ → List ℕ → RefExprValue → List ℕ → Causes
+copy_causes_of state repo branch e from =
+    record (with_expression state repo e (write_causes state repo branch)) {
       path = cause_if (is_none (copied_entry state repo e from)) NoPath;
       expired = in_it state repo (λ r. source_fault r e);
     }
+
+-- so it is by a version of the branch
+abbrev pub copy_causes : State → VersionsGiven → List ℕ → List ℕ → ℕ → RefExprValue → List ℕ → Causes
+copy_causes state given repo branch version e from =
+    with_current_branch given repo branch version (copy_causes_of state repo branch e from)
 
 abbrev pub IsCopyReply : State → VersionsGiven → List ℕ → List ℕ → ℕ → RefExprValue → List ℕ → Result (ℕ × EntryValue) StepFault → Type 0
 IsCopyReply state given repo branch version e from =
@@ -202,13 +207,16 @@ abbrev pub is_expected : VersionsGiven → List ℕ → Option ℕ → Bool
 is_expected given repo None = true
 is_expected given repo (Some version) = version == settings_version given repo
 
--- a setting is set or deleted, where a version may be asked
+-- a setting is set or deleted
+abbrev pub set_note_causes_of : State → List ℕ → NoteName → Option Note → Causes
+set_note_causes_of state repo name note = record (with_repository state repo (causes_of_change state)) {
+  note = cause_if (is_none note && is_none (in_it state repo (λ r. note_at name r.notes))) NoNote;
+}
+
+-- so it is where a version may be asked
 abbrev pub set_note_causes : State → VersionsGiven → List ℕ → Option ℕ → NoteName → Option Note → Causes
 set_note_causes state given repo expected name note =
-    with_current_version (is_expected given repo expected) 0 (settings_version given repo)
-    (record (with_repository state repo (causes_of_change state)) {
-      note = cause_if (is_none note && is_none (in_it state repo (λ r. note_at name r.notes))) NoNote;
-    })
+    with_current_version (is_expected given repo expected) 0 (settings_version given repo) (set_note_causes_of state repo name note)
 
 abbrev pub set_note_reply : State → VersionsGiven → List ℕ → Option ℕ → NoteName → Option Note → Result ℕ StepFault
 set_note_reply state given repo expected name note = next_place state (set_note_causes state given repo expected name note)
@@ -250,14 +258,19 @@ abbrev pub is_current : VersionsGiven → List ℕ → List ℕ → ℕ → ℕ 
 is_current given repo branch version settings =
     (version == branch_version given repo branch) && (settings == settings_version given repo)
 
--- a new head by versions of the branch and of the settings
-abbrev pub swap_causes : State → VersionsGiven → List ℕ → List ℕ → ℕ → ℕ → SwapRule → Option Clash → Causes
-swap_causes state given repo branch version settings rule clash = record
-    (with_current_version (is_current given repo branch version settings) (branch_version given repo branch) (settings_version given repo)
-    (if rule.protects then write_causes state repo branch else with_branch state repo branch (causes_of_change state))) {
+-- a new head, whose commit may clash
+abbrev pub new_head_causes : State → List ℕ → List ℕ → SwapRule → Option Clash → Causes
+new_head_causes state repo branch rule clash =
+    record (if rule.protects then write_causes state repo branch else with_branch state repo branch (causes_of_change state)) {
       expired = swap_expired state repo branch rule;
       clash = clash_fault clash;
     }
+
+-- so it is by versions of the branch and of the settings
+abbrev pub swap_causes : State → VersionsGiven → List ℕ → List ℕ → ℕ → ℕ → SwapRule → Option Clash → Causes
+swap_causes state given repo branch version settings rule clash =
+    with_current_version (is_current given repo branch version settings) (branch_version given repo branch) (settings_version given repo)
+    (new_head_causes state repo branch rule clash)
 
 -- a clash of the new commit, or that there is none, where the branch is there
 abbrev pub IsSwapClash : State → List ℕ → List ℕ → SwapRule → Option Clash → Type 0

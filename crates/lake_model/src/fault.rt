@@ -1,10 +1,11 @@
-//! Why a step of the lake was refused.
+//! Why a step of the lake was refused, and why a new head is.
 ghost use Rattle.std.specs.Prelude.{◌≡◌};
 ghost use Rattle.lake_model.specs.declared.fault.StepFault.TheVariants.{NoMemory as step_no_memory};
 
-use lake_base::{Digest, NoMemory, Sequence};
+use lake_base::{Digest, NoMemory, Path, Sequence};
 use lake_values::CommitId;
 use std::alloc::{AllocError, AllocFailed};
+use thiserror::Error;
 
 /// Which of a call's references leads nowhere.
 #[derive(Clone, Copy, Debug, PartialEq, Eq)]
@@ -60,6 +61,25 @@ pub enum StepFault {
     StoreFault,
     /// No memory was left.
     NoMemory,
+}
+
+/// Why a new head of a branch that is there is refused at its reading. Where several causes stand together, the one
+/// that stands first here is answered.
+#[derive(Debug, Drop, Error)]
+pub enum HeadRefusal {
+    /// Of a merge or a pick: sealed changes aren't committed. The least path that they change.
+    #[error("uncommitted changes at {}", .0.as_str())]
+    Dirty(Path),
+    /// The commit would change nothing: the sealed changes leave the head's map as it is, or the source's map is the
+    /// base's. The branch's head.
+    #[error("no changes")]
+    NoChanges(CommitId),
+    /// There is no strategy, and paths conflict: the least 100 of them, in ascending order, and how many there are.
+    #[error("{total} paths conflict")]
+    Conflicts { paths: Sequence<Path>, total: u64 },
+    /// The hook of this number denies it, counted from 0.
+    #[error("hook {0} denies it")]
+    HookDenied(usize),
 }
 
 impl From<NoMemory> for StepFault {
