@@ -10,6 +10,8 @@ pub mod CountingLemmas
 pub mod DraftLemmas
 pub mod ExpiryLemmas
 pub mod GoneLemmas
+pub mod HeadRefusalLemmas
+pub mod HeadStepLemmas
 pub mod HistoryLemmas
 pub mod IdentityLemmas
 pub mod InMapLemmas

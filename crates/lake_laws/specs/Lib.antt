@@ -2,3 +2,4 @@ pub mod Prepared
 pub mod References
 pub mod Sealing
 pub mod Tags
+pub mod Unrefused

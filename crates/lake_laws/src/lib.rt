@@ -10,6 +10,8 @@
 //! - `tickets`, `writes`, `step_names`, `step_notes`, `swaps`: where no cause of a step holds, its entry may come next;
 //!   `refusals`: where an entry may come next, no cause of its step holds.
 //! - `repositories`, `removals`: both, of new repositories, and of commits that expire and numbers that are condemned.
+//! - `head_refusals`: what the reading of a new head refuses, and that it may be made where neither that nor its step
+//!   does.
 //! - `causes`: what a step is refused for is no lack of memory, and no fault of the store.
 //!
 //! The promise to the layer above: each law is the contract of a function that does nothing, and is cited by its name.
@@ -19,6 +21,7 @@ pub mod causes;
 pub mod faults;
 pub mod garbage;
 pub mod gone;
+pub mod head_refusals;
 pub mod identity;
 pub mod reading;
 pub mod refusals;
