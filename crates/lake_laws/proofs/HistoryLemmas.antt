@@ -1,5 +1,5 @@
 -- Histories in two parts, and what stays over a history.
-use Rattle.std.proofs.Common.{◌≡◌, List, [], ◌∷◌, ◌++◌, refl}
+use Rattle.std.proofs.Common.{◌≡◌, List, [], ◌∷◌, ◌++◌, refl, sym, ap, subst, ◌∙◌}
 use Rattle.lake_model.specs.declared.history.By.{By}
 use Rattle.lake_model.specs.declared.history.EntryKind.TheVariants.{Faulted}
 use Rattle.lake_model.specs.declared.history.HistoryEntry.{HistoryEntry}
@@ -11,6 +11,11 @@ use Rattle.lake_model.specs.History.{Allows, IsLegal, after, replay}
 pub IsLegal-later : (state : State) (first later : List HistoryEntry) → IsLegal state (first ++ later) → IsLegal (replay state first) later
 IsLegal-later state [] later legal = legal
 IsLegal-later state (entry ∷ first) later legal = IsLegal-later (after state entry) first later legal.1
+
+-- the earlier ones are legal
+pub IsLegal-earlier : (state : State) (first later : List HistoryEntry) → IsLegal state (first ++ later) → IsLegal state first
+IsLegal-earlier state [] later legal = tt
+IsLegal-earlier state (entry ∷ first) later legal = (legal.0, IsLegal-earlier (after state entry) first later legal.1)
 
 -- and are replayed from there
 pub replay-append : (state : State) (first later : List HistoryEntry) → replay state (first ++ later) ≡ replay (replay state first) later
@@ -30,3 +35,21 @@ pub kept-replay : (P : State → Type 0) (entries : List HistoryEntry) (state : 
 kept-replay P [] state keeps legal holds = holds
 kept-replay P (entry ∷ entries) state keeps legal holds =
     kept-replay P entries (after state entry) keeps legal.1 (keeps state entry legal.0 holds)
+
+-- a position of a history: what stands before it, and what comes after it
+module _ (state : State) (seen history more : List HistoryEntry) (is : seen ≡ history ++ more) where
+  pub legal_before : IsLegal state seen → IsLegal state history
+  legal_before legal = IsLegal-earlier state history more (subst (IsLegal state) is legal)
+
+  pub legal_behind : IsLegal state seen → IsLegal (replay state history) more
+  legal_behind legal = IsLegal-later state history more (subst (IsLegal state) is legal)
+
+  pub replay_behind : replay state seen ≡ replay (replay state history) more
+  replay_behind = ap (replay state) is ∙ replay-append state history more
+
+  -- what holds where the later entries lead from the position holds at the end
+  pub at_end : (P : State → Type 0) → P (replay (replay state history) more) → P (replay state seen)
+  at_end P holds = subst P (sym replay_behind) holds
+
+  pub from_end : (P : State → Type 0) → P (replay state seen) → P (replay (replay state history) more)
+  from_end P holds = subst P replay_behind holds

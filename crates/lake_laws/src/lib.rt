@@ -7,6 +7,7 @@
 //! - `reading`: a seal and a commit leave what is read on branches as it is; `sealing`: a seal leaves the answers of
 //!   readings.
 //! - `versions`: what has the same version is the same.
+//! - `positions`: a legal history in two parts.
 //! - `tickets`, `writes`, `step_names`, `step_notes`, `swaps`: where no cause of a step holds, its entry may come next;
 //!   `refusals`: where an entry may come next, no cause of its step holds.
 //! - `repositories`, `removals`: both, of new repositories, and of commits that expire and numbers that are condemned.
@@ -23,6 +24,7 @@ pub mod garbage;
 pub mod gone;
 pub mod head_refusals;
 pub mod identity;
+pub mod positions;
 pub mod reading;
 pub mod refusals;
 pub mod removals;
