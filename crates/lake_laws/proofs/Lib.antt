@@ -9,6 +9,7 @@ pub mod CopyRefusalLemmas
 pub mod CountingLemmas
 pub mod DraftLemmas
 pub mod ExpiryLemmas
+pub mod GiverLemmas
 pub mod GoneLemmas
 pub mod HeadRefusalLemmas
 pub mod HeadStepLemmas

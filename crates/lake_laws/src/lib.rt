@@ -6,7 +6,8 @@
 //! - `gone`: what is gone stays gone, and isn't read on a branch, nor of a commit that isn't expired.
 //! - `reading`: a seal and a commit leave what is read on branches as it is; `sealing`: a seal leaves the answers of
 //!   readings.
-//! - `versions`: what has the same version is the same.
+//! - `versions`: what has the same version is the same; `version_entries`: where a version differs, an entry between
+//!   gave it, and as many as tries found another.
 //! - `positions`: a legal history in two parts.
 //! - `tickets`, `writes`, `step_names`, `step_notes`, `swaps`: where no cause of a step holds, its entry may come next;
 //!   `refusals`: where an entry may come next, no cause of its step holds.
@@ -35,5 +36,6 @@ pub mod step_names;
 pub mod step_notes;
 pub mod swaps;
 pub mod tickets;
+pub mod version_entries;
 pub mod versions;
 pub mod writes;
