@@ -17,6 +17,7 @@ pub mod HistoryLemmas
 pub mod IdentityLemmas
 pub mod InMapLemmas
 pub mod KeepingLemmas
+pub mod KeptCommitLemmas
 pub mod LawsRepositoryLemmas
 pub mod LookupLemmas
 pub mod NameLemmas
@@ -38,6 +39,7 @@ pub mod SwapLemmas
 pub mod SwapRefusalLemmas
 pub mod SwapStepLemmas
 pub mod TargetLemmas
+pub mod TicketLemmas
 pub mod ToldLemmas
 pub mod UnreadLemmas
 pub mod VersionLemmas

@@ -42,7 +42,7 @@ find_within test (y ∷ ys) x is =
     ] is
 
 -- what stands at a place of a list is in it
-at_within : {X : Type 0} (xs : List X) (place : ℕ) (x : X) → slice_get xs place ≡ Some x → Contains xs x
+pub at_within : {X : Type 0} (xs : List X) (place : ℕ) (x : X) → slice_get xs place ≡ Some x → Contains xs x
 at_within [] place x is = absurd cc
 at_within (y ∷ ys) zero x is = let same : y ≡ x = cc in subst (Contains (y ∷ ys)) same (Contains-first y ys)
 at_within (y ∷ ys) (suc place) x is = Contains-later y x ys (at_within ys place x is)

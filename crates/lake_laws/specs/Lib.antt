@@ -1,7 +1,9 @@
 pub mod OtherSeats
 pub mod Prepared
 pub mod References
+pub mod SameCommit
 pub mod Sealing
 pub mod Tags
 pub mod Unrefused
+pub mod TicketEnds
 pub mod VersionGivers

@@ -8,7 +8,8 @@
 //!   readings.
 //! - `versions`: what has the same version is the same; `version_entries`: where a version differs, an entry between
 //!   gave it, and as many as tries found another.
-//! - `positions`: a legal history in two parts.
+//! - `positions`: a legal history in two parts; `kept`: a ticket stays until an entry of its seat ends it, and a commit
+//!   stays.
 //! - `tickets`, `writes`, `step_names`, `step_notes`, `swaps`: where no cause of a step holds, its entry may come next;
 //!   `refusals`: where an entry may come next, no cause of its step holds.
 //! - `repositories`, `removals`: both, of new repositories, and of commits that expire and numbers that are condemned.
@@ -25,6 +26,7 @@ pub mod garbage;
 pub mod gone;
 pub mod head_refusals;
 pub mod identity;
+pub mod kept;
 pub mod positions;
 pub mod reading;
 pub mod refusals;
