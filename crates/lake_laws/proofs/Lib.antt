@@ -19,6 +19,7 @@ pub mod InMapLemmas
 pub mod KeepingLemmas
 pub mod KeptCommitLemmas
 pub mod LawsRepositoryLemmas
+pub mod LiveLemmas
 pub mod LookupLemmas
 pub mod NameLemmas
 pub mod NamedLemmas

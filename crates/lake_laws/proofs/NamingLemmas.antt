@@ -42,7 +42,7 @@ live_heads state sound name r there = (sound.repositories name r there).heads
 abbrev IsTaken : State → State → ℕ → Type 0
 IsTaken state now number = (number ≡ state.next_number) × (now.next_number ≡ state.next_number + 1)
 
-named_repository_create : (state : State) (repo branch : List ℕ) (date number : ℕ) → IsNamed (after_repository_create repo branch date state) number
+pub named_repository_create : (state : State) (repo branch : List ℕ) (date number : ℕ) → IsNamed (after_repository_create repo branch date state) number
     → IsNamed state number
 named_repository_create state repo branch date number (inr ticket) = inr ticket
 named_repository_create state repo branch date number (inl n) =
@@ -81,11 +81,11 @@ module _ (state : State) (seat : ℕ) (repo branch path : List ℕ) (change : Ch
   named_stage : IfSome (put_number change) (HasTicket state seat) → IsNamed (after_stage repo branch path change state) number → IsNamed state number
   named_stage ticket named = named_staged_by (put_number change) refl ticket named
 
-fewer_reset : (what : ResetWhat) (number : ℕ) (b : Branch) → Puts (reset_branch what b) number → Puts b number
+pub fewer_reset : (what : ResetWhat) (number : ℕ) (b : Branch) → Puts (reset_branch what b) number → Puts b number
 fewer_reset what number b (inl put) = inl (put_reset number what b.sealed put)
 fewer_reset what number b (inr put) = inr (put_reset number what b.staged put)
 
-fewer_seal : (number : ℕ) (b : Branch) → Puts (sealed_branch b) number → Puts b number
+pub fewer_seal : (number : ℕ) (b : Branch) → Puts (sealed_branch b) number → Puts b number
 fewer_seal number b (inl put) = elim (put_over number b.staged b.sealed put) [ inl new ↦ inr new | inr old ↦ inl old ]
 fewer_seal number b (inr put) = absurd (put_nothing number put)
 

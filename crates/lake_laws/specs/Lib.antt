@@ -1,3 +1,4 @@
+pub mod LiveNumbers
 pub mod OtherSeats
 pub mod Prepared
 pub mod References

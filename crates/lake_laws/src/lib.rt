@@ -10,6 +10,7 @@
 //!   gave it, and as many as tries found another.
 //! - `positions`: a legal history in two parts; `kept`: a ticket stays until an entry of its seat ends it, and a commit
 //!   stays.
+//! - `numbers`: how a number becomes live, and what is condemned is named neither then nor later.
 //! - `tickets`, `writes`, `step_names`, `step_notes`, `swaps`: where no cause of a step holds, its entry may come next;
 //!   `refusals`: where an entry may come next, no cause of its step holds.
 //! - `repositories`, `removals`: both, of new repositories, and of commits that expire and numbers that are condemned.
@@ -27,6 +28,7 @@ pub mod gone;
 pub mod head_refusals;
 pub mod identity;
 pub mod kept;
+pub mod numbers;
 pub mod positions;
 pub mod reading;
 pub mod refusals;
