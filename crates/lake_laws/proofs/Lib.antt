@@ -8,6 +8,7 @@ pub mod CopyLemmas
 pub mod CopyRefusalLemmas
 pub mod CountingLemmas
 pub mod DraftLemmas
+pub mod ExpirableLemmas
 pub mod ExpiryLemmas
 pub mod GiverLemmas
 pub mod GoneLemmas

@@ -34,7 +34,7 @@ name_or_apart q name = elim (cases_Bool (eq_by_cmp byte_order q name)) [
 ]
 
 -- a name ties with itself
-itself : (name : List ℕ) → eq_by_cmp byte_order name name ≡ true
+pub itself : (name : List ℕ) → eq_by_cmp byte_order name name ≡ true
 itself name = (eq_by_cmp_equiv nat_list_cmp_total).refl name
 
 -- two names are one, or differ

@@ -10,7 +10,8 @@
 //!   gave it, and as many as tries found another.
 //! - `positions`: a legal history in two parts; `kept`: a ticket stays until an entry of its seat ends it, and a commit
 //!   stays.
-//! - `numbers`: how a number becomes live, and what is condemned is named neither then nor later.
+//! - `numbers`: how a number becomes live, and what is condemned is named neither then nor later; `expiry`: the same
+//!   commits can expire where the version of the references is the same.
 //! - `tickets`, `writes`, `step_names`, `step_notes`, `swaps`: where no cause of a step holds, its entry may come next;
 //!   `refusals`: where an entry may come next, no cause of its step holds.
 //! - `repositories`, `removals`: both, of new repositories, and of commits that expire and numbers that are condemned.
@@ -22,6 +23,7 @@
 #![tactic(auto)]
 
 pub mod causes;
+pub mod expiry;
 pub mod faults;
 pub mod garbage;
 pub mod gone;
