@@ -3,13 +3,16 @@
 //! As an example, a first commit R; X and Y with the parent R; and M with the parents X and Y. Their generations
 //! are 1, 2, 2 and 3. From M, `~` and `^` lead to X, `^2` to Y, and `~2` and `^2~` to R; `~3` leads nowhere.
 ghost use Rattle.std.specs.Prelude.{◌≡◌, ◌≤◌, ◌<◌, ◌^◌, is_none, is_some, length, find, slice_get, IfOk, OnErr, IsSome};
-ghost use Rattle.std.specs.Prelude.{Some, MatchOption, option_copied, option_map};
+ghost use Rattle.std.specs.Prelude.{Some, MatchOption, map, option_copied, option_map};
 ghost use Rattle.std.specs.FinMap.{len, empty, entries, insert, remove};
+ghost use Rattle.std.specs.Map.Iter.{ShowsInOrder, deref_pair};
 ghost use Rattle.std.specs.Option.{option_and_then};
 ghost use Rattle.lake_base.specs.Digest.{sha256};
+ghost use Rattle.lake_base.specs.declared.digest.Digest.{Digest as AnyDigest};
 ghost use Rattle.lake_format.specs.Spelling.{commit_spelling, commit_id};
 ghost use Rattle.lake_values.specs.Ancestry.{graph_of, commit_of, parents, generation, due_generation, first_parent};
 ghost use Rattle.lake_values.specs.Ancestry.{back, walk};
+ghost use Rattle.lake_values.specs.Commit.{CommitRecordValue};
 ghost use Rattle.commit_graph.specs.Graphs.{IsSound};
 ghost use Rattle.commit_graph.specs.Moves.{move_target, moves_target};
 ghost use Rattle.commit_graph.specs.Adding.{Refuses, missing_parent, untimely, clash, refusal};
@@ -24,6 +27,7 @@ use lake_base::sequence::Sequence;
 use lake_values::commit::{CommitId, CommitRecord};
 use std::alloc::Global;
 use std::collections::BTreeMap;
+use std::collections::btree_map::Iter;
 use std::marker::Model;
 
 /// Commits by their ids: each has its parents there and the generation that is due, and its id is the SHA-256 of
@@ -83,6 +87,15 @@ impl Graph {
         ensures valid { IsSound self.now }
     {
         self.commits.iter().nth(place)
+    }
+
+    /// All commits with their ids, in order of id, each once. It takes no memory.
+    pub fn iter(&self) -> Iter<'_, CommitId, CommitRecord>
+        ensures all { map (λ x. (x.0.0, x.1)) result ≡ entries self.now }
+        ensures runs { ShowsInOrder (deref_pair {K = AnyDigest} {X = CommitRecordValue}) }
+        ensures valid { IsSound self.now }
+    {
+        self.commits.iter()
     }
 
     // Its parents; none where there is no such commit.
