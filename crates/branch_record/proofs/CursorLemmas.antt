@@ -1,5 +1,5 @@
 -- Rows from some bytes on: from the first of them, after it is passed, and with one more row in its place.
-use Rattle.std.proofs.Common.{◌≡◌, ℕ, Bool, true, false, cond, not, List, [], ◌∷◌, ◌&&◌, Some, None, Option, MatchOption, refl, sym, ap, subst, ◌∙◌}
+use Rattle.std.proofs.Common.{◌≡◌, ℕ, Bool, true, false, cond, not, List, [], ◌∷◌, ◌&&◌, Some, None, Option, MatchOption, refl, sym, ap, subst, ◌∙◌, drop}
 use Rattle.std.specs.Borrow.{Bor}
 use Rattle.std.specs.Cmp.{tied_itself}
 use Rattle.std.specs.List.{filter}
@@ -59,7 +59,7 @@ kept_first p (x ∷ xs) row rest is = by (p x) refl is (λ later. kept_first p x
         ap p (sym same) ∙ kept
     by false lost is further = further is
 
-not_below_itself : (k : List ℕ) → is_lt (byte_order k k) ≡ false
+pub not_below_itself : (k : List ℕ) → is_lt (byte_order k k) ≡ false
 not_below_itself k = ap is_lt (tied_itself nat_list_cmp_total k)
 
 not_low : (b : Bool) → not b ≡ true → b ≡ false
@@ -115,6 +115,12 @@ pub given_back : (given : Option (Bor (List ℕ) × Bor Change)) (old new : Rows
     → MatchOption given ((old ≡ []) × (new ≡ [])) (λ row. old ≡ (row.0.now, row.1.now) ∷ new) → rows_from (option_map deref_pair given) new ≡ old
 given_back None old new gives = sym gives.0
 given_back (Some row) old new gives = sym gives
+
+-- what is left after it is passed
+pub one_passed : (given : Option (Bor (List ℕ) × Bor Change)) (old new : Rows)
+    → MatchOption given ((old ≡ []) × (new ≡ [])) (λ row. old ≡ (row.0.now, row.1.now) ∷ new) → new ≡ drop 1 old
+one_passed None old new gives = gives.1 ∙ sym (ap (drop 1) gives.0)
+one_passed (Some row) old new gives = sym (ap (drop 1) gives)
 
 -- all rows are those from no bytes on
 pub all_from : (rows : Rows) → entries_from [] rows ≡ rows

@@ -31,56 +31,57 @@ Changes = List (List ℕ × Change)
 
 -- ---- rows below a path, and above it
 
--- a path below rows has none of them below it
-lost_below : (path : List ℕ) (rows : Rows) → T (below_all byte_order path rows) → rows_below path rows ≡ []
-lost_below path [] h = refl
-lost_below path (row ∷ rows) h =
-    ap (λ o. cond (is_lt o) (row ∷ rows_below path rows) (rows_below path rows)) (turned path row.0 Less (less _ (first _ _ h)))
-    ∙ lost_below path rows (second _ _ h)
+module _ {X : Type 0} where
+  -- a path below rows has none of them below it
+  lost_below : (path : List ℕ) (rows : List (List ℕ × X)) → T (below_all byte_order path rows) → rows_below path rows ≡ []
+  lost_below path [] h = refl
+  lost_below path (row ∷ rows) h =
+      ap (λ o. cond (is_lt o) (row ∷ rows_below path rows) (rows_below path rows)) (turned path row.0 Less (less _ (first _ _ h)))
+      ∙ lost_below path rows (second _ _ h)
 
--- and all above it
-kept_above : (path : List ℕ) (rows : Rows) → T (below_all byte_order path rows) → rows_above path rows ≡ rows
-kept_above path [] h = refl
-kept_above path (row ∷ rows) h =
-    ap (λ o. cond (is_lt o) (row ∷ rows_above path rows) (rows_above path rows)) (less _ (first _ _ h))
-    ∙ ap (λ l. row ∷ l) (kept_above path rows (second _ _ h))
+  -- and all above it
+  kept_above : (path : List ℕ) (rows : List (List ℕ × X)) → T (below_all byte_order path rows) → rows_above path rows ≡ rows
+  kept_above path [] h = refl
+  kept_above path (row ∷ rows) h =
+      ap (λ o. cond (is_lt o) (row ∷ rows_above path rows) (rows_above path rows)) (less _ (first _ _ h))
+      ∙ ap (λ l. row ∷ l) (kept_above path rows (second _ _ h))
 
--- a path above which the first row stands, or at it, is below the others
-below_others : (path : List ℕ) (row : Row) (rows : Rows) → HasAscendingKeys (row ∷ rows) → is_lt (byte_order row.0 path) ≡ false
-    → T (below_all byte_order path rows)
-below_others path row rows h never = by (byte_order row.0 path) refl never
-  where
-    by : (o : Ordering) → byte_order row.0 path ≡ o → is_lt o ≡ false → T (below_all byte_order path rows)
-    by Less is never = absurd cc
-    by Equal is never = subst (λ k. T (below_all byte_order k rows)) (same_key row.0 path is) (head_below row rows h)
-    by Greater is never = less_more path row.0 rows (turned row.0 path Greater is) (head_below row rows h)
+  -- a path above which the first row stands, or at it, is below the others
+  below_others : (path : List ℕ) (row : List ℕ × X) (rows : List (List ℕ × X)) → HasAscendingKeys (row ∷ rows) → is_lt (byte_order row.0 path) ≡ false
+      → T (below_all byte_order path rows)
+  below_others path row rows h never = by (byte_order row.0 path) refl never
+    where
+      by : (o : Ordering) → byte_order row.0 path ≡ o → is_lt o ≡ false → T (below_all byte_order path rows)
+      by Less is never = absurd cc
+      by Equal is never = subst (λ k. T (below_all byte_order k rows)) (same_key row.0 path is) (head_below row rows h)
+      by Greater is never = less_more path row.0 rows (turned row.0 path Greater is) (head_below row rows h)
 
--- where the first row isn't below, none is
-pub none_below : (path : List ℕ) (rows : Rows) → HasAscendingKeys rows → begins_below path rows ≡ false → rows_below path rows ≡ []
-none_below path [] h never = refl
-none_below path (row ∷ rows) h never =
-    ap (λ b. cond b (row ∷ rows_below path rows) (rows_below path rows)) never ∙ lost_below path rows (below_others path row rows h never)
+  -- where the first row isn't below, none is
+  pub none_below : (path : List ℕ) (rows : List (List ℕ × X)) → HasAscendingKeys rows → begins_below path rows ≡ false → rows_below path rows ≡ []
+  none_below path [] h never = refl
+  none_below path (row ∷ rows) h never =
+      ap (λ b. cond b (row ∷ rows_below path rows) (rows_below path rows)) never ∙ lost_below path rows (below_others path row rows h never)
 
--- where none is below, the first isn't
-first_above : (path : List ℕ) (row : Row) (rows : Rows) → rows_below path (row ∷ rows) ≡ [] → is_lt (byte_order row.0 path) ≡ false
-first_above path row rows none = by (is_lt (byte_order row.0 path)) none
-  where
-    by : (b : Bool) → cond b (row ∷ rows_below path rows) (rows_below path rows) ≡ [] → b ≡ false
-    by true none = absurd cc
-    by false none = refl
+  -- where none is below, the first isn't
+  pub first_above : (path : List ℕ) (row : List ℕ × X) (rows : List (List ℕ × X)) → rows_below path (row ∷ rows) ≡ [] → is_lt (byte_order row.0 path) ≡ false
+  first_above path row rows none = by (is_lt (byte_order row.0 path)) none
+    where
+      by : (b : Bool) → cond b (row ∷ rows_below path rows) (rows_below path rows) ≡ [] → b ≡ false
+      by true none = absurd cc
+      by false none = refl
 
--- where none is below a path, the first alone can be at it
-above_first : (path : List ℕ) (row : Row) (rows : Rows) → HasAscendingKeys (row ∷ rows) → rows_below path (row ∷ rows) ≡ [] → (b : Bool)
-    → is_lt (byte_order path row.0) ≡ b → rows_above path (row ∷ rows) ≡ cond b (row ∷ rows) rows
-above_first path row rows h none b is =
-    ap (λ l. cond (is_lt (byte_order path row.0)) (row ∷ l) l) (kept_above path rows (below_others path row rows h (first_above path row rows none)))
-    ∙ ap (λ c. cond c (row ∷ rows) rows) is
+  -- where none is below a path, the first alone can be at it
+  pub above_first : (path : List ℕ) (row : List ℕ × X) (rows : List (List ℕ × X)) → HasAscendingKeys (row ∷ rows) → rows_below path (row ∷ rows) ≡ []
+      → (b : Bool) → is_lt (byte_order path row.0) ≡ b → rows_above path (row ∷ rows) ≡ cond b (row ∷ rows) rows
+  above_first path row rows h none b is =
+      ap (λ l. cond (is_lt (byte_order path row.0)) (row ∷ l) l) (kept_above path rows (below_others path row rows h (first_above path row rows none)))
+      ∙ ap (λ c. cond c (row ∷ rows) rows) is
 
--- and what is passed at the path
-pub above_passed : (path : List ℕ) (rows : Rows) (row : Row) (after : Rows) (b : Bool) → rows ≡ row ∷ after → HasAscendingKeys (row ∷ after)
-    → rows_below path rows ≡ [] → is_lt (byte_order path row.0) ≡ b → rows_above path rows ≡ cond b (row ∷ after) after
-above_passed path rows row after b whole h none is =
-    ap (rows_above path) whole ∙ above_first path row after h (subst (λ l. rows_below path l ≡ []) whole none) b is
+  -- and what is passed at the path
+  pub above_passed : (path : List ℕ) (rows : List (List ℕ × X)) (row : List ℕ × X) (after : List (List ℕ × X)) (b : Bool) → rows ≡ row ∷ after
+      → HasAscendingKeys (row ∷ after) → rows_below path rows ≡ [] → is_lt (byte_order path row.0) ≡ b → rows_above path rows ≡ cond b (row ∷ after) after
+  above_passed path rows row after b whole h none is =
+      ap (rows_above path) whole ∙ above_first path row after h (subst (λ l. rows_below path l ≡ []) whole none) b is
 
 -- a test of bytes is one of the paths that they are
 pub tested : (a b path other : List ℕ) (told said : Bool) → a ≡ path → b ≡ other → told ≡ is_lt (byte_order a b) → told ≡ said
@@ -144,7 +145,7 @@ module _ {X : Type 0} (p q : X → Bool) where
       by false f rest = rest
 
   -- what p keeps q keeps
-  kept_twice : ((x : X) → q x ≡ false → p x ≡ false) → (xs : List X) → filter p (filter q xs) ≡ filter p xs
+  pub kept_twice : ((x : X) → q x ≡ false → p x ≡ false) → (xs : List X) → filter p (filter q xs) ≡ filter p xs
   kept_twice within [] = refl
   kept_twice within (x ∷ xs) = by (q x) refl (kept_twice within xs)
     where

@@ -1,5 +1,6 @@
 pub mod ChangesLemmas
 pub mod CursorLemmas
+pub mod JoinedLemmas
 pub mod LayerCursorLemmas
 pub mod LayersLemmas
 pub mod PrefixLemmas

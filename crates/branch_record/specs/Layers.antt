@@ -8,11 +8,11 @@ use Rattle.lake_values.specs.declared.entry.Change.{Change}
 use Rattle.lake_values.specs.declared.entry.Change.TheVariants.{Put, Delete}
 
 -- the rows at paths below one
-abbrev pub rows_below : List ℕ → List (List ℕ × EntryValue) → List (List ℕ × EntryValue)
+abbrev pub rows_below : {X : Type 0} → List ℕ → List (List ℕ × X) → List (List ℕ × X)
 rows_below path rows = filter (λ row. is_lt (byte_order row.0 path)) rows
 
 -- the rows at paths above one
-abbrev pub rows_above : List ℕ → List (List ℕ × EntryValue) → List (List ℕ × EntryValue)
+abbrev pub rows_above : {X : Type 0} → List ℕ → List (List ℕ × X) → List (List ℕ × X)
 rows_above path rows = filter (λ row. is_lt (byte_order path row.0)) rows
 
 -- the row that a change leaves at its path, or none

@@ -1,3 +1,4 @@
+pub mod Joined
 pub mod Layers
 pub mod Looking
 pub mod Overlay

@@ -1,7 +1,9 @@
 //! The changes under a token, taken one by one in order of path.
 ghost use Rattle.std.specs.Prelude.{◌≡◌, [], ◌∷◌, MatchOption, drop, option_map, option_copied};
 ghost use Rattle.std.specs.Map.Iter.{deref_pair};
+ghost use Rattle.lake_base.specs.Maps.{HasAscendingKeys};
 ghost use Rattle.lake_values.specs.Cursor.{entries_from};
+ghost use Rattle.branch_record.specs.Layers.{rows_above, rows_below};
 ghost use Rattle.branch_record.specs.TokenRows.{put_row, row_above, rows_left, rows_under};
 
 use crate::ordered::OrderedChanges;
@@ -90,6 +92,39 @@ impl<'a> ChangesCursor<'a> {
                 pass_placed(&mut self.placed);
                 Some((at, had))
             }
+        }
+    }
+
+    // The change that comes next, with its path. It stays.
+    pub(crate) fn first(&self) -> Option<(&'a Path, &'a Change)>
+        ensures first { MatchOption result (self.now ≡ [])
+            (λ row. self.now ≡ (row.0.now, row.1.now) ∷ drop 1 self.now) }
+        ensures ascend { HasAscendingKeys self.now }
+    {
+        let placed = first_placed(&self.placed);
+        let Some((path, change)) = self.waiting else {
+            return placed;
+        };
+        let Some((at, had)) = placed else {
+            return Some((path, change));
+        };
+        match path.cmp(at) {
+            Ordering::Less => Some((path, change)),
+            Ordering::Equal => Some((at, change)),
+            Ordering::Greater => Some((at, had)),
+        }
+    }
+
+    // Passes over the change at a path below which none is left.
+    pub(crate) fn pass(&mut self, path: &Path)
+        requires { rows_below path.now self.old ≡ [] }
+        ensures { self.new ≡ rows_above path.now self.old }
+    {
+        let Some((first, _)) = self.first() else {
+            return;
+        };
+        if !is_below(path.as_slice(), first.as_slice()) {
+            let _passed = self.next();
         }
     }
 

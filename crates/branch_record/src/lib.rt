@@ -5,6 +5,7 @@
 //!   are kept.
 //! - `looking`: what a branch's changes say of a path; `overlaying`: they are made one.
 //! - `changing`: staging, sealing, resetting, and the room that is made for a change before it is made.
+//! - `joined`: the changes under a branch's tokens, walked as one where they stand.
 //! - `layer`: a cursor over the entries that changes leave of those below, so that a page of a branch is a walk over
 //!   its changes and the tree of its head; `changes`: changes, one by one; `ahead`: a cursor's entries, the first at
 //!   hand.
@@ -19,6 +20,7 @@ mod ahead;
 mod changes;
 mod changing;
 mod cursor;
+mod joined;
 mod laws;
 mod layer;
 mod layer_laws;
@@ -32,6 +34,7 @@ mod tokens;
 
 pub use changes::{ChangeCursor, ChangesLeft, SliceChanges};
 pub use cursor::ChangesCursor;
+pub use joined::JoinedCursor;
 pub use lake_values::commit::ResetWhat;
 pub use laws::{
     law_of_drops, law_of_resets, law_of_sealing, law_of_staging, laws_of_layers, laws_of_tokens,

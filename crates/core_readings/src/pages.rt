@@ -11,7 +11,7 @@ ghost use Rattle.core_state.specs.RepositoryStates.{repository_of, repository_va
 ghost use Rattle.core_readings.specs.Answers.{page_answer};
 
 use crate::{is_plain_branch, target};
-use branch_record::{LayerCursor, SliceChanges};
+use branch_record::LayerCursor;
 use commit_graph::RefExpr;
 use core_state::{BranchState, LakeState, RepositoryState};
 use lake_base::{NoMemory, RepoName};
@@ -21,8 +21,8 @@ use lake_values::{CommitId, KeyMap};
 use std::alloc::Global;
 
 /// A page of what an expression leads to: the items under a prefix and a delimiter above a name, so many, and whether
-/// one is left. The sealed changes of a branch, where it has some, are put into one list first; its staged ones and the
-/// tree are walked for the page alone.
+/// one is left. The changes of a branch, staged and sealed, and the tree are walked where they stand, for the page
+/// alone.
 /// NoRepo, NoRef, NoParent.
 pub fn page(
     alloc: Global,
@@ -83,7 +83,7 @@ fn page_of_commit(
     }
 }
 
-// A page of what is read on a branch now: its staged changes over its sealed ones, as one list, and these over its
+// A page of what is read on a branch now: a walk over its changes, where they stand under its tokens, and over its
 // head's tree.
 fn page_on(
     alloc: Global,
@@ -96,17 +96,16 @@ fn page_on(
     ensures more { IfOk result (λ page. page.has_more ≡ has_more query.now
         (now_map (repository_of (repository_value repository.now)) (branch_of (branch_value branch.now)))) }
 {
-    let sealed = branch.record.overlay(alloc, &branch.tokens, true)?;
-    let staged = branch.tokens.changes_of(branch.record.staging());
+    let changes = branch.record.walk(alloc, &branch.tokens)?;
     match repository.tree(&branch.record.head()) {
         Some(tree) => {
-            let below = LayerCursor::new(SliceChanges::new(&sealed), tree.seek(None));
-            page_over(alloc, LayerCursor::new(staged, below), query)
+            let rows = LayerCursor::new(changes, tree.seek(None));
+            page_over(alloc, rows, query)
         }
         None => {
             let none = KeyMap::new(alloc);
-            let below = LayerCursor::new(SliceChanges::new(&sealed), none.cursor());
-            page_over(alloc, LayerCursor::new(staged, below), query)
+            let rows = LayerCursor::new(changes, none.cursor());
+            page_over(alloc, rows, query)
         }
     }
 }

@@ -1,0 +1,9 @@
+use Rattle.std.proofs.Common.{◌<◌, sym, subst}
+use Rattle.branch_record.specs.Layers.{rows_above}
+use Rattle.branch_record.proofs.JoinedLemmas.{one_done}
+use Rattle.branch_record.proofs.joined.pass_each.Goals as goal
+
+pub loop-layer-preserved : goal.loop-layer-preserved
+loop-layer-preserved c =
+    one_done (rows_above c.args.path.now) c.args.layers.now c.loop-layer.layers c.loop-layer.layer-index c.layer-item.result c.pass.new.self
+    (subst (λ n. c.loop-layer.layer-index < n) (sym c.loop-layer.invariant.same) c.loop-layer-test.true) c.loop-layer.invariant c.pass.ensures
