@@ -98,6 +98,7 @@ module _ {K X : Type 0} (view : KeeperView K) (by : By) (operation : Operation) 
       present = keeps.present ∙ sym same;
       kept = keeps.kept;
       once = keeps.once;
+      succeeded = keeps.succeeded;
       quiet = keeps.quiet;
       keeper = keeps.keeper;
     }
@@ -106,6 +107,7 @@ module _ {K X : Type 0} (view : KeeperView K) (by : By) (operation : Operation) 
       present = keeps.present;
       kept = keeps.kept;
       once = keeps.once;
+      successes = keeps.successes;
       rose = keeps.rose;
       keeper = keeps.keeper;
     }
@@ -124,6 +126,7 @@ module _ {K X : Type 0} (view : KeeperView K) (by : By) (operation : Operation) 
       present = out ∙ ap (in_repository repo (without_commit new.id)) keeps.present ∙ ap after_fault back;
       kept = keeps.kept;
       once = keeps.once;
+      successes = keeps.successes;
       rose = keeps.rose;
       keeper = keeps.keeper;
     }
@@ -132,6 +135,7 @@ module _ {K X : Type 0} (view : KeeperView K) (by : By) (operation : Operation) 
       present = out ∙ ap (in_repository repo (without_commit new.id)) keeps.present ∙ back;
       kept = keeps.kept;
       calls = keeps.calls;
+      successes = keeps.successes;
       quiet = keeps.quiet;
       keeper = keeps.keeper;
     }

@@ -67,6 +67,7 @@ module _ {K : Type 0} (view : KeeperView K) (by : By) (repo branch : List ℕ) (
         present = keeps.present ∙ ap after_fault same;
         kept = keeps.kept;
         once = keeps.once;
+        successes = keeps.successes;
         rose = keeps.rose;
         keeper = keeps.keeper;
       })
@@ -75,6 +76,7 @@ module _ {K : Type 0} (view : KeeperView K) (by : By) (repo branch : List ℕ) (
     present = keeps.present ∙ same;
     kept = keeps.kept;
     calls = keeps.calls;
+    successes = keeps.successes;
     quiet = keeps.quiet;
     keeper = keeps.keeper;
   }

@@ -40,7 +40,7 @@ pub fn keep_commit<K: Keeper>(
     requires named { id ≡ commit_id commit }
     requires may { MayHaveIn repo.now (record { id = id; content = commit; tree = tree.value })
         (lake_value present.old) }
-    ensures kept { Keeps (record { kept = K.kept; faults = K.faults; calls = K.calls }) by
+    ensures kept { Keeps (record { kept = K.kept; faults = K.faults; calls = K.calls; successes = K.successes }) by
         (commit_added repo.now (record { id = id; content = commit; tree = tree.value }) operation puts.items) result
         (record { keeper = keeper.old; history = history.old.items; present = present.old })
         (record { keeper = keeper.new; history = history.new.items; present = present.new }) }

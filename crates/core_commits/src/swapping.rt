@@ -47,8 +47,8 @@ pub fn swap<K: Keeper>(
     ensures reply { (given : VersionsGiven) → HasVersions given (lake_value present.old)
         → IsSwapReply (state_of (lake_value present.old)) given repo.now branch.now guard.version guard.settings
         (swap_rule kind about) (head_answer result) }
-    ensures leaves { LeavesParts (record { kept = K.kept; faults = K.faults; calls = K.calls }) by
-        (head_making repo.now branch.now kind about present.old) result
+    ensures leaves { LeavesParts (record { kept = K.kept; faults = K.faults; calls = K.calls; successes = K.successes })
+        by (head_making repo.now branch.now kind about present.old) result
         (record { keeper = keeper.old; history = history.old.items; present = present.old })
         (record { keeper = keeper.new; history = history.new.items; present = present.new }) }
     ensures may { MayHaveTried repo.now (drafted_in repo.now branch.now kind about (lake_value present.old)) result

@@ -18,6 +18,7 @@ module _ {K : Type 0} (view : KeeperView K) (old new : Parts K) where
     present = present;
     kept = ap view.kept keeper;
     calls = inl (ap view.calls keeper);
+    successes = ap view.successes keeper;
     quiet = ap view.faults keeper;
     keeper = record {
       told = ap (λ k. is_some (view.kept k)) keeper;

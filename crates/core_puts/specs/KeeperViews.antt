@@ -3,11 +3,13 @@ use Rattle.std.specs.Prelude.{◌≡◌, ◌≤◌, ◌⊎◌, ℕ, Option, is_s
 use Rattle.keeper.specs.Keepers.{KeptPairs}
 use Rattle.lake_base.specs.Memory.{next_count}
 
--- the pairs that a keeper keeps and how often it was called to put, where it tells them, and its count of faults
+-- the pairs that a keeper keeps, how often it was called to put and how often that came to Ok, where it tells them, and
+-- its count of faults
 pub record KeeperView (K : Type 0) : Type 0 where
   pub kept : K → Option KeptPairs
   pub faults : K → ℕ
   pub calls : K → Option ℕ
+  pub successes : K → Option ℕ
 
 -- a keeper later on: it tells its pairs where it did, and its count of faults didn't fall
 pub record IsLaterKeeper {K : Type 0} (view : KeeperView K) (old new : K) : Type 0 where
@@ -21,6 +23,10 @@ IsCalledOnce view old new = view.calls new ≡ option_map next_count (view.calls
 -- it was called at most once more
 abbrev pub IsCalledAtMostOnce : {K : Type 0} → KeeperView K → K → K → Type 0
 IsCalledAtMostOnce view old new = (view.calls new ≡ view.calls old) ⊎ IsCalledOnce view old new
+
+-- a call of it to put came to Ok, one more, where it tells
+abbrev pub SucceededOnce : {K : Type 0} → KeeperView K → K → K → Type 0
+SucceededOnce view old new = view.successes new ≡ option_map next_count (view.successes old)
 
 -- it wasn't called to put, and met no fault
 pub record IsNotCalled {K : Type 0} (view : KeeperView K) (old new : K) : Type 0 where

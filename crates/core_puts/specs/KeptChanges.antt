@@ -12,7 +12,7 @@ use Rattle.lake_model.specs.History.{accepted_entry, faulted_entry}
 use Rattle.core_state.specs.declared.lake.LakeState.{LakeState}
 use Rattle.core_state.specs.LakeStates.{LakeStateValue, lake_value}
 use Rattle.core_changes.specs.LakeChanges.{after_fault}
-use Rattle.core_puts.specs.KeeperViews.{IsCalledAtMostOnce, IsCalledOnce, IsLaterKeeper, KeeperView}
+use Rattle.core_puts.specs.KeeperViews.{IsCalledAtMostOnce, IsCalledOnce, IsLaterKeeper, KeeperView, SucceededOnce}
 
 -- a change: its operation, what becomes of the lake in memory, and the puts by which that is kept
 pub record Making : Type 0 where
@@ -37,25 +37,28 @@ pub record IsMade {K : Type 0} (view : KeeperView K) (by : By) (made : Making) (
   pub present : lake_value new.present ≡ made.after (lake_value old.present)
   pub kept : IfSome (view.kept old.keeper) (λ before. view.kept new.keeper ≡ Some (pairs_after made.puts before))
   pub once : IsCalledOnce view old.keeper new.keeper
+  pub succeeded : SucceededOnce view old.keeper new.keeper
   pub quiet : view.faults new.keeper ≡ view.faults old.keeper
   pub keeper : IsLaterKeeper view old.keeper new.keeper
 
 -- The store failed at the one call: the history has its fault, so the lake is stopped, in memory too; the keeper made
--- all of the puts or none, and its count of faults rose.
+-- all of the puts or none, and its count of faults rose. The call didn't come to Ok.
 pub record IsFaulted {K : Type 0} (view : KeeperView K) (by : By) (made : Making) (old new : Parts K) : Type 0 where
   pub history : new.history ≡ old.history ++ faulted_entry by made.operation ∷ []
   pub present : lake_value new.present ≡ after_fault (lake_value old.present)
   pub kept : IfSome (view.kept old.keeper) (λ before. IfSome (view.kept new.keeper) (MayHaveMade made.puts before))
   pub once : IsCalledOnce view old.keeper new.keeper
+  pub successes : view.successes new.keeper ≡ view.successes old.keeper
   pub rose : Rose (view.faults old.keeper) (view.faults new.keeper)
   pub keeper : IsLaterKeeper view old.keeper new.keeper
 
--- Memory ran out, which is no failure of the keeper: nothing that is said changed.
+-- Memory ran out, which is no failure of the keeper and never follows its Ok: nothing that is said changed.
 pub record IsAsBefore {K : Type 0} (view : KeeperView K) (old new : Parts K) : Type 0 where
   pub history : new.history ≡ old.history
   pub present : lake_value new.present ≡ lake_value old.present
   pub kept : view.kept new.keeper ≡ view.kept old.keeper
   pub calls : IsCalledAtMostOnce view old.keeper new.keeper
+  pub successes : view.successes new.keeper ≡ view.successes old.keeper
   pub quiet : view.faults new.keeper ≡ view.faults old.keeper
   pub keeper : IsLaterKeeper view old.keeper new.keeper
 

@@ -21,7 +21,7 @@ pub fn keep<K: Keeper>(
     puts: Vec<Put>,
 ) -> Result<(), StepFault>
     requires few { AreFew (lake_value present.old) }
-    ensures kept { Keeps (record { kept = K.kept; faults = K.faults; calls = K.calls }) by
+    ensures kept { Keeps (record { kept = K.kept; faults = K.faults; calls = K.calls; successes = K.successes }) by
         (unmade operation puts.items) result
         (record { keeper = keeper.old; history = history.old.items; present = present.old })
         (record { keeper = keeper.new; history = history.new.items; present = present.new }) }

@@ -12,21 +12,24 @@ use Rattle.keeper.specs.declared.memory.KeeperFail.TheVariants.{Load, Put}
 use Rattle.keeper.specs.Keepers.{KeptPairs}
 use Rattle.keeper.specs.contracts.memory.KeeperFail.{the_row}
 
--- the pairs that are kept, the calls that are to fail, and how many loads, puts and faults there were
+-- the pairs that are kept, the calls that are to fail, and how many loads, puts, puts that came to Ok and faults there
+-- were
 pub record MemoryKeeperValue : Type 0 where
   pub pairs : KeptPairs
   pub fails : List KeeperFail
   pub loads : ℕ
   pub puts : ℕ
+  pub successes : ℕ
   pub faults : ℕ
 
 -- it is stored as its fields
 abbrev pub memory_keeper_code : Coded MemoryKeeperValue
 memory_keeper_code =
-    code_by (KeptPairs × (List KeeperFail × (ℕ × (ℕ × ℕ))))
-    (coded× (map.code (coded_list coded_ℕ) (coded_list coded_ℕ)) (coded× (coded_list the_row.coded) (coded× coded_ℕ (coded× coded_ℕ coded_ℕ))))
-    (λ k. (k.pairs, (k.fails, (k.loads, (k.puts, k.faults)))))
-    (λ p. record { pairs = p.0; fails = p.1.0; loads = p.1.1.0; puts = p.1.1.1.0; faults = p.1.1.1.1 }) (λ _. refl)
+    code_by (KeptPairs × (List KeeperFail × (ℕ × (ℕ × (ℕ × ℕ)))))
+    (coded× (map.code (coded_list coded_ℕ) (coded_list coded_ℕ))
+    (coded× (coded_list the_row.coded) (coded× coded_ℕ (coded× coded_ℕ (coded× coded_ℕ coded_ℕ)))))
+    (λ k. (k.pairs, (k.fails, (k.loads, (k.puts, (k.successes, k.faults))))))
+    (λ p. record { pairs = p.0; fails = p.1.0; loads = p.1.1.0; puts = p.1.1.1.0; successes = p.1.1.1.1.0; faults = p.1.1.1.1.1 }) (λ _. refl)
 
 -- whether a load of this number, counted from 1, is the one that is to fail
 abbrev pub is_load : ℕ → KeeperFail → Bool
@@ -56,3 +59,8 @@ abbrev pub faults_after : {T : Type 0} → Result T Trouble → ℕ → ℕ
 faults_after (Ok x) faults = faults
 faults_after (Err Failed) faults = next_count faults
 faults_after (Err NoMemory) faults = faults
+
+-- a count of puts that came to Ok after a call with this answer
+abbrev pub successes_after : {T : Type 0} → Result T Trouble → ℕ → ℕ
+successes_after (Ok x) successes = next_count successes
+successes_after (Err trouble) successes = successes

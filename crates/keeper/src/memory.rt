@@ -8,7 +8,7 @@ ghost use Rattle.lake_base.specs.declared.outside.Trouble.TheVariants.{Failed as
 ghost use Rattle.lake_base.specs.declared.outside.Trouble.TheVariants.{NoMemory as trouble_no_memory};
 ghost use Rattle.keeper.specs.Keepers.{FailsByFault, MayHaveMade, entries_of, pairs_after};
 ghost use Rattle.keeper.specs.FailingKeepers.{is_load, is_load_to_fail, landing, first_landing, put_landing};
-ghost use Rattle.keeper.specs.FailingKeepers.{faults_after};
+ghost use Rattle.keeper.specs.FailingKeepers.{faults_after, successes_after};
 ghost use Rattle.std.specs.List.{list_any};
 
 use crate::keeper::Keeper;
@@ -36,6 +36,7 @@ pub struct MemoryKeeper {
     fails: Vec<KeeperFail>,
     loads: u64,
     puts: u64,
+    successes: u64,
     faults: u64,
 }
 
@@ -51,6 +52,7 @@ impl Model for MemoryKeeper {
       fails = keeper.fails.items;
       loads = keeper.loads;
       puts = keeper.puts;
+      successes = keeper.successes;
       faults = keeper.faults;
     } };
 }
@@ -60,14 +62,21 @@ impl MemoryKeeper {
     pub fn new(alloc: Global, pairs: Vec<Pair>, fails: Vec<KeeperFail>) -> MemoryKeeper
         requires { HasAscendingKeys (entries_of pairs.items) }
         ensures pairs { map.entries result.pairs ≡ entries_of pairs.items }
-        ensures counts { result
-            ≡ record { pairs = result.pairs; fails = fails.items; loads = 0; puts = 0; faults = 0 } }
+        ensures counts { result ≡ record {
+          pairs = result.pairs;
+          fails = fails.items;
+          loads = 0;
+          puts = 0;
+          successes = 0;
+          faults = 0;
+        } }
     {
         MemoryKeeper {
             keeper: SureKeeper::holding(alloc, pairs),
             fails,
             loads: 0,
             puts: 0,
+            successes: 0,
             faults: 0,
         }
     }
@@ -119,6 +128,8 @@ impl Keeper for MemoryKeeper {
 
     ghost calls = { λ keeper. Some keeper.puts };
 
+    ghost successes = { λ keeper. Some keeper.successes };
+
     fn load(&mut self) -> Result<Vec<Pair>, Trouble>
         ensures pairs { IfOk result (λ pairs. entries_of pairs.items ≡ map.entries self.old.pairs) }
         ensures ascending { IfOk result (λ pairs. HasAscendingKeys (entries_of pairs.items)) }
@@ -163,12 +174,17 @@ impl Keeper for MemoryKeeper {
         ensures counted { self.new ≡ record self.old {
           pairs = self.new.pairs;
           puts = next_count self.old.puts;
+          successes = successes_after result self.old.successes;
           faults = faults_after result self.old.faults;
         } }
     {
         self.puts = self.puts.saturating_add(1);
         match first_landing(self.fails.as_slice(), self.puts) {
-            None => self.keeper.put_all(puts),
+            None => {
+                self.keeper.put_all(puts)?;
+                self.successes = self.successes.saturating_add(1);
+                Ok(())
+            }
             Some(lands) => {
                 put_where(&mut self.keeper, puts, lands)?;
                 self.faults = self.faults.saturating_add(1);

@@ -150,6 +150,8 @@ impl Keeper for SureKeeper {
 
     ghost calls = { λ _. None };
 
+    ghost successes = { λ _. None };
+
     fn load(&mut self) -> Result<Vec<Pair>, Trouble>
         ensures pairs { IfOk result (λ pairs. entries_of pairs.items ≡ map.entries self.old) }
         ensures ascending { IfOk result (λ pairs. HasAscendingKeys (entries_of pairs.items)) }

@@ -8,7 +8,13 @@ use Rattle.core_commits.proofs.keeping.keep_commit.Goals as goal
 
 pub returns-then-has_commit-clause-kept : goal.returns-then-has_commit-clause-kept
 returns-then-has_commit-clause-kept g c =
-    let view : KeeperView g.row.K.Denot = record { kept = g.K.Keeper.kept; faults = g.K.Keeper.faults; calls = g.K.Keeper.calls } in
+    let view : KeeperView g.row.K.Denot = record {
+      kept = g.K.Keeper.kept;
+      faults = g.K.Keeper.faults;
+      calls = g.K.Keeper.calls;
+      successes =
+          g.K.Keeper.successes;
+    } in
     let new : NewCommit = record { id = c.args.id; content = c.args.commit; tree = c.args.tree.value } in
     keeps_known view c.args.by c.args.operation c.args.puts.items c.args.repo.now new c.keep.result
     (record { keeper = c.args.keeper.now; history = c.args.history.now.items; present = c.args.present.now })
@@ -18,7 +24,13 @@ returns-then-has_commit-clause-kept g c =
 
 pub remove_commit-requires : goal.remove_commit-requires
 remove_commit-requires g c =
-    let view : KeeperView g.row.K.Denot = record { kept = g.K.Keeper.kept; faults = g.K.Keeper.faults; calls = g.K.Keeper.calls } in
+    let view : KeeperView g.row.K.Denot = record {
+      kept = g.K.Keeper.kept;
+      faults = g.K.Keeper.faults;
+      calls = g.K.Keeper.calls;
+      successes =
+          g.K.Keeper.successes;
+    } in
     let new : NewCommit = record { id = c.args.id; content = c.args.commit; tree = c.args.tree.value } in
     let kept = kept_repositories view c.args.by c.args.operation c.args.puts.items c.keep-kept.result
     (record { keeper = c.args.keeper.now; history = c.args.history.now.items; present = c.add_commit.new.lake })
@@ -30,7 +42,13 @@ remove_commit-requires g c =
 
 pub returns-then-is_err-clause-kept : goal.returns-then-is_err-clause-kept
 returns-then-is_err-clause-kept g c =
-    let view : KeeperView g.row.K.Denot = record { kept = g.K.Keeper.kept; faults = g.K.Keeper.faults; calls = g.K.Keeper.calls } in
+    let view : KeeperView g.row.K.Denot = record {
+      kept = g.K.Keeper.kept;
+      faults = g.K.Keeper.faults;
+      calls = g.K.Keeper.calls;
+      successes =
+          g.K.Keeper.successes;
+    } in
     let new : NewCommit = record { id = c.args.id; content = c.args.commit; tree = c.args.tree.value } in
     let back = added_back c.args.repo.now new (lake_value c.args.present.now) c.requires.may (commit_id c.args.commit) c.requires.named
     (lake_value c.add_commit.new.lake) c.in_ok-add_commit.ensures.added c.if-has_commit.ensures.there in

@@ -25,7 +25,7 @@ pub returns-in_err-new-clause-leaves : goal.returns-in_err-new-clause-leaves
 returns-in_err-new-clause-leaves g c =
     let l = lake_value c.args.present.now in
     let given = versions_of l in
-    refused_leaves (record { kept = g.K.Keeper.kept; faults = g.K.Keeper.faults; calls = g.K.Keeper.calls }) c.args.by
+    refused_leaves (record { kept = g.K.Keeper.kept; faults = g.K.Keeper.faults; calls = g.K.Keeper.calls; successes = g.K.Keeper.successes }) c.args.by
     (head_making c.args.repo.now c.args.branch.now c.args.kind c.args.about c.args.present.now)
     (record { keeper = c.args.keeper.now; history = c.args.history.now.items; present = c.args.present.now })
     c.from_residual.result c.in_err-new.field-0.0 c.from_residual.ensures.1
@@ -65,7 +65,7 @@ returns-in_err-keep_commit-clause-reply g c given has =
 
 pub returns-in_err-keep_commit-clause-leaves : goal.returns-in_err-keep_commit-clause-leaves
 returns-in_err-keep_commit-clause-leaves g c =
-    unkept_leaves (record { kept = g.K.Keeper.kept; faults = g.K.Keeper.faults; calls = g.K.Keeper.calls }) c.args.by
+    unkept_leaves (record { kept = g.K.Keeper.kept; faults = g.K.Keeper.faults; calls = g.K.Keeper.calls; successes = g.K.Keeper.successes }) c.args.by
     c.args.repo.now c.args.branch.now c.args.kind c.args.about (new_commit c.in_ok-new.new)
     (record { keeper = c.args.keeper.now; history = c.args.history.now.items; present = c.args.present.now })
     (record { keeper = c.keep_commit.new.keeper; history = c.keep_commit.new.history.items; present = c.keep_commit.new.present })
