@@ -14,8 +14,8 @@ ghost use Rattle.core_causes.specs.Asking.{Asks};
 use core_state::{BranchState, LakeState, RepositoryState};
 use hook_rules::protects;
 use lake_base::{RefName, RepoName};
-use lake_model::{Reference, StepFault};
 use lake_model::history::HISTORY_LIMIT;
+use lake_model::{Reference, StepFault};
 use lake_values::CommitId;
 
 /// What every change asks: the lake isn't stopped, and its history has room. Stopped, HistoryFull.

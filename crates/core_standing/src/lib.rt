@@ -1,6 +1,6 @@
 //! A lake in memory stands for its history: it is what the legal entries make of the state that it was opened as.
 //!
-//! - `opening`: a sound lake in which nothing has happened stands for no entries.
+//! - `opening`: a sound lake in which nothing has happened stands for no entries; what of that pairs tell.
 //! - `present`: what holds of a lake that stands for its history; `plain_names`: its names are like no id.
 //! - `repositories`: new repositories; `writes`: tickets, and what is written to a branch; `names`: branches and tags
 //!   that come and go, and settings; `heads`: commits, merges and picks.
@@ -20,7 +20,7 @@ pub mod writes;
 
 pub use heads::law_of_new_heads;
 pub use names::{law_of_settings, laws_of_names};
-pub use opening::{law_of_opening, law_of_versions_below};
+pub use opening::{law_of_opening, law_of_ties, law_of_versions_below};
 pub use plain_names::laws_of_plain_names;
 pub use present::{law_of_entries, law_of_present};
 pub use repositories::law_of_repository;

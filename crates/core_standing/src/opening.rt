@@ -7,6 +7,7 @@ ghost use Rattle.core_state.specs.Index.{HasIndex};
 ghost use Rattle.core_state.specs.LakeStates.{LakeStateValue, state_of};
 ghost use Rattle.core_changes.specs.FreshTokens.{AreTokensBelow};
 ghost use Rattle.core_standing.specs.Standing.{HasNoHistory, Stands};
+ghost use Rattle.core_standing.specs.Ties.{AreTied};
 
 use core_state::law_of_versions;
 
@@ -23,4 +24,11 @@ pub fn law_of_opening()
 pub fn law_of_versions_below()
     ensures { (given : VersionsGiven) (l : LakeStateValue) → HasVersions given l → AreBelowNext given
         → AreBelowNext (versions_of l) }
+{}
+
+/// Where the pairs from which a lake was read agree with one another, its versions are below the next one, its tokens
+/// are fresh, and its counts are small, as `law_of_opening` asks.
+pub fn law_of_ties()
+    ensures { (l : LakeStateValue) → HasNoHistory l → AreTied l
+        → AreBelowNext (versions_of l) × AreTokensBelow l × AreCounted l }
 {}

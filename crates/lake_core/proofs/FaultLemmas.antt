@@ -1,10 +1,9 @@
 -- Where a history has a fault of the store.
-use Rattle.std.proofs.Common.{◌≤◌, ◌<◌, ℕ, List, [], ◌∷◌, ◌++◌, subst, inl, inr, arith}
-use Rattle.std.specs.Prelude.{◌⊎◌, Option, Some, None, Result, Ok, Err}
+use Rattle.std.proofs.Common.{◌≡◌, ◌≤◌, ◌<◌, ℕ, List, [], ◌∷◌, ◌++◌, refl, sym, ◌∙◌, subst, inl, inr, arith}
+use Rattle.std.specs.Prelude.{Option, Some, None, Result, Ok, Err}
 use Rattle.std.proofs.lemmas.List.Elements.{Contains-push_cases}
 use Rattle.lake_base.specs.Outside.{Quiet, Rose}
 use Rattle.lake_values.proofs.OrderLemmas.{Contains-nothing}
-use Rattle.lake_format.specs.declared.cut.Cut.{Cut}
 use Rattle.lake_model.specs.declared.fault.StepFault.{StepFault}
 use Rattle.lake_model.specs.declared.fault.StepFault.TheVariants.{StoreFault, NoMemory}
 use Rattle.lake_model.specs.declared.history.By.{By}
@@ -13,14 +12,14 @@ use Rattle.lake_model.specs.declared.history.EntryKind.TheVariants.{Accepted, Fa
 use Rattle.lake_model.specs.declared.history.HistoryEntry.{HistoryEntry}
 use Rattle.lake_model.specs.declared.history.Operation.{Operation}
 use Rattle.lake_model.specs.History.{accepted_entry, faulted_entry}
-use Rattle.core_puts.specs.KeeperViews.{KeeperView}
-use Rattle.core_puts.specs.KeptChanges.{Making, Parts}
-use Rattle.lake_core.specs.Lakes.{LakeValue}
-use Rattle.lake_core.specs.Opening.{IsOpened}
-use Rattle.lake_core.specs.Leaving.{Leaves}
+use Rattle.core_puts.specs.KeeperViews.{IsLaterKeeper, KeeperView}
+use Rattle.core_puts.specs.KeptChanges.{IsAsBefore, IsFaulted, IsMade, Keeps, LeavesParts, Making, Parts}
+use Rattle.core_standing.specs.Standing.{Stands}
+use Rattle.core_state.specs.declared.lake.LakeState.{LakeState}
+use Rattle.core_state.specs.LakeStates.{LakeStateValue, lake_value}
 use Rattle.lake_core.specs.Faults.{HasFault}
-use Rattle.lake_core.specs.Runs.{IsRun, Start, Next}
-use Rattle.lake_core.proofs.RunLemmas.{leaves_later, run_later}
+use Rattle.lake_core.specs.KeptSince.{IsKeptSince}
+use Rattle.lake_core.specs.Lakes.{Holds, LakeValue}
 
 abbrev IsAccepted : EntryKind → Type 0
 IsAccepted (Accepted operation) = Unit {0}
@@ -52,49 +51,82 @@ rose_after first next last later rose = λ low. at_start (rose low)
     at_start : next < last → first < last
     at_start h = omega arith
 
+-- ---- what a lake knows of its keeper
+
 module _ {K : Type 0} (view : KeeperView K) where
-  -- a fault stood there before, or the count rose
-  abbrev HasCountedFault : LakeValue K → LakeValue K → Type 0
-  HasCountedFault old new = HasFault old.history ⊎ Rose (view.faults old.keeper) (view.faults new.keeper)
+  later_then : (first next last : K) → IsLaterKeeper view first next → IsLaterKeeper view next last
+      → IsLaterKeeper view first last
+  later_then first next last one two = record { told = two.told ∙ one.told; later = at_most one.later two.later }
+    where
+      at_most : {a b c : ℕ} → a ≤ b → b ≤ c → a ≤ c
+      at_most one two = omega arith
 
-  -- after a change
-  fault_left : (by : By) (made : Option Making) (answer : Result (Unit {0}) StepFault) (old new : LakeValue K)
-      → Leaves view by made answer old new → HasFault new.history → HasCountedFault old new
-  fault_left by (Some m) (Ok answer) old new left has =
-      inl (accepted_no_fault old.history by m.operation (subst HasFault left.1.history has))
-  fault_left by None (Ok answer) old new left has = absurd left.1
-  fault_left by (Some m) (Err StoreFault) old new left has = inr left.1.rose
-  fault_left by None (Err StoreFault) old new left has = absurd left.1
-  fault_left by made (Err NoMemory) old new left has = inl (subst HasFault left.1.history has)
-  fault_left by made (Err fault) old new left has = inl (subst (λ (p : Parts K). HasFault p.history) left.1 has)
+  -- a lake that was just opened knows nothing yet
+  pub kept_opened : (first now : K) (history : List HistoryEntry) → first ≡ now → history ≡ []
+      → IsKeptSince view first now history
+  kept_opened first now history same none = record {
+    keeper =
+        subst (λ (k : K). IsLaterKeeper view k now) (sym same)
+        (record { told = refl; later = omega arith });
+    counted = λ has. absurd (fault_none (subst HasFault none has));
+  }
 
-  -- after a run
-  fault_run : (first : LakeValue K) {last : LakeValue K} → IsRun view first last → HasFault last.history
-      → HasCountedFault first last
-  fault_run first Start has = inl has
-  fault_run first (Next {old = old} {new = new} by made answer run left) has =
-      elim (fault_left by made answer old new left has) [
-        | inl before ↦ elim (fault_run first run before) [
-          | inl at_first ↦ inl at_first
-          | inr rose ↦ inr (rose_before _ _ _ rose (leaves_later view by made answer old new left).later)
-        ]
-        | inr rose ↦ inr (rose_after _ _ _ (run_later view first run).later rose)
-      ]
+  module _ (first : K) (by : By) (old new : Parts K) (since : IsKeptSince view first old.keeper old.history) where
+    -- after a change that was made
+    pub kept_made : (made : Making) → IsMade view by made old new → IsKeptSince view first new.keeper new.history
+    kept_made made is = record {
+      keeper = later_then first old.keeper new.keeper since.keeper is.keeper;
+      counted = λ has. rose_before _ _ _
+          (since.counted (accepted_no_fault old.history by made.operation (subst HasFault is.history has)))
+          is.keeper.later;
+    }
 
-  -- the count rose since a lake was opened whose history has a fault
-  pub fault_rose : (cut : Cut) (keeper : K) (first last : LakeValue K) → IsOpened view cut keeper first
-      → IsRun view first last
-      → HasFault last.history → Rose (view.faults first.keeper) (view.faults last.keeper)
-  fault_rose cut keeper first last opened run has = elim (fault_run first run has) [
-    | inl at_first ↦ absurd (fault_none (subst HasFault opened.history at_first))
-    | inr rose ↦ rose
-  ]
+    -- after a fault of the store
+    kept_faulted : (made : Making) → IsFaulted view by made old new → IsKeptSince view first new.keeper new.history
+    kept_faulted made is = record {
+      keeper = later_then first old.keeper new.keeper since.keeper is.keeper;
+      counted = λ has. rose_after _ _ _ since.keeper.later is.rose;
+    }
 
-  -- where nothing was counted there is none
-  pub fault_quiet : (cut : Cut) (keeper : K) (first last : LakeValue K) → IsOpened view cut keeper first
-      → IsRun view first last
-      → Quiet (view.faults first.keeper) (view.faults last.keeper) → HasFault last.history → ⊥
-  fault_quiet cut keeper first last opened run quiet has =
-      let more = fault_rose cut keeper first last opened run has quiet.counting in
+    -- where memory ran out
+    kept_before : IsAsBefore view old new → IsKeptSince view first new.keeper new.history
+    kept_before is = record {
+      keeper = later_then first old.keeper new.keeper since.keeper is.keeper;
+      counted = λ has. rose_before _ _ _ (since.counted (subst HasFault is.history has)) is.keeper.later;
+    }
+
+    -- where the keeper refused it
+    pub kept_refused : (made : Making) (fault : StepFault) → Keeps {X = Unit {0}} view by made (Err fault) old new
+        → IsKeptSince view first new.keeper new.history
+    kept_refused made StoreFault is = kept_faulted made is
+    kept_refused made NoMemory is = kept_before is
+    kept_refused made fault is = absurd is
+
+    -- after any change
+    pub kept_left : {X : Type 0} (made : Option Making) (answer : Result X StepFault)
+        → LeavesParts view by made answer old new → IsKeptSince view first new.keeper new.history
+    kept_left (Some made) (Ok answer) left = kept_made made left
+    kept_left None (Ok answer) left = absurd left
+    kept_left (Some made) (Err StoreFault) left = kept_faulted made left
+    kept_left None (Err StoreFault) left = absurd left
+    kept_left made (Err NoMemory) left = kept_before left
+    kept_left made (Err fault) left =
+        subst (λ (p : Parts K). IsKeptSince view first p.keeper p.history) (sym left) since
+
+  -- where nothing was counted there is no fault
+  pub fault_quiet : (lake : LakeValue K) → Holds view lake → Quiet (view.faults lake.first) (view.faults lake.keeper)
+      → HasFault lake.history → ⊥
+  fault_quiet lake holds quiet has =
+      let more = holds.keeper.counted has quiet.counting in
       let same = quiet.same in
       omega arith
+
+  -- what was made ready says the same
+  pub ready_holds : (opened : LakeState) (first : K) (history : List HistoryEntry) (present ready : LakeState) (keeper : K)
+      → Holds view (record { opened = opened; first = first; history = history; present = present; keeper = keeper })
+      → lake_value ready ≡ lake_value present
+      → Holds view (record { opened = opened; first = first; history = history; present = ready; keeper = keeper })
+  ready_holds opened first history present ready keeper holds same = record {
+    stands = subst (λ (l : LakeStateValue). Stands (lake_value opened) history l) (sym same) holds.stands;
+    keeper = holds.keeper;
+  }

@@ -39,6 +39,7 @@ use Rattle.core_commits.specs.HeadOperations.{draft_for}
 use Rattle.core_commits.specs.Testing.{HasTreeFor, drafted_in}
 use Rattle.core_commits.proofs.PlaceLemmas.{in_state, on_state, same_some, where_there}
 use Rattle.lake_core.specs.HeadConditions.{IsReadyFor, IsReadyOn}
+use Rattle.lake_core.specs.Lakes.{LakeValue}
 use Rattle.lake_core.specs.Leaving.{Leaves}
 
 -- ---- no cause
@@ -245,11 +246,16 @@ module _ {K : Type 0} (view : KeeperView K) (law : TellsOfHeads) (opened : LakeS
 -- ---- what it leaves of the lake
 
 -- it was opened as before
-pub leaves_lake : {K X : Type 0} (view : KeeperView K) (by : By) (made : Option Making) (opened : LakeState) (before after : Parts K)
-    (answer : Result X StepFault) → LeavesParts view by made answer before after
-    → Leaves view by made answer (record { opened = opened; history = before.history; present = before.present; keeper = before.keeper })
-    (record { opened = opened; history = after.history; present = after.present; keeper = after.keeper })
-leaves_lake view by made opened before after answer left = (refl, left)
+pub leaves_lake : {K X : Type 0} (view : KeeperView K) (by : By) (make : LakeState → Option Making) (opened : LakeState) (first : K)
+    (before after : Parts K) (lake : LakeValue K)
+    → record { opened = opened; first = first; history = before.history; present = before.present; keeper = before.keeper } ≡ lake
+    → (answer : Result X StepFault) → LeavesParts view by (make before.present) answer before after
+    → Leaves view by (make lake.present) answer lake
+    (record { opened = opened; first = first; history = after.history; present = after.present; keeper = after.keeper })
+leaves_lake view by make opened first before after lake was answer left =
+    subst (λ v. Leaves view by (make v.present) answer v
+    (record { opened = opened; first = first; history = after.history; present = after.present; keeper = after.keeper })) was
+    (record { opened = refl; first = refl }, left)
 
 -- ---- the condition
 

@@ -6,7 +6,6 @@ pub mod NumberLemmas
 pub mod OpeningLemmas
 pub mod PreparingLemmas
 pub mod RepositoryLemmas
-pub mod RunLemmas
 pub mod StepLemmas
 pub mod StopLemmas
 pub mod KeepingAllLemmas

@@ -63,7 +63,8 @@ quiet_out_of_memory before now Failed quiet is = absurd cc
 -- A keeper that had no pairs failed to make the puts, or memory ran out.
 module _ {K : Type 0} (view : KeeperView K) (cut : Cut) (old mid new : K) (made : List Put) (are : made ≡ fresh_puts cut)
     (same : view.kept mid ≡ view.kept old) (none : IfSome (view.kept old) (λ before. before ≡ empty))
-    (calm : view.faults mid ≡ view.faults old) (called : view.calls mid ≡ view.calls old) where
+    (calm : view.faults mid ≡ view.faults old) (called : view.calls mid ≡ view.calls old)
+    (succeeded : view.successes mid ≡ view.successes old) where
   which : (b : KeptPairs) → IsTried view old new → (after : Option KeptPairs) → IfSome after (MayHaveMade made b)
       → IfSome after (λ a. (a ≡ b) ⊎ (IsTried view old new × (a ≡ pairs_after (fresh_puts cut) b)))
   which b tried None may = tt
@@ -86,20 +87,23 @@ module _ {K : Type 0} (view : KeeperView K) (cut : Cut) (old mid new : K) (made 
       → (trouble ≡ NoMemory → view.kept new ≡ view.kept mid)
       → (trouble ≡ Failed → Rose (view.faults mid) (view.faults new))
       → (trouble ≡ NoMemory → view.faults new ≡ view.faults mid)
-      → view.calls new ≡ option_map next_count (view.calls mid) → IsLaterKeeper view mid new
+      → view.calls new ≡ option_map next_count (view.calls mid) → view.successes new ≡ view.successes mid
+      → IsLaterKeeper view mid new
       → MatchResult answer P (λ fault. IsUnopened view cut old fault new)
-  put_failed P (Ok lake) trouble is failed no_memory rose quiet once last = absurd is
-  put_failed P (Err e) Failed is failed no_memory rose quiet once last =
+  put_failed P (Ok lake) trouble is failed no_memory rose quiet once refused last = absurd is
+  put_failed P (Err e) Failed is failed no_memory rose quiet once refused last =
       subst (λ fault. IsUnopened view cut old fault new) (sym is) (record {
         cause = subst (λ n. Rose n (view.faults new)) calm (rose refl);
         kept = landed (view.kept old) (put_tried once) (subst (λ o. IfSome o (λ b. IfSome (view.kept new) (MayHaveMade made b))) same (failed refl));
         calls = inr (put_tried once);
+        successes = refused ∙ succeeded;
         keeper = record { told = last.told ∙ ap is_some same; later = subst (λ n. n ≤ view.faults new) calm last.later };
       })
-  put_failed P (Err e) NoMemory is failed no_memory rose quiet once last =
+  put_failed P (Err e) NoMemory is failed no_memory rose quiet once refused last =
       subst (λ fault. IsUnopened view cut old fault new) (sym is) (record {
         cause = quiet refl ∙ calm;
         kept = no_memory refl ∙ same;
         calls = inr (put_tried once);
+        successes = refused ∙ succeeded;
         keeper = record { told = last.told ∙ ap is_some same; later = subst (λ n. n ≤ view.faults new) calm last.later };
       })

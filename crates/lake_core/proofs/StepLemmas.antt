@@ -25,7 +25,7 @@ use Rattle.core_changes.specs.LakeChanges.{after_fault, after_stage, without_tic
 use Rattle.core_standing.specs.Standing.{MayMake, Stands}
 use Rattle.lake_core.specs.Lakes.{LakeValue, state, versions}
 use Rattle.core_puts.specs.KeeperViews.{KeeperView}
-use Rattle.lake_core.specs.Leaving.{Leaves, parts_of}
+use Rattle.lake_core.specs.Leaving.{IsOpenedAs, Leaves, parts_of}
 use Rattle.core_puts.specs.KeptChanges.{IsAsBefore, IsMade, Keeps, LeavesParts, Making, Parts, unmade}
 use Rattle.core_puts.proofs.KeptLemmas.{refused_parts, same_before, starved_parts}
 
@@ -163,13 +163,13 @@ starved_found state c value (Ok x) same = absurd same
 module _ {K : Type 0} (view : KeeperView K) (old new : LakeValue K) where
   -- memory ran out, which is no failure of the keeper: nothing that is said changed
   abbrev pub IsLakeAsBefore : Type 0
-  IsLakeAsBefore = (new.opened ≡ old.opened) × IsAsBefore view (parts_of old) (parts_of new)
+  IsLakeAsBefore = IsOpenedAs old new × IsAsBefore view (parts_of old) (parts_of new)
 
   -- a lake that says the same, over the same keeper, is as before
-  pub as_before : new.opened ≡ old.opened → new.history ≡ old.history → lake_value new.present ≡ lake_value old.present
-      → new.keeper ≡ old.keeper → IsLakeAsBefore
-  as_before opened history present keeper =
-      (opened, same_before view (parts_of old) (parts_of new) history present keeper)
+  pub as_before : new.opened ≡ old.opened → new.first ≡ old.first → new.history ≡ old.history
+      → lake_value new.present ≡ lake_value old.present → new.keeper ≡ old.keeper → IsLakeAsBefore
+  as_before opened first history present keeper =
+      (record { opened = opened; first = first }, same_before view (parts_of old) (parts_of new) history present keeper)
 
   pub starved_leaves : {X : Type 0} (by : By) (made : Option Making) (answer : Result X StepFault)
       → IsErrAnd answer (λ e. e ≡ NoMemory) → IsLakeAsBefore → Leaves view by made answer old new
@@ -211,52 +211,53 @@ module _ {K : Type 0} (view : KeeperView K) (by : By) (made : Option Making) (ol
   pub refused_leaves : {X : Type 0} (answer : Result X StepFault) (fault : StepFault) → IsErrAnd answer (λ e. e ≡ fault)
       → IsRefusal fault → Leaves view by made answer old new
   refused_leaves answer fault eq is = (
-    ap (λ (l : LakeValue K). l.opened) same,
+    record { opened = ap (λ (l : LakeValue K). l.opened) same; first = ap (λ (l : LakeValue K). l.first) same },
     refused_parts view (parts_of old) (parts_of new) by made answer fault eq is (ap parts_of same),
   )
 
 -- what was made ready says the same, so the lake is as before
-module _ {K : Type 0} (view : KeeperView K) (opened present ready : LakeState) (history : List HistoryEntry) (keeper : K) (lake : LakeValue K)
-    (was : record { opened = opened; history = history; present = present; keeper = keeper } ≡ lake)
+module _ {K : Type 0} (view : KeeperView K) {first : K} (opened present ready : LakeState) (history : List HistoryEntry) (keeper : K)
+    (lake : LakeValue K) (was : record { opened = opened; first = first; history = history; present = present; keeper = keeper } ≡ lake)
     (same : lake_value ready ≡ lake_value present) where
   pub unready_leaves : {X : Type 0} (by : By) (made : Option Making) (answer : Result X StepFault) → IsErrAnd answer (λ e. e ≡ NoMemory)
-      → Leaves view by made answer lake (record { opened = opened; history = history; present = ready; keeper = keeper })
+      → Leaves view by made answer lake (record { opened = opened; first = first; history = history; present = ready; keeper = keeper })
   unready_leaves by made answer starved =
-      let now : LakeValue K = record { opened = opened; history = history; present = ready; keeper = keeper } in
+      let now : LakeValue K = record { opened = opened; first = first; history = history; present = ready; keeper = keeper } in
       starved_leaves view lake now by made answer starved (subst (λ old. IsLakeAsBefore view old now) was
-      (as_before view (record { opened = opened; history = history; present = present; keeper = keeper }) now refl refl same refl))
+      (as_before view (record { opened = opened; first = first; history = history; present = present; keeper = keeper }) now refl refl refl same refl))
 
   -- of one that a cause refused, or memory: where a cause did, it is the same
   pub untested_leaves : {X : Type 0} (by : By) (made : Option Making) (answer : Result X StepFault) (fault : StepFault)
       → IsErrAnd answer (λ e. e ≡ fault) → (fault ≡ NoMemory) ⊎ (IsRefusal fault × (ready ≡ present))
-      → Leaves view by made answer lake (record { opened = opened; history = history; present = ready; keeper = keeper })
+      → Leaves view by made answer lake (record { opened = opened; first = first; history = history; present = ready; keeper = keeper })
   untested_leaves by made answer fault is (inl memory) = unready_leaves by made answer (same_err answer fault NoMemory is memory)
   untested_leaves by made answer fault is (inr refusal) =
-      refused_leaves view by made lake (record { opened = opened; history = history; present = ready; keeper = keeper })
-      (ap (λ p. record { opened = opened; history = history; present = p; keeper = keeper }) refusal.1 ∙ was) answer fault is refusal.0
+      refused_leaves view by made lake (record { opened = opened; first = first; history = history; present = ready; keeper = keeper })
+      (ap (λ p. record { opened = opened; first = first; history = history; present = p; keeper = keeper }) refusal.1 ∙ was) answer fault is refusal.0
 
 module _ {K : Type 0} (view : KeeperView K) (by : By) (make : LakeState → Option Making) (making : Making) (made : Operation) (puts : List Put)
     (is : made ≡ making.operation) (are : puts ≡ making.puts)
-    (opened present ready : LakeState) (history : List HistoryEntry) (keeper : K) (after : Parts K)
+    {first : K} (opened present ready : LakeState) (history : List HistoryEntry) (keeper : K) (after : Parts K)
     (same : lake_value ready ≡ lake_value present) (makes : make present ≡ Some making) (lake : LakeValue K)
-    (was : record { opened = opened; history = history; present = present; keeper = keeper } ≡ lake) where
-  abbrev first : LakeValue K
-  first = record { opened = opened; history = history; present = present; keeper = keeper }
+    (was : record { opened = opened; first = first; history = history; present = present; keeper = keeper } ≡ lake) where
+  abbrev found : LakeValue K
+  found = record { opened = opened; first = first; history = history; present = present; keeper = keeper }
 
   abbrev last : LakeState → LakeValue K
-  last next = record { opened = opened; history = after.history; present = next; keeper = after.keeper }
+  last next = record { opened = opened; first = first; history = after.history; present = next; keeper = after.keeper }
 
   -- the parts that the keeper's call found
   abbrev called : Parts K
   called = record { keeper = keeper; history = history; present = ready }
 
   refusal_leaves : (X : Type 0) (fault : StepFault) → Keeps {X = Unit {0}} view by (unmade made puts) (Err fault) called after
-      → LeavesParts {X = X} view by (Some making) (Err fault) (parts_of first) (parts_of (last after.present))
+      → LeavesParts {X = X} view by (Some making) (Err fault) (parts_of found) (parts_of (last after.present))
   refusal_leaves X NoMemory keeps = record {
     history = keeps.history;
     present = keeps.present ∙ same;
     kept = keeps.kept;
     calls = keeps.calls;
+    successes = keeps.successes;
     quiet = keeps.quiet;
     keeper = keeps.keeper;
   }
@@ -265,6 +266,7 @@ module _ {K : Type 0} (view : KeeperView K) (by : By) (make : LakeState → Opti
     present = keeps.present ∙ ap after_fault same;
     kept = subst (λ ps. IfSome (view.kept keeper) (λ b. IfSome (view.kept after.keeper) (MayHaveMade ps b))) are keeps.kept;
     once = keeps.once;
+    successes = keeps.successes;
     rose = keeps.rose;
     keeper = keeps.keeper;
   }
@@ -276,8 +278,8 @@ module _ {K : Type 0} (view : KeeperView K) (by : By) (make : LakeState → Opti
       → Leaves view by (make lake.present) answer lake (last after.present)
   unkept_leaves {X} (Err e) fault eq keeps =
       subst (λ v. Leaves {X = X} view by (make v.present) (Err e) v (last after.present)) was (
-        refl,
-        subst (λ o. LeavesParts {X = X} view by o (Err e) (parts_of first) (parts_of (last after.present))) (sym makes)
+        record { opened = refl; first = refl },
+        subst (λ o. LeavesParts {X = X} view by o (Err e) (parts_of found) (parts_of (last after.present))) (sym makes)
             (refusal_leaves X e (subst (λ f. Keeps {X = Unit {0}} view by (unmade made puts) (Err f) called after) (sym eq) keeps)),
       )
   unkept_leaves (Ok x) fault eq keeps = absurd eq
@@ -285,15 +287,16 @@ module _ {K : Type 0} (view : KeeperView K) (by : By) (make : LakeState → Opti
   -- it was made
   pub made_leaves : (next : LakeState) → IsMade view by (unmade made puts) called after
       → lake_value next ≡ making.after (lake_value present)
-      → (opened ≡ lake.opened) × IsSomeAnd (make lake.present) (λ m. IsMade view by m (parts_of lake) (parts_of (last next)))
+      → IsOpenedAs lake (last next) × IsSomeAnd (make lake.present) (λ m. IsMade view by m (parts_of lake) (parts_of (last next)))
   made_leaves next kept changed =
-      subst (λ v. (opened ≡ v.opened) × IsSomeAnd (make v.present) (λ m. IsMade view by m (parts_of v) (parts_of (last next)))) was (
-        refl,
-        subst (λ o. IsSomeAnd o (λ m. IsMade view by m (parts_of first) (parts_of (last next)))) (sym makes) (record {
+      subst (λ v. IsOpenedAs v (last next) × IsSomeAnd (make v.present) (λ m. IsMade view by m (parts_of v) (parts_of (last next)))) was (
+        record { opened = refl; first = refl },
+        subst (λ o. IsSomeAnd o (λ m. IsMade view by m (parts_of found) (parts_of (last next)))) (sym makes) (record {
           history = kept.history ∙ ap (λ o. history ++ accepted_entry by o ∷ []) is;
           present = changed;
           kept = subst (λ ps. IfSome (view.kept keeper) (λ b. view.kept after.keeper ≡ Some (pairs_after ps b))) are kept.kept;
           once = kept.once;
+          succeeded = kept.succeeded;
           quiet = kept.quiet;
           keeper = kept.keeper;
         }),

@@ -6,11 +6,15 @@ use Rattle.lake_model.specs.History.{replay}
 use Rattle.lake_model.specs.Versions.{VersionsGiven}
 use Rattle.core_state.specs.declared.lake.LakeState.{LakeState}
 use Rattle.core_state.specs.LakeStates.{lake_value, state_of}
-use Rattle.core_standing.specs.Standing.{versions_since}
+use Rattle.core_puts.specs.KeeperViews.{KeeperView}
+use Rattle.core_standing.specs.Standing.{Stands, versions_since}
+use Rattle.lake_core.specs.KeptSince.{IsKeptSince}
 
--- a lake: what it was opened as, the entries since, what it is in memory now, and the keeper of its pairs
+-- a lake: what it was opened as, its keeper as it was then, the entries since, what it is in memory now, and the keeper
+-- of its pairs
 pub record LakeValue (K : Type 0) : Type 0 where
   pub opened : LakeState
+  pub first : K
   pub history : List HistoryEntry
   pub present : LakeState
   pub keeper : K
@@ -22,3 +26,9 @@ state l = replay (state_of (lake_value l.opened)) l.history
 -- the versions given up to now
 abbrev pub versions : {K : Type 0} → LakeValue K → VersionsGiven
 versions l = versions_since (lake_value l.opened) l.history
+
+-- What holds of each lake, whenever it is looked at: it stands for its history, and of its keeper it is known what came
+-- of it since the lake was opened.
+pub record Holds {K : Type 0} (view : KeeperView K) (l : LakeValue K) : Type 0 where
+  pub stands : Stands (lake_value l.opened) l.history (lake_value l.present)
+  pub keeper : IsKeptSince view l.first l.keeper l.history

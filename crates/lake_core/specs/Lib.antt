@@ -1,5 +1,6 @@
 pub mod Faults
 pub mod HeadConditions
+pub mod KeptSince
 pub mod Lakes
 pub mod Leaving
 pub mod Makings
@@ -7,5 +8,4 @@ pub mod Numbers
 pub mod OpenFaults
 pub mod Opening
 pub mod ReadyChanges
-pub mod Runs
 pub mod KeepingAll

@@ -10,21 +10,23 @@ use Rattle.core_state.specs.LakeStates.{lake_value}
 use Rattle.lake_core.specs.declared.open_fault.OpenFault.{OpenFault}
 use Rattle.lake_core.specs.declared.open_fault.OpenFault.TheVariants.{BadPair, NoMemory, StoreFault}
 use Rattle.lake_core.specs.Lakes.{LakeValue}
-use Rattle.core_puts.specs.KeeperViews.{IsCalledOnce, IsLaterKeeper, IsNotCalled, KeeperView}
+use Rattle.core_puts.specs.KeeperViews.{IsCalledOnce, IsLaterKeeper, IsNotCalled, KeeperView, SucceededOnce}
 
 -- a keeper had no pairs, where it tells, and made the fresh lake's puts by one call
 pub record IsFilled {K : Type 0} (view : KeeperView K) (cut : Cut) (old new : K) : Type 0 where
   pub empty : IfSome (view.kept old) (λ before. before ≡ empty)
   pub kept : IfSome (view.kept old) (λ before. view.kept new ≡ Some (pairs_after (fresh_puts cut) before))
   pub once : IsCalledOnce view old new
+  pub succeeded : SucceededOnce view old new
   pub quiet : view.faults new ≡ view.faults old
   pub keeper : IsLaterKeeper view old new
 
--- a fresh lake was opened: it has no entries, and its keeper its pairs
+-- a fresh lake was opened: it has no entries, and its keeper its pairs; its keeper now is its first
 pub record IsOpened {K : Type 0} (view : KeeperView K) (cut : Cut) (keeper : K) (lake : LakeValue K) : Type 0 where
   pub opened : lake_value lake.opened ≡ fresh_lake cut
   pub history : lake.history ≡ []
   pub present : lake.present ≡ lake.opened
+  pub first : lake.first ≡ lake.keeper
   pub filled : IsFilled view cut keeper lake.keeper
 
 -- a keeper was called to put once, which had no pairs, where it tells
@@ -48,9 +50,11 @@ HasOpenCause view old (BadPair number) back =
     (number ≡ 0) × (IfSome (view.kept old) (λ before. before ≡ empty → ⊥) × IsNotCalled view old back)
 HasOpenCause view old NoMemory back = view.faults back ≡ view.faults old
 
--- It wasn't, for this fault, and the keeper is handed back, called to put not at all, or once where it had no pairs.
+-- It wasn't, for this fault, and the keeper is handed back, called to put not at all, or once where it had no pairs. That
+-- call didn't come to Ok: so memory never ran out after the keeper's Ok.
 pub record IsUnopened {K : Type 0} (view : KeeperView K) (cut : Cut) (old : K) (fault : OpenFault) (back : K) : Type 0 where
   pub cause : HasOpenCause view old fault back
   pub kept : KeptBy view cut old fault back
   pub calls : (view.calls back ≡ view.calls old) ⊎ IsTried view old back
+  pub successes : view.successes back ≡ view.successes old
   pub keeper : IsLaterKeeper view old back

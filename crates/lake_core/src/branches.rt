@@ -44,8 +44,8 @@ impl<K: Keeper> Lake<K> {
     ) -> Result<(u64, CommitId), StepFault>
         requires { is_like_id name ≡ false }
         ensures reply { IsCreateBranchReply (state self.old) repo.now name e.now result }
-        ensures leaves { Leaves (record { kept = K.kept; faults = K.faults; calls = K.calls }) by
-            (create_branch repo.now name e.now (lake_value self.old.present)) result self.old self.new }
+        ensures leaves { Leaves (record { kept = K.kept; faults = K.faults; calls = K.calls; successes = K.successes })
+            by (create_branch repo.now name e.now (lake_value self.old.present)) result self.old self.new }
     {
         // Test.
         laws_of_causes();
@@ -86,8 +86,8 @@ impl<K: Keeper> Lake<K> {
         name: &RefName,
     ) -> Result<u64, StepFault>
         ensures reply { GivesOrFails result (delete_branch_reply (state self.old) repo.now name.now) }
-        ensures leaves { Leaves (record { kept = K.kept; faults = K.faults; calls = K.calls }) by
-            (Some (delete_branch repo.now name.now (lake_value self.old.present))) result self.old self.new }
+        ensures leaves { Leaves (record { kept = K.kept; faults = K.faults; calls = K.calls; successes = K.successes })
+            by (Some (delete_branch repo.now name.now (lake_value self.old.present))) result self.old self.new }
     {
         // Test.
         laws_of_causes();
@@ -124,8 +124,8 @@ impl<K: Keeper> Lake<K> {
     ) -> Result<Versions, StepFault>
         ensures reply { GivesOrFails result
             (seal_reply why (state self.old) (versions self.old) repo.now branch.now) }
-        ensures leaves { Leaves (record { kept = K.kept; faults = K.faults; calls = K.calls }) by
-            (Some (seal repo.now branch.now why (lake_value self.old.present))) result self.old self.new }
+        ensures leaves { Leaves (record { kept = K.kept; faults = K.faults; calls = K.calls; successes = K.successes })
+            by (Some (seal repo.now branch.now why (lake_value self.old.present))) result self.old self.new }
     {
         // Test.
         laws_of_causes();
@@ -174,8 +174,8 @@ impl<K: Keeper> Lake<K> {
         what: ResetWhat,
     ) -> Result<u64, StepFault>
         ensures reply { GivesOrFails result (reset_reply (state self.old) repo.now branch.now) }
-        ensures leaves { Leaves (record { kept = K.kept; faults = K.faults; calls = K.calls }) by
-            (Some (reset repo.now branch.now what (lake_value self.old.present))) result self.old self.new }
+        ensures leaves { Leaves (record { kept = K.kept; faults = K.faults; calls = K.calls; successes = K.successes })
+            by (Some (reset repo.now branch.now what (lake_value self.old.present))) result self.old self.new }
     {
         // Test.
         laws_of_causes();

@@ -19,9 +19,10 @@ pub(crate) fn fill<K: Keeper>(
 ) -> Result<LakeState, OpenFault>
     ensures { MatchResult result
         (λ lake. (lake_value lake ≡ fresh_lake cut)
-        × IsFilled (record { kept = K.kept; faults = K.faults; calls = K.calls }) cut keeper.old keeper.new)
-        (λ fault.
-        IsUnopened (record { kept = K.kept; faults = K.faults; calls = K.calls }) cut keeper.old fault keeper.new) }
+        × IsFilled (record { kept = K.kept; faults = K.faults; calls = K.calls; successes = K.successes })
+        cut keeper.old keeper.new)
+        (λ fault. IsUnopened (record { kept = K.kept; faults = K.faults; calls = K.calls; successes = K.successes })
+        cut keeper.old fault keeper.new) }
 {
     let pairs = keeper.load()?;
     if has_pairs(pairs.as_slice()) {

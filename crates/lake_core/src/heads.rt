@@ -38,8 +38,8 @@ impl<K: Keeper> Lake<K> {
             (versions self.old) repo.now branch.now version settings kind about tree }
         ensures reply { IsSwapReply (state self.old) (versions self.old) repo.now branch.now version settings
             (swap_rule kind about) (head_answer result) }
-        ensures leaves { Leaves (record { kept = K.kept; faults = K.faults; calls = K.calls }) by
-            (head_making repo.now branch.now kind about self.old.present) result self.old self.new }
+        ensures leaves { Leaves (record { kept = K.kept; faults = K.faults; calls = K.calls; successes = K.successes })
+            by (head_making repo.now branch.now kind about self.old.present) result self.old self.new }
     {
         law_of_present();
         law_of_new_heads();

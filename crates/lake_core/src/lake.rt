@@ -1,6 +1,6 @@
 //! The lake.
 ghost use Rattle.std.specs.Prelude.{◌≡◌};
-ghost use Rattle.core_standing.specs.Standing.{Stands};
+ghost use Rattle.lake_core.specs.Lakes.{Holds};
 
 use core_state::LakeState;
 use keeper::Keeper;
@@ -9,23 +9,22 @@ use std::alloc::Global;
 use std::marker::Model;
 use std::snapshot::Snapshot;
 
-/// A lake over a keeper of its pairs. Contracts see what it was opened as, the entries since then, and what it is in
-/// memory now: the replay of these entries.
+/// A lake over a keeper of its pairs. Contracts see what it was opened as and its keeper then, the entries since then,
+/// and what it is in memory now: the replay of these entries.
 #[derive(Drop)]
 pub struct Lake<K: Keeper> {
     pub(crate) alloc: Global,
     pub(crate) keeper: K,
     pub(crate) opened: Snapshot<LakeState>,
+    pub(crate) first: Snapshot<K>,
     pub(crate) history: Vec<HistoryEntry>,
     pub(crate) present: LakeState,
 }
 
 impl<K: Keeper> Model for Lake<K> {
     ghost use Rattle.std.specs.Coded.{codes};
-    ghost use Rattle.core_state.specs.LakeStates.{lake_value};
     ghost use Rattle.core_state.specs.contracts.lake.LakeState as in_memory;
-    ghost use Rattle.core_standing.specs.Standing.{Stands};
-    ghost use Rattle.lake_core.specs.Lakes.{LakeValue};
+    ghost use Rattle.lake_core.specs.Lakes.{Holds, LakeValue};
 
     ghost Value = { LakeValue K };
 
@@ -33,13 +32,20 @@ impl<K: Keeper> Model for Lake<K> {
 
     ghost view = { λ lake. record {
       opened = lake.opened.value;
+      first = lake.first.value;
       history = lake.history.items;
       present = lake.present;
       keeper = lake.keeper;
     } };
 
     ghost invariant = { λ lake.
-        Stands (lake_value lake.opened.value) lake.history.items (lake_value lake.present) };
+        Holds (record { kept = K.kept; faults = K.faults; calls = K.calls; successes = K.successes }) (record {
+          opened = lake.opened.value;
+          first = lake.first.value;
+          history = lake.history.items;
+          present = lake.present;
+          keeper = lake.keeper;
+        }) };
 }
 
 impl<K: Keeper> Lake<K> {
@@ -49,7 +55,8 @@ impl<K: Keeper> Lake<K> {
     #[tactic(auto, unfolding(core_state::specs::LakeStates::lake_value))]
     pub fn entries(&self) -> u64
         ensures count { result ≡ (lake_value self.now.present).entries }
-        ensures stands { Stands (lake_value self.now.opened) self.now.history (lake_value self.now.present) }
+        ensures stands { Holds (record { kept = K.kept; faults = K.faults; calls = K.calls; successes = K.successes })
+            self.now }
     {
         self.present.entries
     }

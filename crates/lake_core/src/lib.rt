@@ -1,15 +1,15 @@
 //! The lake: one step at a time, on a value that stands for its history.
 //!
 //! - `lake`: the lake, and its keeper; `opening`: a lake that is opened, by `filling` a keeper without pairs, or else
-//!   `open_fault`.
+//!   `open_fault`. `standing`: a lake stands behind a turn.
 //! - `repositories`, `tickets`, `paths`, `branches`, `heads`, `tags`, `notes`: the changes; `ready`: what one has ready
 //!   before it is kept.
 //! - `readings`: the readings; `preparing`: what a new head of a branch is made from.
-//! - Laws, the contracts of functions that do nothing, of all that follows an opening. `runs`: how a run grows, by the
-//!   clause of each call that changes a lake; `changes`: what a change makes of the state and of the versions;
-//!   `faults`: a fault of the store stands in a history only where the keeper's count of faults rose or stands at its
-//!   last value, and a lake is stopped exactly where one does; `numbers`: the numbers of objects ascend, so each is
-//!   given out once; `keeping_all`: no step removes anything, so nothing is expired or gone.
+//! - Laws, the contracts of functions that do nothing, of all that follows an opening. `changes`: what a change makes
+//!   of the state and of the versions; `faults`: a fault of the store stands in a history only where the keeper's count
+//!   of faults rose since the opening or stands at its last value, and a lake is stopped exactly where one does;
+//!   `numbers`: the numbers of objects ascend, so each is given out once; `keeping_all`: no step removes anything, so
+//!   nothing is expired or gone.
 //!
 //! Each change but `swap` has four blocks: it tests what may refuse it, in the one order; takes its memory; keeps its
 //! puts and its entry by one call of the keeper; and changes the lake in memory, which can't be refused any more. A
@@ -38,7 +38,7 @@ pub mod preparing;
 pub mod readings;
 mod ready;
 pub mod repositories;
-pub mod runs;
+mod standing;
 pub mod tags;
 pub mod tickets;
 
@@ -51,4 +51,3 @@ pub use keeping_all::law_of_keeping_all;
 pub use lake::Lake;
 pub use numbers::{law_of_new_numbers, law_of_numbers};
 pub use open_fault::OpenFault;
-pub use runs::law_of_runs;

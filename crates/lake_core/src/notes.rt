@@ -46,8 +46,8 @@ impl<K: Keeper> Lake<K> {
         requires text { IfSome note HasText }
         ensures reply { GivesOrFails result
             (set_note_reply (state self.old) (versions self.old) repo.now expected name note) }
-        ensures leaves { Leaves (record { kept = K.kept; faults = K.faults; calls = K.calls }) by
-            (Some (set_note repo.now name note (lake_value self.old.present))) result self.old self.new }
+        ensures leaves { Leaves (record { kept = K.kept; faults = K.faults; calls = K.calls; successes = K.successes })
+            by (Some (set_note repo.now name note (lake_value self.old.present))) result self.old self.new }
     {
         // Test.
         laws_of_causes();

@@ -21,9 +21,11 @@ impl<K: Keeper> Lake<K> {
     pub fn opened(alloc: Global, keeper: K, cut: Cut) -> Result<Lake<K>, (OpenFault, K)>
         requires { 0 < cut.modulus }
         ensures { MatchResult result
-            (λ lake. IsOpened (record { kept = K.kept; faults = K.faults; calls = K.calls }) cut keeper lake)
-            (λ refusal. IsUnopened (record { kept = K.kept; faults = K.faults; calls = K.calls }) cut keeper refusal.0
-            refusal.1) }
+            (λ lake. IsOpened (record { kept = K.kept; faults = K.faults; calls = K.calls; successes = K.successes })
+            cut keeper lake)
+            (λ refusal. IsUnopened
+            (record { kept = K.kept; faults = K.faults; calls = K.calls; successes = K.successes })
+            cut keeper refusal.0 refusal.1) }
     {
         let mut keeper = keeper;
         match fill(alloc, &mut keeper, cut) {
@@ -35,8 +37,9 @@ impl<K: Keeper> Lake<K> {
                 law_of_opening();
                 Ok(Lake {
                     alloc,
-                    keeper,
                     opened: Snapshot::of(&present),
+                    first: Snapshot::of(&keeper),
+                    keeper,
                     history: Vec::new(alloc),
                     present,
                 })

@@ -59,8 +59,8 @@ impl<K: Keeper> Lake<K> {
         requires { IfSome (put_number change) (HasTicket (state self.old) by.seat) }
         ensures reply { GivesOrFails result
             (stage_reply (state self.old) (versions self.old) repo.now branch.now version) }
-        ensures leaves { Leaves (record { kept = K.kept; faults = K.faults; calls = K.calls }) by
-            (Some (stage repo.now branch.now path change (lake_value self.old.present))) result self.old self.new }
+        ensures leaves { Leaves (record { kept = K.kept; faults = K.faults; calls = K.calls; successes = K.successes })
+            by (Some (stage repo.now branch.now path change (lake_value self.old.present))) result self.old self.new }
     {
         // Test, and take memory.
         laws_of_causes();
@@ -105,8 +105,8 @@ impl<K: Keeper> Lake<K> {
     ) -> Result<(u64, Entry), StepFault>
         ensures reply { IsCopyReply (state self.old) (versions self.old) repo.now branch.now version
             e.now from.now result }
-        ensures leaves { Leaves (record { kept = K.kept; faults = K.faults; calls = K.calls }) by
-            (copy repo.now branch.now path e.now from.now (lake_value self.old.present)) result self.old self.new }
+        ensures leaves { Leaves (record { kept = K.kept; faults = K.faults; calls = K.calls; successes = K.successes })
+            by (copy repo.now branch.now path e.now from.now (lake_value self.old.present)) result self.old self.new }
     {
         // Test, and take memory.
         law_of_copies();

@@ -44,8 +44,8 @@ impl<K: Keeper> Lake<K> {
     ) -> Result<u64, StepFault>
         requires { is_like_id branch ≡ false }
         ensures reply { IsCreateRepositoryReply (state self.old) repo branch date result }
-        ensures leaves { Leaves (record { kept = K.kept; faults = K.faults; calls = K.calls }) by
-            (Some (create_repo repo branch date (lake_value self.old.present))) result self.old self.new }
+        ensures leaves { Leaves (record { kept = K.kept; faults = K.faults; calls = K.calls; successes = K.successes })
+            by (Some (create_repo repo branch date (lake_value self.old.present))) result self.old self.new }
     {
         // Test, and take memory.
         laws_of_causes();

@@ -41,8 +41,8 @@ impl<K: Keeper> Lake<K> {
     ) -> Result<(u64, CommitId), StepFault>
         requires { is_like_id name ≡ false }
         ensures reply { IsCreateTagReply (state self.old) repo.now name e.now result }
-        ensures leaves { Leaves (record { kept = K.kept; faults = K.faults; calls = K.calls }) by
-            (create_tag repo.now name e.now (lake_value self.old.present)) result self.old self.new }
+        ensures leaves { Leaves (record { kept = K.kept; faults = K.faults; calls = K.calls; successes = K.successes })
+            by (create_tag repo.now name e.now (lake_value self.old.present)) result self.old self.new }
     {
         // Test.
         laws_of_causes();
@@ -77,8 +77,8 @@ impl<K: Keeper> Lake<K> {
     /// Deletes a tag: the place of the entry. Stopped, HistoryFull, NoRepo, NoRef.
     pub fn delete_tag(&mut self, by: By, repo: &RepoName, name: &RefName) -> Result<u64, StepFault>
         ensures reply { GivesOrFails result (delete_tag_reply (state self.old) repo.now name.now) }
-        ensures leaves { Leaves (record { kept = K.kept; faults = K.faults; calls = K.calls }) by
-            (Some (delete_tag repo.now name.now)) result self.old self.new }
+        ensures leaves { Leaves (record { kept = K.kept; faults = K.faults; calls = K.calls; successes = K.successes })
+            by (Some (delete_tag repo.now name.now)) result self.old self.new }
     {
         // Test.
         laws_of_causes();

@@ -47,8 +47,8 @@ impl<K: Keeper> Lake<K> {
         branch: &RefName,
     ) -> Result<(u64, u64), StepFault>
         ensures reply { GivesOrFails result (take_ticket_reply (state self.old) repo.now branch.now) }
-        ensures leaves { Leaves (record { kept = K.kept; faults = K.faults; calls = K.calls }) by
-            (Some (take_ticket by.seat repo.now branch.now (lake_value self.old.present))) result self.old self.new }
+        ensures leaves { Leaves (record { kept = K.kept; faults = K.faults; calls = K.calls; successes = K.successes })
+            by (Some (take_ticket by.seat repo.now branch.now (lake_value self.old.present))) result self.old self.new }
     {
         // Test.
         laws_of_causes();
@@ -78,8 +78,8 @@ impl<K: Keeper> Lake<K> {
     pub fn drop_ticket(&mut self, by: By, number: u64) -> Result<u64, StepFault>
         requires { HasTicket (state self.old) by.seat number }
         ensures reply { GivesOrFails result (drop_ticket_reply (state self.old)) }
-        ensures leaves { Leaves (record { kept = K.kept; faults = K.faults; calls = K.calls }) by
-            (Some (drop_ticket number)) result self.old self.new }
+        ensures leaves { Leaves (record { kept = K.kept; faults = K.faults; calls = K.calls; successes = K.successes })
+            by (Some (drop_ticket number)) result self.old self.new }
     {
         // Test.
         laws_of_causes();

@@ -5,5 +5,5 @@ use Rattle.lake_core.proofs.lake.Lake.are_commits.Goals as goal
 
 pub returns : goal.returns
 returns g c =
-    holds_now (λ s given. IsTrue c.are_commits.result ↔ HasSides s c.args.repo.now c.args.sides.now) c.self.view_is c.self.invariant.replayed
+    holds_now (λ s given. IsTrue c.are_commits.result ↔ HasSides s c.args.repo.now c.args.sides.now) c.self.view_is c.self.invariant.stands.replayed
     c.are_commits.ensures

@@ -7,13 +7,14 @@ use Rattle.core_changes.specs.LakeChanges.{after_branch_create}
 use Rattle.core_puts.specs.KeeperViews.{KeeperView}
 use Rattle.lake_core.specs.Lakes.{state}
 use Rattle.lake_core.specs.Makings.{branch_making, create_branch}
+use Rattle.lake_core.proofs.FaultLemmas.{kept_made, kept_refused}
 use Rattle.lake_core.proofs.StepLemmas.{holds_now, made_leaves, made_stands, refused_found, refused_leaves, refused_stands, starved_found, unkept_found}
 use Rattle.lake_core.proofs.StepLemmas.{unkept_leaves, unready_leaves}
 use Rattle.lake_core.proofs.lake.Lake.create_branch.Goals as goal
 
 pub returns-in_err-commit-clause-reply : goal.returns-in_err-commit-clause-reply
 returns-in_err-commit-clause-reply g c =
-    holds_now (λ s given. IsCreateBranchReply s c.args.repo.now c.args.name c.args.e.now c.from_residual.result) c.self.view_is c.self.invariant.replayed
+    holds_now (λ s given. IsCreateBranchReply s c.args.repo.now c.args.name c.args.e.now c.from_residual.result) c.self.view_is c.self.invariant.stands.replayed
     (refused_found (state_of (lake_value c.self.inside.present))
     (create_branch_causes (state_of (lake_value c.self.inside.present)) c.args.repo.now c.args.name c.args.e.now)
     (in_it (state_of (lake_value c.self.inside.present)) c.args.repo.now (λ r. target_in r c.args.e.now)) (c.laws_of_causes.ensures.create_branch
@@ -23,21 +24,27 @@ returns-in_err-commit-clause-reply g c =
 pub keep-requires : goal.keep-requires
 keep-requires g c =
     let none = c.in_ok-commit.ensures.0 in
-    let may = c.laws_of_names.ensures.create_branch _ _ _ c.args.by c.args.repo.now c.args.name c.args.e.now c.in_ok-commit.commit c.self.invariant c.requires
+    let may = c.laws_of_names.ensures.create_branch _ _ _ c.args.by c.args.repo.now c.args.name c.args.e.now c.in_ok-commit.commit c.self.invariant.stands
+    c.requires
     none c.in_ok-commit.ensures.1 in
     record { few = subst AreFew (sym c.in_ok-operation.ensures.same) may.few }
 
 pub invariant_of-self-in_err-keep : goal.invariant_of-self-in_err-keep
 invariant_of-self-in_err-keep g c =
     let none = c.in_ok-commit.ensures.0 in
-    let may = c.laws_of_names.ensures.create_branch _ _ _ c.args.by c.args.repo.now c.args.name c.args.e.now c.in_ok-commit.commit c.self.invariant c.requires
+    let may = c.laws_of_names.ensures.create_branch _ _ _ c.args.by c.args.repo.now c.args.name c.args.e.now c.in_ok-commit.commit c.self.invariant.stands
+    c.requires
     none c.in_ok-commit.ensures.1 in
-    refused_stands may _ _ _ _ _ _ c.self.invariant c.in_ok-operation.ensures.ready.operation refl c.in_ok-operation.ensures.same c.in_err-keep.ensures.kept
+    record {
+      stands = refused_stands may _ _ _ _ _ _ c.self.invariant.stands c.in_ok-operation.ensures.ready.operation refl c.in_ok-operation.ensures.same
+          c.in_err-keep.ensures.kept;
+      keeper = kept_refused _ _ _ _ _ c.self.invariant.keeper _ _ c.in_err-keep.ensures.kept;
+    }
 
 pub returns-in_err-keep-clause-reply : goal.returns-in_err-keep-clause-reply
 returns-in_err-keep-clause-reply g c =
     holds_now (λ s given. IsCreateBranchReply s c.args.repo.now c.args.name c.args.e.now c.from_residual-in_err-keep.result) c.self.view_is
-    c.self.invariant.replayed
+    c.self.invariant.stands.replayed
     (unkept_found _ _ _ _ _ _ (state_of (lake_value c.self.inside.present)) (create_branch_causes (state_of (lake_value c.self.inside.present))
     c.args.repo.now c.args.name c.args.e.now) (in_it (state_of (lake_value c.self.inside.present)) c.args.repo.now (λ r. target_in r c.args.e.now))
     (c.in_ok-commit.ensures.0) _ _ c.from_residual-in_err-keep.ensures.1 c.in_err-keep.ensures.kept)
@@ -54,16 +61,20 @@ returns-in_err-keep-clause-leaves g c =
 pub invariant_of-self-2 : goal.invariant_of-self-2
 invariant_of-self-2 g c =
     let none = c.in_ok-commit.ensures.0 in
-    let may = c.laws_of_names.ensures.create_branch _ _ _ c.args.by c.args.repo.now c.args.name c.args.e.now c.in_ok-commit.commit c.self.invariant c.requires
+    let may = c.laws_of_names.ensures.create_branch _ _ _ c.args.by c.args.repo.now c.args.name c.args.e.now c.in_ok-commit.commit c.self.invariant.stands
+    c.requires
     none c.in_ok-commit.ensures.1 in
-    made_stands may _ _ _ c.in_ok-operation.ensures.ready.operation c.in_ok-keep.ensures.kept.history
-    (c.create_branch.ensures
-    ∙ ap (after_branch_create c.args.repo.now c.args.name c.in_ok-commit.commit) (c.in_ok-keep.ensures.kept.present ∙ c.in_ok-operation.ensures.same))
+    record {
+      stands = made_stands may _ _ _ c.in_ok-operation.ensures.ready.operation c.in_ok-keep.ensures.kept.history
+          (c.create_branch.ensures
+          ∙ ap (after_branch_create c.args.repo.now c.args.name c.in_ok-commit.commit) (c.in_ok-keep.ensures.kept.present ∙ c.in_ok-operation.ensures.same));
+      keeper = kept_made _ _ _ _ _ c.self.invariant.keeper _ c.in_ok-keep.ensures.kept;
+    }
 
 pub returns-clause-reply : goal.returns-clause-reply
 returns-clause-reply g c =
     holds_now (λ s given. IsCreateBranchReply s c.args.repo.now c.args.name c.args.e.now (Ok (c.place.result, c.in_ok-commit.commit))) c.self.view_is
-    c.self.invariant.replayed (
+    c.self.invariant.stands.replayed (
       c.in_ok-commit.ensures.0,
       (
         c.place.ensures ∙ ap (λ l. l.entries) (c.create_branch.ensures ∙ ap (after_branch_create c.args.repo.now c.args.name
@@ -86,14 +97,16 @@ returns-clause-leaves g c =
 pub ready_create-requires : goal.ready_create-requires
 ready_create-requires g c =
     let none = c.in_ok-commit.ensures.0 in
-    let may = c.laws_of_names.ensures.create_branch _ _ _ c.args.by c.args.repo.now c.args.name c.args.e.now c.in_ok-commit.commit c.self.invariant c.requires
+    let may = c.laws_of_names.ensures.create_branch _ _ _ c.args.by c.args.repo.now c.args.name c.args.e.now c.in_ok-commit.commit c.self.invariant.stands
+    c.requires
     none c.in_ok-commit.ensures.1 in
     record { plain = c.requires; few = may.few }
 
 pub create_branch-requires-clause-few : goal.create_branch-requires-clause-few
 create_branch-requires-clause-few g c =
     let none = c.in_ok-commit.ensures.0 in
-    let may = c.laws_of_names.ensures.create_branch _ _ _ c.args.by c.args.repo.now c.args.name c.args.e.now c.in_ok-commit.commit c.self.invariant c.requires
+    let may = c.laws_of_names.ensures.create_branch _ _ _ c.args.by c.args.repo.now c.args.name c.args.e.now c.in_ok-commit.commit c.self.invariant.stands
+    c.requires
     none c.in_ok-commit.ensures.1 in
     subst AreFew (sym (c.in_ok-keep.ensures.kept.present ∙ c.in_ok-operation.ensures.same)) may.few
 
@@ -110,7 +123,7 @@ returns-in_err-operation-clause-reply g c =
 
 pub returns-in_err-operation-clause-leaves : goal.returns-in_err-operation-clause-leaves
 returns-in_err-operation-clause-leaves g c =
-    let view : KeeperView _ = record { kept = g.K.Keeper.kept; faults = g.K.Keeper.faults; calls = g.K.Keeper.calls } in
+    let view : KeeperView _ = record { kept = g.K.Keeper.kept; faults = g.K.Keeper.faults; calls = g.K.Keeper.calls; successes = g.K.Keeper.successes } in
     let inside = c.self.inside in
     unready_leaves view inside.opened.value inside.present c.ready_create.new.lake inside.history.items inside.keeper c.args.self.now c.self.view_is
     c.ready_create.ensures.same c.args.by

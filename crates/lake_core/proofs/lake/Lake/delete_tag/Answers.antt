@@ -8,13 +8,15 @@ use Rattle.core_changes.specs.LakeChanges.{after_tag_delete}
 use Rattle.core_puts.specs.KeeperViews.{KeeperView}
 use Rattle.lake_core.specs.Lakes.{state}
 use Rattle.lake_core.specs.Makings.{delete_tag}
+use Rattle.lake_core.proofs.FaultLemmas.{kept_made, kept_refused}
 use Rattle.lake_core.proofs.StepLemmas.{accepted, as_before, at_present, holds_now, made_leaves, made_stands, refused_leaves, refused_reply, refused_stands}
 use Rattle.lake_core.proofs.StepLemmas.{starved_leaves, starved_reply, unkept_leaves, unkept_reply}
 use Rattle.lake_core.proofs.lake.Lake.delete_tag.Goals as goal
 
 pub returns-in_err-test_delete_tag-clause-reply : goal.returns-in_err-test_delete_tag-clause-reply
 returns-in_err-test_delete_tag-clause-reply g c =
-    holds_now (λ s given. GivesOrFails c.from_residual.result (delete_tag_reply s c.args.repo.now c.args.name.now)) c.self.view_is c.self.invariant.replayed
+    holds_now (λ s given. GivesOrFails c.from_residual.result (delete_tag_reply s c.args.repo.now c.args.name.now)) c.self.view_is
+    c.self.invariant.stands.replayed
     (refused_reply (first_cause (delete_tag_causes (state_of (lake_value c.self.inside.present)) c.args.repo.now c.args.name.now))
     ((lake_value c.self.inside.present).entries + 1)
     (c.laws_of_causes.ensures.delete_tag (state_of (lake_value c.self.inside.present)) c.args.repo.now c.args.name.now) _ _ c.from_residual.ensures.1
@@ -23,19 +25,22 @@ returns-in_err-test_delete_tag-clause-reply g c =
 pub keep-requires : goal.keep-requires
 keep-requires g c =
     let none = c.in_ok-test_delete_tag.ensures in
-    let may = c.laws_of_names.ensures.delete_tag _ _ _ c.args.by c.args.repo.now c.args.name.now c.self.invariant none in
+    let may = c.laws_of_names.ensures.delete_tag _ _ _ c.args.by c.args.repo.now c.args.name.now c.self.invariant.stands none in
     record { few = may.few }
 
 pub invariant_of-self : goal.invariant_of-self
 invariant_of-self g c =
     let none = c.in_ok-test_delete_tag.ensures in
-    let may = c.laws_of_names.ensures.delete_tag _ _ _ c.args.by c.args.repo.now c.args.name.now c.self.invariant none in
-    refused_stands may _ _ _ _ _ _ c.self.invariant c.in_ok-operation.ensures.operation refl refl c.in_err-keep.ensures.kept
+    let may = c.laws_of_names.ensures.delete_tag _ _ _ c.args.by c.args.repo.now c.args.name.now c.self.invariant.stands none in
+    record {
+      stands = refused_stands may _ _ _ _ _ _ c.self.invariant.stands c.in_ok-operation.ensures.operation refl refl c.in_err-keep.ensures.kept;
+      keeper = kept_refused _ _ _ _ _ c.self.invariant.keeper _ _ c.in_err-keep.ensures.kept;
+    }
 
 pub returns-in_err-keep-clause-reply : goal.returns-in_err-keep-clause-reply
 returns-in_err-keep-clause-reply g c =
     holds_now (λ s given. GivesOrFails c.from_residual-in_err-keep.result (delete_tag_reply s c.args.repo.now c.args.name.now)) c.self.view_is
-    c.self.invariant.replayed
+    c.self.invariant.stands.replayed
     (unkept_reply _ _ _ _ _ _ (first_cause (delete_tag_causes (state_of (lake_value c.self.inside.present)) c.args.repo.now c.args.name.now))
     ((lake_value c.self.inside.present).entries + 1) (c.in_ok-test_delete_tag.ensures) _ _ c.from_residual-in_err-keep.ensures.1 c.in_err-keep.ensures.kept)
 
@@ -49,15 +54,18 @@ returns-in_err-keep-clause-leaves g c =
 pub invariant_of-self-2 : goal.invariant_of-self-2
 invariant_of-self-2 g c =
     let none = c.in_ok-test_delete_tag.ensures in
-    let may = c.laws_of_names.ensures.delete_tag _ _ _ c.args.by c.args.repo.now c.args.name.now c.self.invariant none in
-    made_stands may _ _ _ c.in_ok-operation.ensures.operation c.in_ok-keep.ensures.kept.history
-    (c.delete_tag.ensures ∙ ap (after_tag_delete c.args.repo.now c.args.name.now) (c.in_ok-keep.ensures.kept.present))
+    let may = c.laws_of_names.ensures.delete_tag _ _ _ c.args.by c.args.repo.now c.args.name.now c.self.invariant.stands none in
+    record {
+      stands = made_stands may _ _ _ c.in_ok-operation.ensures.operation c.in_ok-keep.ensures.kept.history
+          (c.delete_tag.ensures ∙ ap (after_tag_delete c.args.repo.now c.args.name.now) (c.in_ok-keep.ensures.kept.present));
+      keeper = kept_made _ _ _ _ _ c.self.invariant.keeper _ c.in_ok-keep.ensures.kept;
+    }
 
 pub returns-clause-reply : goal.returns-clause-reply
 returns-clause-reply g c =
     accepted {X = ℕ} (c.in_ok-test_delete_tag.ensures)
     (c.place.ensures ∙ ap (λ l. l.entries) (c.delete_tag.ensures ∙ ap (after_tag_delete c.args.repo.now c.args.name.now) (c.in_ok-keep.ensures.kept.present)))
-    ∙ at_present (λ s given. delete_tag_reply s c.args.repo.now c.args.name.now) c.self.view_is c.self.invariant.replayed
+    ∙ at_present (λ s given. delete_tag_reply s c.args.repo.now c.args.name.now) c.self.view_is c.self.invariant.stands.replayed
 
 pub returns-clause-leaves : goal.returns-clause-leaves
 returns-clause-leaves g c =
@@ -70,13 +78,13 @@ returns-clause-leaves g c =
 pub ready_delete-requires : goal.ready_delete-requires
 ready_delete-requires g c =
     let none = c.in_ok-test_delete_tag.ensures in
-    let may = c.laws_of_names.ensures.delete_tag _ _ _ c.args.by c.args.repo.now c.args.name.now c.self.invariant none in
-    c.laws_of_plain_names.ensures.delete_tag _ _ _ c.args.by c.args.repo.now c.args.name.now c.self.invariant none
+    let may = c.laws_of_names.ensures.delete_tag _ _ _ c.args.by c.args.repo.now c.args.name.now c.self.invariant.stands none in
+    c.laws_of_plain_names.ensures.delete_tag _ _ _ c.args.by c.args.repo.now c.args.name.now c.self.invariant.stands none
 
 pub delete_tag-requires : goal.delete_tag-requires
 delete_tag-requires g c =
     let none = c.in_ok-test_delete_tag.ensures in
-    let may = c.laws_of_names.ensures.delete_tag _ _ _ c.args.by c.args.repo.now c.args.name.now c.self.invariant none in
+    let may = c.laws_of_names.ensures.delete_tag _ _ _ c.args.by c.args.repo.now c.args.name.now c.self.invariant.stands none in
     record { few = subst AreFew (sym (c.in_ok-keep.ensures.kept.present)) may.few }
 
 pub returns-in_err-test_delete_tag-clause-leaves : goal.returns-in_err-test_delete_tag-clause-leaves
@@ -91,6 +99,6 @@ returns-in_err-operation-clause-reply g c =
 
 pub returns-in_err-operation-clause-leaves : goal.returns-in_err-operation-clause-leaves
 returns-in_err-operation-clause-leaves g c =
-    let view : KeeperView _ = record { kept = g.K.Keeper.kept; faults = g.K.Keeper.faults; calls = g.K.Keeper.calls } in
+    let view : KeeperView _ = record { kept = g.K.Keeper.kept; faults = g.K.Keeper.faults; calls = g.K.Keeper.calls; successes = g.K.Keeper.successes } in
     starved_leaves view c.args.self.now c.args.self.now c.args.by (Some (delete_tag c.args.repo.now c.args.name.now))
-    c.from_residual-in_err-operation.result c.from_residual-in_err-operation.ensures.1 (as_before view c.args.self.now c.args.self.now refl refl refl refl)
+    c.from_residual-in_err-operation.result c.from_residual-in_err-operation.ensures.1 (as_before view c.args.self.now c.args.self.now refl refl refl refl refl)

@@ -6,6 +6,7 @@ use Rattle.core_state.specs.Counts.{AreFew}
 use Rattle.core_state.specs.LakeStates.{lake_value, state_of}
 use Rattle.core_changes.specs.LakeChanges.{after_ticket_drop}
 use Rattle.lake_core.specs.Makings.{drop_ticket}
+use Rattle.lake_core.proofs.FaultLemmas.{kept_made, kept_refused}
 use Rattle.lake_core.proofs.StepLemmas.{accepted, at_present, held_then, holds_now, made_leaves, made_stands, refused_leaves, refused_reply, refused_stands}
 use Rattle.lake_core.proofs.StepLemmas.{unkept_leaves, unkept_reply}
 use Rattle.lake_model.specs.Uncommitted.{HasTicket}
@@ -13,7 +14,7 @@ use Rattle.lake_core.proofs.lake.Lake.drop_ticket.Goals as goal
 
 pub returns-in_err-test_change-clause-reply : goal.returns-in_err-test_change-clause-reply
 returns-in_err-test_change-clause-reply g c =
-    holds_now (λ s given. GivesOrFails c.from_residual.result (drop_ticket_reply s)) c.self.view_is c.self.invariant.replayed
+    holds_now (λ s given. GivesOrFails c.from_residual.result (drop_ticket_reply s)) c.self.view_is c.self.invariant.stands.replayed
     (refused_reply (first_cause (causes_of_change (state_of (lake_value c.self.inside.present)))) ((lake_value c.self.inside.present).entries + 1)
     (c.laws_of_causes.ensures.change (state_of (lake_value c.self.inside.present))) _ _ c.from_residual.ensures.1
     c.in_err-test_change.ensures)
@@ -21,20 +22,23 @@ returns-in_err-test_change-clause-reply g c =
 pub keep-requires : goal.keep-requires
 keep-requires g c =
     let none = c.in_ok-test_change.ensures in
-    let ticket = held_then (λ s given. HasTicket s c.args.by.seat c.args.number) c.self.view_is c.self.invariant.replayed c.requires in
-    let may = c.laws_of_tickets.ensures.drop _ _ _ c.args.by c.args.number c.self.invariant none ticket in
+    let ticket = held_then (λ s given. HasTicket s c.args.by.seat c.args.number) c.self.view_is c.self.invariant.stands.replayed c.requires in
+    let may = c.laws_of_tickets.ensures.drop _ _ _ c.args.by c.args.number c.self.invariant.stands none ticket in
     record { few = may.few }
 
 pub invariant_of-self : goal.invariant_of-self
 invariant_of-self g c =
     let none = c.in_ok-test_change.ensures in
-    let ticket = held_then (λ s given. HasTicket s c.args.by.seat c.args.number) c.self.view_is c.self.invariant.replayed c.requires in
-    let may = c.laws_of_tickets.ensures.drop _ _ _ c.args.by c.args.number c.self.invariant none ticket in
-    refused_stands may _ _ _ _ _ _ c.self.invariant c.ready_drop-operation.ensures.operation refl refl c.in_err-keep.ensures.kept
+    let ticket = held_then (λ s given. HasTicket s c.args.by.seat c.args.number) c.self.view_is c.self.invariant.stands.replayed c.requires in
+    let may = c.laws_of_tickets.ensures.drop _ _ _ c.args.by c.args.number c.self.invariant.stands none ticket in
+    record {
+      stands = refused_stands may _ _ _ _ _ _ c.self.invariant.stands c.ready_drop-operation.ensures.operation refl refl c.in_err-keep.ensures.kept;
+      keeper = kept_refused _ _ _ _ _ c.self.invariant.keeper _ _ c.in_err-keep.ensures.kept;
+    }
 
 pub returns-in_err-keep-clause-reply : goal.returns-in_err-keep-clause-reply
 returns-in_err-keep-clause-reply g c =
-    holds_now (λ s given. GivesOrFails c.from_residual-in_err-keep.result (drop_ticket_reply s)) c.self.view_is c.self.invariant.replayed
+    holds_now (λ s given. GivesOrFails c.from_residual-in_err-keep.result (drop_ticket_reply s)) c.self.view_is c.self.invariant.stands.replayed
     (unkept_reply _ _ _ _ _ _ (first_cause (causes_of_change (state_of (lake_value c.self.inside.present)))) ((lake_value c.self.inside.present).entries + 1)
     (c.in_ok-test_change.ensures) _ _ c.from_residual-in_err-keep.ensures.1 c.in_err-keep.ensures.kept)
 
@@ -48,16 +52,19 @@ returns-in_err-keep-clause-leaves g c =
 pub invariant_of-self-2 : goal.invariant_of-self-2
 invariant_of-self-2 g c =
     let none = c.in_ok-test_change.ensures in
-    let ticket = held_then (λ s given. HasTicket s c.args.by.seat c.args.number) c.self.view_is c.self.invariant.replayed c.requires in
-    let may = c.laws_of_tickets.ensures.drop _ _ _ c.args.by c.args.number c.self.invariant none ticket in
-    made_stands may _ _ _ c.ready_drop-operation.ensures.operation c.in_ok-keep.ensures.kept.history
-    (c.drop_ticket.ensures ∙ ap (after_ticket_drop c.args.number) (c.in_ok-keep.ensures.kept.present))
+    let ticket = held_then (λ s given. HasTicket s c.args.by.seat c.args.number) c.self.view_is c.self.invariant.stands.replayed c.requires in
+    let may = c.laws_of_tickets.ensures.drop _ _ _ c.args.by c.args.number c.self.invariant.stands none ticket in
+    record {
+      stands = made_stands may _ _ _ c.ready_drop-operation.ensures.operation c.in_ok-keep.ensures.kept.history
+          (c.drop_ticket.ensures ∙ ap (after_ticket_drop c.args.number) (c.in_ok-keep.ensures.kept.present));
+      keeper = kept_made _ _ _ _ _ c.self.invariant.keeper _ c.in_ok-keep.ensures.kept;
+    }
 
 pub returns-clause-reply : goal.returns-clause-reply
 returns-clause-reply g c =
     accepted {X = ℕ} (c.in_ok-test_change.ensures)
     (c.place.ensures ∙ ap (λ l. l.entries) (c.drop_ticket.ensures ∙ ap (after_ticket_drop c.args.number) (c.in_ok-keep.ensures.kept.present)))
-    ∙ at_present (λ s given. drop_ticket_reply s) c.self.view_is c.self.invariant.replayed
+    ∙ at_present (λ s given. drop_ticket_reply s) c.self.view_is c.self.invariant.stands.replayed
 
 pub returns-clause-leaves : goal.returns-clause-leaves
 returns-clause-leaves g c =
@@ -70,8 +77,8 @@ returns-clause-leaves g c =
 pub drop_ticket-requires : goal.drop_ticket-requires
 drop_ticket-requires g c =
     let none = c.in_ok-test_change.ensures in
-    let ticket = held_then (λ s given. HasTicket s c.args.by.seat c.args.number) c.self.view_is c.self.invariant.replayed c.requires in
-    let may = c.laws_of_tickets.ensures.drop _ _ _ c.args.by c.args.number c.self.invariant none ticket in
+    let ticket = held_then (λ s given. HasTicket s c.args.by.seat c.args.number) c.self.view_is c.self.invariant.stands.replayed c.requires in
+    let may = c.laws_of_tickets.ensures.drop _ _ _ c.args.by c.args.number c.self.invariant.stands none ticket in
     record { few = subst AreFew (sym (c.in_ok-keep.ensures.kept.present)) may.few }
 
 pub returns-in_err-test_change-clause-leaves : goal.returns-in_err-test_change-clause-leaves

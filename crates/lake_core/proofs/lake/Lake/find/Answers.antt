@@ -5,4 +5,5 @@ use Rattle.lake_core.proofs.lake.Lake.find.Goals as goal
 
 pub returns : goal.returns
 returns g c =
-    holds_now (λ s given. c.find.result ≡ find_reply s c.args.repo.now c.args.tags c.args.name.now) c.self.view_is c.self.invariant.replayed c.find.ensures
+    holds_now (λ s given. c.find.result ≡ find_reply s c.args.repo.now c.args.tags c.args.name.now) c.self.view_is c.self.invariant.stands.replayed
+    c.find.ensures

@@ -7,5 +7,5 @@ use Rattle.lake_core.proofs.lake.Lake.has_ticket.Goals as goal
 pub returns : goal.returns
 unfolding lake_value
 returns g c =
-    holds_now (λ s given. IsTrue c.is_ticket_of.result ↔ HasTicket s c.args.seat c.args.number) c.self.view_is c.self.invariant.replayed
+    holds_now (λ s given. IsTrue c.is_ticket_of.result ↔ HasTicket s c.args.seat c.args.number) c.self.view_is c.self.invariant.stands.replayed
     c.is_ticket_of.ensures

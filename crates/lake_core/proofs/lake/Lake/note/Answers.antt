@@ -5,5 +5,6 @@ use Rattle.lake_core.proofs.StepLemmas.{holds_now}
 use Rattle.lake_core.proofs.lake.Lake.note.Goals as goal
 
 pub returns : goal.returns
-returns g c = holds_now (λ s given. Gives (note_answer c.note.result) (note_reply s given c.args.repo.now c.args.name)) c.self.view_is c.self.invariant.replayed
-    (c.note.ensures _ c.self.invariant.versions)
+returns g c =
+    holds_now (λ s given. Gives (note_answer c.note.result) (note_reply s given c.args.repo.now c.args.name)) c.self.view_is c.self.invariant.stands.replayed
+    (c.note.ensures _ c.self.invariant.stands.versions)

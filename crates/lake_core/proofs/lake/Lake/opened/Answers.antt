@@ -3,6 +3,7 @@ use Rattle.lake_model.specs.Soundness.{IsSound}
 use Rattle.lake_model.specs.Versions.{fresh_versions}
 use Rattle.core_state.specs.FirstStates.{fresh_lake}
 use Rattle.core_state.specs.LakeStates.{lake_value}
+use Rattle.lake_core.proofs.FaultLemmas.{kept_opened}
 use Rattle.lake_core.proofs.OpeningLemmas.{stands_opened}
 use Rattle.lake_core.proofs.lake.Lake.opened.Goals as goal
 
@@ -14,4 +15,7 @@ invariant_of-result g c =
     let below = c.law_of_versions_below.ensures fresh_versions (fresh_lake cut) (founding.versions cut) c.law_of_next_versions.ensures.fresh in
     let stands = c.law_of_opening.ensures (fresh_lake cut) sound (record { entries = refl; references = refl; tickets = refl; stopped = refl }) below
     (founding.tokens cut) (founding.counted cut) (founding.index cut) c.requires in
-    stands_opened (fresh_lake cut) _ _ _ stands (ap lake_value c.of.ensures ∙ c.in-Ok.ensures.0) c.new.ensures.items c.in-Ok.ensures.0
+    record {
+      stands = stands_opened (fresh_lake cut) _ _ _ stands (ap lake_value c.of.ensures ∙ c.in-Ok.ensures.0) c.new.ensures.items c.in-Ok.ensures.0;
+      keeper = kept_opened _ _ _ _ c.of-in-Ok.ensures c.new.ensures.items;
+    }

@@ -6,4 +6,4 @@ use Rattle.lake_core.proofs.lake.Lake.repos.Goals as goal
 
 pub returns : goal.returns
 returns g c = holds_now (λ s given. Gives (list_answer c.repositories.result) (repositories_reply s c.args.after.now c.args.amount)) c.self.view_is
-    c.self.invariant.replayed c.repositories.ensures
+    c.self.invariant.stands.replayed c.repositories.ensures

@@ -9,6 +9,7 @@ use Rattle.core_changes.specs.LakeChanges.{after_seal}
 use Rattle.core_puts.specs.KeeperViews.{KeeperView}
 use Rattle.lake_core.specs.Lakes.{state, versions}
 use Rattle.lake_core.specs.Makings.{seal}
+use Rattle.lake_core.proofs.FaultLemmas.{kept_made, kept_refused}
 use Rattle.lake_core.proofs.StepLemmas.{accepted, at_present, holds_now, made_leaves, made_stands, refused_leaves, refused_reply, refused_stands, settings_at}
 use Rattle.lake_core.proofs.StepLemmas.{starved_reply, unkept_leaves, unkept_reply, unready_leaves}
 use Rattle.core_changes.specs.FreshTokens.{AreTokensBelow}
@@ -19,7 +20,7 @@ use Rattle.lake_core.proofs.lake.Lake.seal.Goals as goal
 pub returns-in_err-test_seal-clause-reply : goal.returns-in_err-test_seal-clause-reply
 returns-in_err-test_seal-clause-reply g c =
     holds_now (λ s given. GivesOrFails c.from_residual.result (seal_reply c.args.why s given c.args.repo.now c.args.branch.now)) c.self.view_is
-    c.self.invariant.replayed
+    c.self.invariant.stands.replayed
     (refused_reply (first_cause (seal_causes c.args.why (state_of (lake_value c.self.inside.present)) c.args.repo.now c.args.branch.now)) (record {
       at =
           (lake_value c.self.inside.present).entries + 1;
@@ -32,19 +33,23 @@ returns-in_err-test_seal-clause-reply g c =
 pub keep-requires : goal.keep-requires
 keep-requires g c =
     let none = c.in_ok-test_seal.ensures in
-    let may = c.laws_of_writes.ensures.seal _ _ _ c.args.by c.args.repo.now c.args.branch.now c.args.why c.self.invariant none in
+    let may = c.laws_of_writes.ensures.seal _ _ _ c.args.by c.args.repo.now c.args.branch.now c.args.why c.self.invariant.stands none in
     record { few = subst AreFew (sym c.in_ok-operation.ensures.same) may.few }
 
 pub invariant_of-self-in_err-keep : goal.invariant_of-self-in_err-keep
 invariant_of-self-in_err-keep g c =
     let none = c.in_ok-test_seal.ensures in
-    let may = c.laws_of_writes.ensures.seal _ _ _ c.args.by c.args.repo.now c.args.branch.now c.args.why c.self.invariant none in
-    refused_stands may _ _ _ _ _ _ c.self.invariant c.in_ok-operation.ensures.ready.operation refl c.in_ok-operation.ensures.same c.in_err-keep.ensures.kept
+    let may = c.laws_of_writes.ensures.seal _ _ _ c.args.by c.args.repo.now c.args.branch.now c.args.why c.self.invariant.stands none in
+    record {
+      stands = refused_stands may _ _ _ _ _ _ c.self.invariant.stands c.in_ok-operation.ensures.ready.operation refl c.in_ok-operation.ensures.same
+          c.in_err-keep.ensures.kept;
+      keeper = kept_refused _ _ _ _ _ c.self.invariant.keeper _ _ c.in_err-keep.ensures.kept;
+    }
 
 pub returns-in_err-keep-clause-reply : goal.returns-in_err-keep-clause-reply
 returns-in_err-keep-clause-reply g c =
     holds_now (λ s given. GivesOrFails c.from_residual-in_err-keep.result (seal_reply c.args.why s given c.args.repo.now c.args.branch.now)) c.self.view_is
-    c.self.invariant.replayed
+    c.self.invariant.stands.replayed
     (unkept_reply _ _ _ _ _ _ (first_cause (seal_causes c.args.why (state_of (lake_value c.self.inside.present)) c.args.repo.now c.args.branch.now))
     (record {
       at = (lake_value c.self.inside.present).entries + 1;
@@ -64,9 +69,12 @@ returns-in_err-keep-clause-leaves g c =
 pub invariant_of-self-2 : goal.invariant_of-self-2
 invariant_of-self-2 g c =
     let none = c.in_ok-test_seal.ensures in
-    let may = c.laws_of_writes.ensures.seal _ _ _ c.args.by c.args.repo.now c.args.branch.now c.args.why c.self.invariant none in
-    made_stands may _ _ _ c.in_ok-operation.ensures.ready.operation c.in_ok-keep.ensures.kept.history
-    (c.seal.ensures ∙ ap (after_seal c.args.repo.now c.args.branch.now) (c.in_ok-keep.ensures.kept.present ∙ c.in_ok-operation.ensures.same))
+    let may = c.laws_of_writes.ensures.seal _ _ _ c.args.by c.args.repo.now c.args.branch.now c.args.why c.self.invariant.stands none in
+    record {
+      stands = made_stands may _ _ _ c.in_ok-operation.ensures.ready.operation c.in_ok-keep.ensures.kept.history
+          (c.seal.ensures ∙ ap (after_seal c.args.repo.now c.args.branch.now) (c.in_ok-keep.ensures.kept.present ∙ c.in_ok-operation.ensures.same));
+      keeper = kept_made _ _ _ _ _ c.self.invariant.keeper _ c.in_ok-keep.ensures.kept;
+    }
 
 pub returns-clause-reply : goal.returns-clause-reply
 unfolding lake_value
@@ -75,14 +83,14 @@ returns-clause-reply g c =
     (ap (λ at. record { at = at; version = (lake_value c.self.inside.present).next_version; settings = c.settings_of-settings.result }) (c.place-at.ensures ∙ ap
     (λ l. l.entries) (c.seal.ensures ∙ ap (after_seal c.args.repo.now c.args.branch.now) (c.in_ok-keep.ensures.kept.present ∙ c.in_ok-operation.ensures.same)))
     ∙ ap (λ v. record { at = (lake_value c.self.inside.present).entries + 1; version = v; settings = c.settings_of-settings.result })
-    (sym c.self.invariant.versions.next)
+    (sym c.self.invariant.stands.versions.next)
     ∙ ap (λ w. record {
       at = (lake_value c.self.inside.present).entries + 1;
       version = (versions_since (lake_value c.self.inside.opened.value)
           c.self.inside.history.items).next;
       settings = w;
-    }) (c.settings_of-settings.ensures ∙ settings_at _ _ c.self.invariant.versions c.args.repo.now _ refl))
-    ∙ at_present (λ s given. seal_reply c.args.why s given c.args.repo.now c.args.branch.now) c.self.view_is c.self.invariant.replayed
+    }) (c.settings_of-settings.ensures ∙ settings_at _ _ c.self.invariant.stands.versions c.args.repo.now _ refl))
+    ∙ at_present (λ s given. seal_reply c.args.why s given c.args.repo.now c.args.branch.now) c.self.view_is c.self.invariant.stands.replayed
 
 pub returns-clause-leaves : goal.returns-clause-leaves
 returns-clause-leaves g c =
@@ -96,20 +104,24 @@ returns-clause-leaves g c =
 pub ready_seal-requires : goal.ready_seal-requires
 ready_seal-requires g c =
     let none = c.in_ok-test_seal.ensures in
-    let may = c.laws_of_writes.ensures.seal _ _ _ c.args.by c.args.repo.now c.args.branch.now c.args.why c.self.invariant none in
-    record { plain = c.laws_of_plain_names.ensures.seal _ _ _ c.args.by c.args.repo.now c.args.branch.now c.args.why c.self.invariant none; few = may.few }
+    let may = c.laws_of_writes.ensures.seal _ _ _ c.args.by c.args.repo.now c.args.branch.now c.args.why c.self.invariant.stands none in
+    record {
+      plain = c.laws_of_plain_names.ensures.seal _ _ _ c.args.by c.args.repo.now c.args.branch.now c.args.why c.self.invariant.stands none;
+      few =
+          may.few;
+    }
 
 pub seal-requires-clause-few : goal.seal-requires-clause-few
 seal-requires-clause-few g c =
     let none = c.in_ok-test_seal.ensures in
-    let may = c.laws_of_writes.ensures.seal _ _ _ c.args.by c.args.repo.now c.args.branch.now c.args.why c.self.invariant none in
+    let may = c.laws_of_writes.ensures.seal _ _ _ c.args.by c.args.repo.now c.args.branch.now c.args.why c.self.invariant.stands none in
     subst AreFew (sym (c.in_ok-keep.ensures.kept.present ∙ c.in_ok-operation.ensures.same)) may.few
 
 pub seal-requires-clause-tokens : goal.seal-requires-clause-tokens
 seal-requires-clause-tokens g c =
     let none = c.in_ok-test_seal.ensures in
-    let may = c.laws_of_writes.ensures.seal _ _ _ c.args.by c.args.repo.now c.args.branch.now c.args.why c.self.invariant none in
-    subst AreTokensBelow (sym (c.in_ok-keep.ensures.kept.present ∙ c.in_ok-operation.ensures.same)) c.self.invariant.tokens
+    let may = c.laws_of_writes.ensures.seal _ _ _ c.args.by c.args.repo.now c.args.branch.now c.args.why c.self.invariant.stands none in
+    subst AreTokensBelow (sym (c.in_ok-keep.ensures.kept.present ∙ c.in_ok-operation.ensures.same)) c.self.invariant.stands.tokens
 
 pub returns-in_err-test_seal-clause-leaves : goal.returns-in_err-test_seal-clause-leaves
 returns-in_err-test_seal-clause-leaves g c =
@@ -123,7 +135,7 @@ returns-in_err-operation-clause-reply g c =
 
 pub returns-in_err-operation-clause-leaves : goal.returns-in_err-operation-clause-leaves
 returns-in_err-operation-clause-leaves g c =
-    let view : KeeperView _ = record { kept = g.K.Keeper.kept; faults = g.K.Keeper.faults; calls = g.K.Keeper.calls } in
+    let view : KeeperView _ = record { kept = g.K.Keeper.kept; faults = g.K.Keeper.faults; calls = g.K.Keeper.calls; successes = g.K.Keeper.successes } in
     let inside = c.self.inside in
     unready_leaves view inside.opened.value inside.present c.ready_seal.new.lake inside.history.items inside.keeper c.args.self.now c.self.view_is
     c.ready_seal.ensures.same c.args.by

@@ -9,6 +9,7 @@ use Rattle.core_changes.specs.LakeChanges.{after_note_set}
 use Rattle.core_puts.specs.KeeperViews.{KeeperView}
 use Rattle.lake_core.specs.Lakes.{state, versions}
 use Rattle.lake_core.specs.Makings.{set_note}
+use Rattle.lake_core.proofs.FaultLemmas.{kept_made, kept_refused}
 use Rattle.lake_core.proofs.StepLemmas.{accepted, as_before, at_present, holds_now, made_leaves, made_stands, refused_leaves, refused_reply, refused_stands}
 use Rattle.lake_core.proofs.StepLemmas.{starved_leaves, starved_reply, unkept_leaves, unkept_reply}
 use Rattle.lake_core.proofs.lake.Lake.set_note.Goals as goal
@@ -16,34 +17,37 @@ use Rattle.lake_core.proofs.lake.Lake.set_note.Goals as goal
 pub returns-in_err-test_set_note-clause-reply : goal.returns-in_err-test_set_note-clause-reply
 returns-in_err-test_set_note-clause-reply g c =
     holds_now (λ s given. GivesOrFails c.from_residual.result (set_note_reply s given c.args.repo.now c.args.expected c.args.name c.args.note)) c.self.view_is
-    c.self.invariant.replayed
+    c.self.invariant.stands.replayed
     (refused_reply (first_cause (set_note_causes (state_of (lake_value c.self.inside.present))
     (versions_since (lake_value c.self.inside.opened.value) c.self.inside.history.items) c.args.repo.now c.args.expected c.args.name c.args.note))
     ((lake_value c.self.inside.present).entries + 1) (c.laws_of_causes.ensures.set_note (state_of (lake_value c.self.inside.present))
     (versions_since (lake_value c.self.inside.opened.value) c.self.inside.history.items) c.args.repo.now c.args.expected c.args.name c.args.note) _ _
     c.from_residual.ensures.1
-    (c.in_err-test_set_note.ensures _ c.self.invariant.versions))
+    (c.in_err-test_set_note.ensures _ c.self.invariant.stands.versions))
 
 pub keep-requires : goal.keep-requires
 keep-requires g c =
-    let none = c.in_ok-test_set_note.ensures _ c.self.invariant.versions in
-    let may = c.law_of_settings.ensures _ _ _ c.args.by c.args.repo.now c.args.expected c.args.name c.args.note c.self.invariant none c.requires.name in
+    let none = c.in_ok-test_set_note.ensures _ c.self.invariant.stands.versions in
+    let may = c.law_of_settings.ensures _ _ _ c.args.by c.args.repo.now c.args.expected c.args.name c.args.note c.self.invariant.stands none c.requires.name in
     record { few = may.few }
 
 pub invariant_of-self : goal.invariant_of-self
 invariant_of-self g c =
-    let none = c.in_ok-test_set_note.ensures _ c.self.invariant.versions in
-    let may = c.law_of_settings.ensures _ _ _ c.args.by c.args.repo.now c.args.expected c.args.name c.args.note c.self.invariant none c.requires.name in
-    refused_stands may _ _ _ _ _ _ c.self.invariant c.in_ok-operation.ensures.operation refl refl c.in_err-keep.ensures.kept
+    let none = c.in_ok-test_set_note.ensures _ c.self.invariant.stands.versions in
+    let may = c.law_of_settings.ensures _ _ _ c.args.by c.args.repo.now c.args.expected c.args.name c.args.note c.self.invariant.stands none c.requires.name in
+    record {
+      stands = refused_stands may _ _ _ _ _ _ c.self.invariant.stands c.in_ok-operation.ensures.operation refl refl c.in_err-keep.ensures.kept;
+      keeper = kept_refused _ _ _ _ _ c.self.invariant.keeper _ _ c.in_err-keep.ensures.kept;
+    }
 
 pub returns-in_err-keep-clause-reply : goal.returns-in_err-keep-clause-reply
 returns-in_err-keep-clause-reply g c =
     holds_now (λ s given. GivesOrFails c.from_residual-in_err-keep.result (set_note_reply s given c.args.repo.now c.args.expected c.args.name c.args.note))
-    c.self.view_is c.self.invariant.replayed
+    c.self.view_is c.self.invariant.stands.replayed
     (unkept_reply _ _ _ _ _ _ (first_cause (set_note_causes (state_of (lake_value c.self.inside.present))
     (versions_since (lake_value c.self.inside.opened.value) c.self.inside.history.items) c.args.repo.now c.args.expected c.args.name c.args.note))
     ((lake_value c.self.inside.present).entries + 1)
-    (c.in_ok-test_set_note.ensures _ c.self.invariant.versions) _ _ c.from_residual-in_err-keep.ensures.1 c.in_err-keep.ensures.kept)
+    (c.in_ok-test_set_note.ensures _ c.self.invariant.stands.versions) _ _ c.from_residual-in_err-keep.ensures.1 c.in_err-keep.ensures.kept)
 
 pub returns-in_err-keep-clause-leaves : goal.returns-in_err-keep-clause-leaves
 returns-in_err-keep-clause-leaves g c =
@@ -55,16 +59,19 @@ returns-in_err-keep-clause-leaves g c =
 
 pub invariant_of-self-2 : goal.invariant_of-self-2
 invariant_of-self-2 g c =
-    let none = c.in_ok-test_set_note.ensures _ c.self.invariant.versions in
-    let may = c.law_of_settings.ensures _ _ _ c.args.by c.args.repo.now c.args.expected c.args.name c.args.note c.self.invariant none c.requires.name in
-    made_stands may _ _ _ c.in_ok-operation.ensures.operation c.in_ok-keep.ensures.kept.history
-    (c.set_note.ensures ∙ ap (after_note_set c.args.repo.now c.args.name c.args.note) (c.in_ok-keep.ensures.kept.present))
+    let none = c.in_ok-test_set_note.ensures _ c.self.invariant.stands.versions in
+    let may = c.law_of_settings.ensures _ _ _ c.args.by c.args.repo.now c.args.expected c.args.name c.args.note c.self.invariant.stands none c.requires.name in
+    record {
+      stands = made_stands may _ _ _ c.in_ok-operation.ensures.operation c.in_ok-keep.ensures.kept.history
+          (c.set_note.ensures ∙ ap (after_note_set c.args.repo.now c.args.name c.args.note) (c.in_ok-keep.ensures.kept.present));
+      keeper = kept_made _ _ _ _ _ c.self.invariant.keeper _ c.in_ok-keep.ensures.kept;
+    }
 
 pub returns-clause-reply : goal.returns-clause-reply
 returns-clause-reply g c =
-    accepted {X = ℕ} (c.in_ok-test_set_note.ensures _ c.self.invariant.versions) (c.place.ensures
+    accepted {X = ℕ} (c.in_ok-test_set_note.ensures _ c.self.invariant.stands.versions) (c.place.ensures
     ∙ ap (λ l. l.entries) (c.set_note.ensures ∙ ap (after_note_set c.args.repo.now c.args.name c.args.note) (c.in_ok-keep.ensures.kept.present)))
-    ∙ at_present (λ s given. set_note_reply s given c.args.repo.now c.args.expected c.args.name c.args.note) c.self.view_is c.self.invariant.replayed
+    ∙ at_present (λ s given. set_note_reply s given c.args.repo.now c.args.expected c.args.name c.args.note) c.self.view_is c.self.invariant.stands.replayed
 
 pub returns-clause-leaves : goal.returns-clause-leaves
 returns-clause-leaves g c =
@@ -77,26 +84,26 @@ returns-clause-leaves g c =
 
 pub ready_note-requires : goal.ready_note-requires
 ready_note-requires g c =
-    let none = c.in_ok-test_set_note.ensures _ c.self.invariant.versions in
-    let may = c.law_of_settings.ensures _ _ _ c.args.by c.args.repo.now c.args.expected c.args.name c.args.note c.self.invariant none c.requires.name in
+    let none = c.in_ok-test_set_note.ensures _ c.self.invariant.stands.versions in
+    let may = c.law_of_settings.ensures _ _ _ c.args.by c.args.repo.now c.args.expected c.args.name c.args.note c.self.invariant.stands none c.requires.name in
     record {
       name = c.requires.name;
       text = c.requires.text;
-      plain = c.laws_of_plain_names.ensures.default_branch _ _ _ c.args.repo.now c.self.invariant;
+      plain = c.laws_of_plain_names.ensures.default_branch _ _ _ c.args.repo.now c.self.invariant.stands;
       few = may.few;
     }
 
 pub set_note-requires : goal.set_note-requires
 set_note-requires g c =
-    let none = c.in_ok-test_set_note.ensures _ c.self.invariant.versions in
-    let may = c.law_of_settings.ensures _ _ _ c.args.by c.args.repo.now c.args.expected c.args.name c.args.note c.self.invariant none c.requires.name in
+    let none = c.in_ok-test_set_note.ensures _ c.self.invariant.stands.versions in
+    let may = c.law_of_settings.ensures _ _ _ c.args.by c.args.repo.now c.args.expected c.args.name c.args.note c.self.invariant.stands none c.requires.name in
     record { few = subst AreFew (sym (c.in_ok-keep.ensures.kept.present)) may.few }
 
 pub returns-in_err-test_set_note-clause-leaves : goal.returns-in_err-test_set_note-clause-leaves
 returns-in_err-test_set_note-clause-leaves g c =
     refused_leaves _ _ (Some (set_note c.args.repo.now c.args.name c.args.note (lake_value c.args.self.now.present))) _ _ refl _ _ c.from_residual.ensures.1
     (c.laws_of_causes.ensures.set_note (state_of (lake_value c.self.inside.present)) (versions_since (lake_value c.self.inside.opened.value)
-    c.self.inside.history.items) c.args.repo.now c.args.expected c.args.name c.args.note _ (c.in_err-test_set_note.ensures _ c.self.invariant.versions))
+    c.self.inside.history.items) c.args.repo.now c.args.expected c.args.name c.args.note _ (c.in_err-test_set_note.ensures _ c.self.invariant.stands.versions))
 
 pub returns-in_err-operation-clause-reply : goal.returns-in_err-operation-clause-reply
 returns-in_err-operation-clause-reply g c =
@@ -105,6 +112,6 @@ returns-in_err-operation-clause-reply g c =
 
 pub returns-in_err-operation-clause-leaves : goal.returns-in_err-operation-clause-leaves
 returns-in_err-operation-clause-leaves g c =
-    let view : KeeperView _ = record { kept = g.K.Keeper.kept; faults = g.K.Keeper.faults; calls = g.K.Keeper.calls } in
+    let view : KeeperView _ = record { kept = g.K.Keeper.kept; faults = g.K.Keeper.faults; calls = g.K.Keeper.calls; successes = g.K.Keeper.successes } in
     starved_leaves view c.args.self.now c.args.self.now c.args.by (Some (set_note c.args.repo.now c.args.name c.args.note (lake_value c.args.self.now.present)))
-    c.from_residual-in_err-operation.result c.from_residual-in_err-operation.ensures.1 (as_before view c.args.self.now c.args.self.now refl refl refl refl)
+    c.from_residual-in_err-operation.result c.from_residual-in_err-operation.ensures.1 (as_before view c.args.self.now c.args.self.now refl refl refl refl refl)

@@ -8,13 +8,15 @@ use Rattle.core_changes.specs.LakeChanges.{after_ticket_take}
 use Rattle.core_puts.specs.KeeperViews.{KeeperView}
 use Rattle.lake_core.specs.Lakes.{state}
 use Rattle.lake_core.specs.Makings.{take_ticket}
+use Rattle.lake_core.proofs.FaultLemmas.{kept_made, kept_refused}
 use Rattle.lake_core.proofs.StepLemmas.{accepted, at_present, holds_now, made_leaves, made_stands, refused_leaves, refused_reply, refused_stands, starved_reply}
 use Rattle.lake_core.proofs.StepLemmas.{unkept_leaves, unkept_reply, unready_leaves}
 use Rattle.lake_core.proofs.lake.Lake.take_ticket.Goals as goal
 
 pub returns-in_err-test_write-clause-reply : goal.returns-in_err-test_write-clause-reply
 returns-in_err-test_write-clause-reply g c =
-    holds_now (λ s given. GivesOrFails c.from_residual.result (take_ticket_reply s c.args.repo.now c.args.branch.now)) c.self.view_is c.self.invariant.replayed
+    holds_now (λ s given. GivesOrFails c.from_residual.result (take_ticket_reply s c.args.repo.now c.args.branch.now)) c.self.view_is
+    c.self.invariant.stands.replayed
     (refused_reply (first_cause (write_causes (state_of (lake_value c.self.inside.present)) c.args.repo.now c.args.branch.now))
     ((lake_value c.self.inside.present).entries + 1, (lake_value c.self.inside.present).next_number)
     (c.laws_of_causes.ensures.write (state_of (lake_value c.self.inside.present)) c.args.repo.now c.args.branch.now) _ _ c.from_residual.ensures.1
@@ -23,19 +25,23 @@ returns-in_err-test_write-clause-reply g c =
 pub keep-requires : goal.keep-requires
 keep-requires g c =
     let none = c.in_ok-test_write.ensures in
-    let may = c.laws_of_tickets.ensures.take _ _ _ c.args.by c.args.repo.now c.args.branch.now c.self.invariant none in
+    let may = c.laws_of_tickets.ensures.take _ _ _ c.args.by c.args.repo.now c.args.branch.now c.self.invariant.stands none in
     record { few = subst AreFew (sym c.in_ok-operation.ensures.same) may.few }
 
 pub invariant_of-self-in_err-keep : goal.invariant_of-self-in_err-keep
 invariant_of-self-in_err-keep g c =
     let none = c.in_ok-test_write.ensures in
-    let may = c.laws_of_tickets.ensures.take _ _ _ c.args.by c.args.repo.now c.args.branch.now c.self.invariant none in
-    refused_stands may _ _ _ _ _ _ c.self.invariant c.in_ok-operation.ensures.ready.operation refl c.in_ok-operation.ensures.same c.in_err-keep.ensures.kept
+    let may = c.laws_of_tickets.ensures.take _ _ _ c.args.by c.args.repo.now c.args.branch.now c.self.invariant.stands none in
+    record {
+      stands = refused_stands may _ _ _ _ _ _ c.self.invariant.stands c.in_ok-operation.ensures.ready.operation refl c.in_ok-operation.ensures.same
+          c.in_err-keep.ensures.kept;
+      keeper = kept_refused _ _ _ _ _ c.self.invariant.keeper _ _ c.in_err-keep.ensures.kept;
+    }
 
 pub returns-in_err-keep-clause-reply : goal.returns-in_err-keep-clause-reply
 returns-in_err-keep-clause-reply g c =
     holds_now (λ s given. GivesOrFails c.from_residual-in_err-keep.result (take_ticket_reply s c.args.repo.now c.args.branch.now)) c.self.view_is
-    c.self.invariant.replayed
+    c.self.invariant.stands.replayed
     (unkept_reply _ _ _ _ _ _ (first_cause (write_causes (state_of (lake_value c.self.inside.present)) c.args.repo.now c.args.branch.now))
     ((lake_value c.self.inside.present).entries + 1, (lake_value c.self.inside.present).next_number)
     (c.in_ok-test_write.ensures) _ _ c.from_residual-in_err-keep.ensures.1 c.in_err-keep.ensures.kept)
@@ -51,16 +57,19 @@ returns-in_err-keep-clause-leaves g c =
 pub invariant_of-self-2 : goal.invariant_of-self-2
 invariant_of-self-2 g c =
     let none = c.in_ok-test_write.ensures in
-    let may = c.laws_of_tickets.ensures.take _ _ _ c.args.by c.args.repo.now c.args.branch.now c.self.invariant none in
-    made_stands may _ _ _ c.in_ok-operation.ensures.ready.operation c.in_ok-keep.ensures.kept.history
-    (c.take_ticket.ensures ∙ ap (after_ticket_take c.args.by.seat) (c.in_ok-keep.ensures.kept.present ∙ c.in_ok-operation.ensures.same))
+    let may = c.laws_of_tickets.ensures.take _ _ _ c.args.by c.args.repo.now c.args.branch.now c.self.invariant.stands none in
+    record {
+      stands = made_stands may _ _ _ c.in_ok-operation.ensures.ready.operation c.in_ok-keep.ensures.kept.history
+          (c.take_ticket.ensures ∙ ap (after_ticket_take c.args.by.seat) (c.in_ok-keep.ensures.kept.present ∙ c.in_ok-operation.ensures.same));
+      keeper = kept_made _ _ _ _ _ c.self.invariant.keeper _ c.in_ok-keep.ensures.kept;
+    }
 
 pub returns-clause-reply : goal.returns-clause-reply
 unfolding lake_value
 returns-clause-reply g c =
     accepted {X = (ℕ × ℕ)} (c.in_ok-test_write.ensures) (ap (λ at. (at, c.self.inside.present.next_number)) (c.place.ensures
     ∙ ap (λ l. l.entries) (c.take_ticket.ensures ∙ ap (after_ticket_take c.args.by.seat) (c.in_ok-keep.ensures.kept.present ∙ c.in_ok-operation.ensures.same))))
-    ∙ at_present (λ s given. take_ticket_reply s c.args.repo.now c.args.branch.now) c.self.view_is c.self.invariant.replayed
+    ∙ at_present (λ s given. take_ticket_reply s c.args.repo.now c.args.branch.now) c.self.view_is c.self.invariant.stands.replayed
 
 pub returns-clause-leaves : goal.returns-clause-leaves
 returns-clause-leaves g c =
@@ -74,13 +83,13 @@ returns-clause-leaves g c =
 pub ready_ticket-requires : goal.ready_ticket-requires
 ready_ticket-requires g c =
     let none = c.in_ok-test_write.ensures in
-    let may = c.laws_of_tickets.ensures.take _ _ _ c.args.by c.args.repo.now c.args.branch.now c.self.invariant none in
+    let may = c.laws_of_tickets.ensures.take _ _ _ c.args.by c.args.repo.now c.args.branch.now c.self.invariant.stands none in
     record { few = may.few }
 
 pub take_ticket-requires-clause-few : goal.take_ticket-requires-clause-few
 take_ticket-requires-clause-few g c =
     let none = c.in_ok-test_write.ensures in
-    let may = c.laws_of_tickets.ensures.take _ _ _ c.args.by c.args.repo.now c.args.branch.now c.self.invariant none in
+    let may = c.laws_of_tickets.ensures.take _ _ _ c.args.by c.args.repo.now c.args.branch.now c.self.invariant.stands none in
     subst AreFew (sym (c.in_ok-keep.ensures.kept.present ∙ c.in_ok-operation.ensures.same)) may.few
 
 pub returns-in_err-test_write-clause-leaves : goal.returns-in_err-test_write-clause-leaves
@@ -96,7 +105,7 @@ returns-in_err-operation-clause-reply g c =
 
 pub returns-in_err-operation-clause-leaves : goal.returns-in_err-operation-clause-leaves
 returns-in_err-operation-clause-leaves g c =
-    let view : KeeperView _ = record { kept = g.K.Keeper.kept; faults = g.K.Keeper.faults; calls = g.K.Keeper.calls } in
+    let view : KeeperView _ = record { kept = g.K.Keeper.kept; faults = g.K.Keeper.faults; calls = g.K.Keeper.calls; successes = g.K.Keeper.successes } in
     let inside = c.self.inside in
     unready_leaves view inside.opened.value inside.present c.ready_ticket.new.lake inside.history.items inside.keeper c.args.self.now c.self.view_is
     c.ready_ticket.ensures.same c.args.by
