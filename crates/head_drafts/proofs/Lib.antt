@@ -1,4 +1,3 @@
-pub mod DraftLemmas
-pub mod MapLemmas
+pub mod ReadingLemmas
 pub mod ReadyLemmas
 pub mod WaitingLemmas

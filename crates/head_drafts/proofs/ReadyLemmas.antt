@@ -1,14 +1,10 @@
 -- What was drafted is ready to be made the head.
-use Rattle.std.proofs.Common.{◌≡◌, ℕ, Bool, true, false, List, Some, None, Option, option_map, refl, sym, ap, subst, ◌∙◌}
-use Rattle.std.specs.Prelude.{Result, Ok, Err, [], IfSome, if◌then◌else◌}
+use Rattle.std.proofs.Common.{◌≡◌, ℕ, List, Some, None, Option, refl, sym, ap, subst, ◌∙◌}
+use Rattle.std.specs.Prelude.{Result, Ok, Err, IfSome}
 use Rattle.std.specs.FinMap.{get}
 use Rattle.std.specs.Result.{IsErrAnd}
-use Rattle.std.specs.Option.{option_map_or, option_or, unwrap_or}
+use Rattle.std.specs.Option.{option_map_or}
 use Rattle.lake_values.specs.Commit.{AboutValue}
-use Rattle.lake_values.specs.HookDecisions.{denying_rule}
-use Rattle.lake_values.specs.KeyMap.{KeyMapValue, differences}
-use Rattle.lake_values.specs.Merging.{is_refused}
-use Rattle.lake_values.specs.declared.settings.HookRule.{HookRule}
 use Rattle.meta_range.specs.Ranges.{TreeValue}
 use Rattle.lake_model.specs.declared.fault.StepFault.{StepFault}
 use Rattle.lake_model.specs.declared.fault.StepFault.TheVariants as step
@@ -16,50 +12,23 @@ use Rattle.lake_model.specs.declared.fault.Reference.TheVariants.{Named}
 use Rattle.lake_model.specs.declared.reply.Sides.{Sides}
 use Rattle.lake_model.specs.declared.reply.SwapKind.{SwapKind}
 use Rattle.lake_model.specs.declared.reply.SwapKind.TheVariants as kind
-use Rattle.lake_model.specs.Commits.{Draft as AnyDraft, denied_by, merge_sides, pick_sides}
 use Rattle.lake_model.specs.Preparing.{PreparedValue, expired_source, preparation, prepare_reply}
 use Rattle.lake_model.specs.Refusals.{Gives, unless_refused}
-use Rattle.lake_model.specs.State.{Branch, Repository, State, head_map, sealed_map}
+use Rattle.lake_model.specs.State.{Branch, Repository, State}
 use Rattle.lake_model.specs.Steps.{swap_rule}
 use Rattle.lake_model.specs.Versions.{VersionsGiven}
+use Rattle.lake_laws.specs.Unrefused.{HasCommitsOf}
+use Rattle.lake_laws.proofs.HeadRefusalLemmas.{worth_making}
 use Rattle.core_readings.specs.Preparations.{AreCommits, HasSides}
 use Rattle.lake_core.specs.HeadConditions.{IsReadyFor, IsReadyOn}
 use Rattle.core_readings.specs.Trees.{IsCutTree}
-use Rattle.head_drafts.specs.Drafts.{DraftedMap, IsDraft, drafted_map, unchanged_fault, no_changes}
+use Rattle.head_drafts.specs.Drafts.{DraftedMap, IsDraft, drafted_map}
 use Rattle.head_drafts.specs.HeadDrafts.{IsHeadDraft, IsHeadReply, sides_of, strategy_of}
 use Rattle.head_drafts.specs.declared.fault.DraftFault.{DraftFault}
-use Rattle.head_drafts.specs.declared.fault.DraftFault.TheVariants.{Dirty, HookDenied}
 use Rattle.head_drafts.specs.declared.fault.HeadFault.{HeadFault}
 use Rattle.head_drafts.specs.declared.fault.HeadFault.TheVariants.{Step, Draft}
 use Rattle.head_drafts.specs.declared.heads.HeadDraft.{HeadDraft}
-use Rattle.head_drafts.proofs.MapLemmas.{differ_nowhere, same_maps}
-
--- ---- no cause holds
-
--- of two, neither
-pub neither : (first later : Option DraftFault) → option_or first later ≡ None → (first ≡ None) × (later ≡ None)
-neither None later none = (refl, none)
-neither (Some fault) later none = absurd cc
-
--- no fault of what is no fault
-none_under : {X : Type 0} (f : X → DraftFault) (o : Option X) → option_map f o ≡ None → o ≡ None
-none_under f None none = refl
-none_under f (Some x) none = absurd cc
-
--- a map that changes differs
-changes : (new old : KeyMapValue) → unchanged_fault new old ≡ None → new ≡ old → ⊥
-changes new old none same = let lost : no_changes None ≡ None = sym (ap no_changes (differ_nowhere new old same)) ∙ none in absurd cc
-
--- no path conflicts for which there is no strategy
-settled : (b : Bool) (fault : DraftFault) → (if b then Some fault else None) ≡ None → b ≡ false
-settled true fault none = absurd cc
-settled false fault none = refl
-
--- where no rules are set, none denies
-allowed : (rules : Option (List HookRule)) (branch : List ℕ) (old : KeyMapValue) (draft : AnyDraft)
-    → denying_rule (unwrap_or rules []) branch draft.about.metadata (differences draft.objects old) ≡ None → denied_by rules branch old draft ≡ None
-allowed None branch old draft none = refl
-allowed (Some rules) branch old draft none = none
+use Rattle.head_drafts.proofs.ReadingLemmas.{same_refusal}
 
 -- ---- what was handed out
 
@@ -109,52 +78,23 @@ module _ (state : State) (given : VersionsGiven) (repo branch : List ℕ) (about
   abbrev draft_for : SwapKind → DraftedMap
   draft_for swap = drafted_map (strategy_of swap) (preparation state given repo branch (sides_of swap) r b) branch about.metadata
 
-  ready_on : (swap : SwapKind) → ((sides : Sides) → sides_of swap ≡ Some sides → AreCommits r sides) → (draft_for swap).fault ≡ None
+  -- the commits are there
+  have_commits : (swap : SwapKind) → ((sides : Sides) → sides_of swap ≡ Some sides → AreCommits r sides) → HasCommitsOf swap r
+  have_commits kind.Commit are = tt
+  have_commits (kind.Merge source strategy) are = are _ refl
+  have_commits (kind.Pick base source strategy) are = are _ refl
+
+  -- what is drafted is the map of the new head
+  same_objects : (swap : SwapKind) → (draft_for swap).objects ≡ ((swap_rule swap about).draft r b).objects
+  same_objects kind.Commit = refl
+  same_objects (kind.Merge source strategy) = refl
+  same_objects (kind.Pick base source strategy) = refl
+
+  ready_on : (swap : SwapKind) → ((sides : Sides) → sides_of swap ≡ Some sides → AreCommits r sides) → (draft_for swap).refusal ≡ None
       → IsCutTree state.cut (draft_for swap).objects tree → IsReadyOn state branch swap about tree r b
-  ready_on kind.Commit are none is =
-      let both = neither _ _ none in
-      record {
-        worth = changes _ _ both.0;
-        allowed = allowed r.notes.hooks branch (head_map r b) ((swap_rule kind.Commit about).draft r b) (none_under HookDenied _ both.1);
-        drafted = is;
-      }
-  ready_on (kind.Merge source strategy) are none is =
-      let clean = neither _ _ none in
-      let changed = neither _ _ clean.1 in
-      let open_ones = neither _ _ changed.1 in
-      let sides = merge_sides r b source strategy in
-      record {
-        worth = (
-          are _ refl,
-          record {
-            clean = same_maps (sealed_map r b) (head_map r b) (none_under Dirty _ clean.0);
-            changed = changes _ _ changed.0;
-            settled = settled (is_refused strategy sides.base sides.source (head_map r b)) _ open_ones.0;
-          },
-        );
-        allowed = allowed r.notes.hooks branch (head_map r b) ((swap_rule (kind.Merge source strategy) about).draft r b) (none_under HookDenied _ open_ones.1);
-        drafted = is;
-      }
-  ready_on (kind.Pick base source strategy) are none is =
-      let clean = neither _ _ none in
-      let changed = neither _ _ clean.1 in
-      let open_ones = neither _ _ changed.1 in
-      let sides = pick_sides r base source strategy in
-      let both = are _ refl in
-      record {
-        worth = (
-          both.0,
-          both.1,
-          record {
-            clean = same_maps (sealed_map r b) (head_map r b) (none_under Dirty _ clean.0);
-            changed = changes _ _ changed.0;
-            settled = settled (is_refused strategy sides.base sides.source (head_map r b)) _ open_ones.0;
-          },
-        );
-        allowed =
-            allowed r.notes.hooks branch (head_map r b) ((swap_rule (kind.Pick base source strategy) about).draft r b) (none_under HookDenied _ open_ones.1);
-        drafted = is;
-      }
+  ready_on swap are none is =
+      let both = worth_making branch about r b swap (have_commits swap are) (same_refusal state given repo branch about r b swap ∙ none) in
+      record { worth = both.0; allowed = both.1; drafted = subst (λ objects. IsCutTree state.cut objects tree) (same_objects swap) is }
 
 -- what was drafted of what a branch that is there handed out is ready
 pub ready_there : (state : State) (given : VersionsGiven) (repo branch : List ℕ) (about : AboutValue) (swap : SwapKind) (p : PreparedValue) (tree : TreeValue)

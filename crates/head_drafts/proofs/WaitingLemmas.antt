@@ -23,19 +23,19 @@ use Rattle.lake_model.specs.History.{IsLegal, replay}
 use Rattle.lake_model.specs.Preparing.{PreparedValue, prepare_reply}
 use Rattle.lake_model.specs.Soundness.{IsSound}
 use Rattle.lake_model.specs.Steps.{is_current, swap_rule}
-use Rattle.lake_model.specs.Versions.{AreBelowNext, VersionsGiven, branch_version, count_versions, settings_version}
+use Rattle.lake_model.specs.Versions.{AreBelowNext, VersionsGiven, branch_version, count_versions, settings_version, versions_after}
 use Rattle.lake_laws.proofs.BasesLemmas.{bases_in, keeps_commits}
 use Rattle.lake_laws.proofs.BranchLemmas.{branch_same}
 use Rattle.lake_laws.proofs.HistoryLemmas.{IsLegal-later, kept-replay, replay-append}
 use Rattle.lake_laws.proofs.RepositoryLemmas.{cut_after}
 use Rattle.lake_laws.proofs.SettingsLemmas.{notes_same}
-use Rattle.lake_laws.proofs.SoundnessLemmas.{IsSound-replay}
+use Rattle.lake_laws.proofs.VersionLemmas.{AreBelowNext-after}
 use Rattle.lake_laws.specs.Prepared.{IsWorthMaking}
 use Rattle.core_readings.specs.Preparations.{HasSides}
 use Rattle.core_state.specs.Counts.{versions_of}
 use Rattle.core_state.specs.declared.lake.LakeState.{LakeState}
-use Rattle.core_state.specs.LakeStates.{LakeStateValue, lake_value, state_of}
-use Rattle.core_standing.specs.Standing.{Stands, versions_since}
+use Rattle.core_state.specs.LakeStates.{lake_value, state_of}
+use Rattle.core_standing.specs.Standing.{versions_since}
 use Rattle.lake_core.specs.HeadConditions.{IsReadyFor, IsReadyOn}
 use Rattle.lake_core.specs.Lakes.{LakeValue, state, versions}
 use Rattle.head_drafts.specs.Drafts.{IsDraft, drafted_map}
@@ -131,51 +131,39 @@ commit_there r id = by (commit_of r.commits id) refl
     by (Some c) is there = (c, is)
     by None is there = let none = ap is_some is in absurd cc
 
-module _ (state : State) (given : VersionsGiven) (history later : List HistoryEntry) (repo branch : List ℕ)
-    (sound : IsSound (replay state history)) (below : AreBelowNext given) (legal : IsLegal state (history ++ later))
-    (r s : Repository) (b c : Branch)
-    (at : get (replay state history).repositories repo ≡ Some r) (on : get r.branches branch ≡ Some b)
-    (after : get (replay state (history ++ later)).repositories repo ≡ Some s) (on_later : get s.branches branch ≡ Some c)
-    (version : branch_version (count_versions given history) repo branch ≡ branch_version (count_versions given (history ++ later)) repo branch)
-    (settings : settings_version (count_versions given history) repo ≡ settings_version (count_versions given (history ++ later)) repo) where
-  abbrev early : State
-  early = replay state history
-
+module _ (state : State) (given : VersionsGiven) (later : List HistoryEntry) (repo branch : List ℕ)
+    (sound : IsSound state) (below : AreBelowNext given) (legal : IsLegal state later) (r s : Repository) (b c : Branch)
+    (at : get state.repositories repo ≡ Some r) (on : get r.branches branch ≡ Some b)
+    (after : get (replay state later).repositories repo ≡ Some s) (on_later : get s.branches branch ≡ Some c)
+    (version : branch_version given repo branch ≡ branch_version (count_versions given later) repo branch)
+    (settings : settings_version given repo ≡ settings_version (count_versions given later) repo) where
   abbrev late : State
-  late = replay state (history ++ later)
+  late = replay state later
 
-  goes_on : IsLegal early later
-  goes_on = IsLegal-later state history later legal
-
-  from_early : get (replay early later).repositories repo ≡ Some s
-  from_early = ap (λ (x : State). get x.repositories repo) (sym (replay-append state history later)) ∙ after
-
-  same_cut : late.cut ≡ early.cut
-  same_cut =
-      ap (λ (x : State). x.cut) (replay-append state history later)
-      ∙ kept-replay (λ x. x.cut ≡ early.cut) later early (λ x entry may is. cut_after x entry ∙ is) goes_on refl
+  same_cut : late.cut ≡ state.cut
+  same_cut = kept-replay (λ x. x.cut ≡ state.cut) later state (λ x entry may is. cut_after x entry ∙ is) legal refl
 
   branch_at : (x : State) (q : Repository) (d : Branch) → get x.repositories repo ≡ Some q → get q.branches branch ≡ Some d → branch_of x repo branch ≡ Some d
   branch_at x q d is has = ap (option_and_then (λ p. get p.branches branch)) is ∙ has
 
   same_branch : (c.head ≡ b.head) × (c.sealed ≡ b.sealed)
-  same_branch = branch_same state given history later repo branch b c below legal (branch_at early r b at on) (branch_at late s c after on_later) version
+  same_branch = branch_same state given [] later repo branch b c below legal (branch_at state r b at on) (branch_at late s c after on_later) version
 
   same_notes : s.notes ≡ r.notes
-  same_notes = notes_same state given history later repo r s below legal at after settings
+  same_notes = notes_same state given [] later repo r s below legal at after settings
 
   kept_maps : (id : Digest) → HasCommit r id → HasCommit s id × (map_of s id ≡ map_of r id)
   kept_maps id has =
       let one = commit_there r id has in
-      let kept = keeps_commits early later repo r sound goes_on at s from_early id one.0 one.1 in
+      let kept = keeps_commits state later repo r sound legal at s after id one.0 one.1 in
       (ap is_some kept.0, kept.1)
 
-  pub ready_later : (swap : SwapKind) (about : AboutValue) (tree : TreeValue) → IsReadyOn early branch swap about tree r b
+  pub ready_later : (swap : SwapKind) (about : AboutValue) (tree : TreeValue) → IsReadyOn state branch swap about tree r b
       → IsReadyOn late branch swap about tree s c
   ready_later swap about tree =
-      still_ready early late repo r s b c same_cut same_branch.0 same_branch.1 same_notes
+      still_ready state late repo r s b c same_cut same_branch.0 same_branch.1 same_notes
       ((sound.repositories repo r at).heads branch b on).0 kept_maps
-      (λ x y has also. bases_in early later repo r sound goes_on at x y has also s from_early)
+      (λ x y has also. bases_in state later repo r sound legal at x y has also s after)
       (λ x y id is. (base_is r.commits (sound.repositories repo r at).graph x y id is).common.0.0)
       branch about tree swap
 
@@ -189,49 +177,60 @@ both_are given repo branch version settings is =
     (eqb-true version (branch_version given repo branch) both.0, eqb-true settings (settings_version given repo) both.1)
 
 -- a draft that was ready by the versions of then is ready by them whatever legal entries follow
-pub ready_by_then : (state : State) (given : VersionsGiven) (history later : List HistoryEntry) (repo branch : List ℕ) (version settings : ℕ) (swap : SwapKind)
-    (about : AboutValue) (tree : TreeValue) (r : Repository) (b : Branch) → IsSound (replay state history) → AreBelowNext given
-    → IsLegal state (history ++ later)
-    → get (replay state history).repositories repo ≡ Some r → get r.branches branch ≡ Some b
-    → branch_version (count_versions given history) repo branch ≡ version → settings_version (count_versions given history) repo ≡ settings
-    → IsReadyOn (replay state history) branch swap about tree r b
-    → IsReadyFor (replay state (history ++ later)) (count_versions given (history ++ later)) repo branch version settings swap about tree
-ready_by_then state given history later repo branch version settings swap about tree r b sound below legal at on is also ready current s c after on_later =
-    let both = both_are (count_versions given (history ++ later)) repo branch version settings current in
-    ready_later state given history later repo branch sound below legal r s b c at on after on_later (is ∙ both.0) (also ∙ both.1) swap about tree ready
+pub ready_by_then : (state : State) (given : VersionsGiven) (later : List HistoryEntry) (repo branch : List ℕ) (version settings : ℕ) (swap : SwapKind)
+    (about : AboutValue) (tree : TreeValue) (r : Repository) (b : Branch) → IsSound state → AreBelowNext given → IsLegal state later
+    → get state.repositories repo ≡ Some r → get r.branches branch ≡ Some b
+    → branch_version given repo branch ≡ version → settings_version given repo ≡ settings → IsReadyOn state branch swap about tree r b
+    → IsReadyFor (replay state later) (count_versions given later) repo branch version settings swap about tree
+ready_by_then state given later repo branch version settings swap about tree r b sound below legal at on is also ready current s c after on_later =
+    let both = both_are (count_versions given later) repo branch version settings current in
+    ready_later state given later repo branch sound below legal r s b c at on after on_later (is ∙ both.0) (also ∙ both.1) swap about tree ready
 
 -- so is what was drafted of what a lake handed out
-module _ (opened : LakeStateValue) (history : List HistoryEntry) (repo branch : List ℕ) (swap : SwapKind) (about : AboutValue) (p : PreparedValue)
-    (tree : TreeValue)
-    (is : prepare_reply (replay (state_of opened) history) (versions_since opened history) repo branch (sides_of swap) ≡ Ok p)
-    (have : (sides : Sides) → sides_of swap ≡ Some sides → HasSides (replay (state_of opened) history) repo sides) {present : LakeStateValue}
-    (stands : Stands opened history present) where
-  pub waits : IsDraft p.cut (drafted_map (strategy_of swap) p branch about.metadata) (Ok tree)
-      → Waits opened history repo branch swap about (record { version = p.version; settings = p.settings; tree = tree })
-  waits made later legal =
-      let then = replay (state_of opened) history in
-      let given = versions_since opened history in
-      let found = handed_there then given repo branch (sides_of swap) p is in
-      ready_by_then (state_of opened) (versions_of opened) history later repo branch p.version p.settings swap about tree found.r found.b
-      (IsSound-replay (state_of opened) history stands.sound stands.legal) stands.versions_below legal found.at found.on
+module _ (state : State) (given : VersionsGiven) (repo branch : List ℕ) (swap : SwapKind) (about : AboutValue) (p : PreparedValue) (tree : TreeValue)
+    (is : prepare_reply state given repo branch (sides_of swap) ≡ Ok p)
+    (have : (sides : Sides) → sides_of swap ≡ Some sides → HasSides state repo sides) where
+  pub waits : IsSound state → AreBelowNext given → IsDraft p.cut (drafted_map (strategy_of swap) p branch about.metadata) (Ok tree)
+      → Waits state given repo branch swap about (record { version = p.version; settings = p.settings; tree = tree })
+  waits sound below made later legal =
+      let found = handed_there state given repo branch (sides_of swap) p is in
+      ready_by_then state given later repo branch p.version p.settings swap about tree found.r found.b sound below legal found.at found.on
       (ap (λ (x : PreparedValue). x.version) found.same) (ap (λ (x : PreparedValue). x.settings) found.same)
-      (ready_there then given repo branch about swap p tree have found.r found.b found.at found.same made)
+      (ready_there state given repo branch about swap p tree have found.r found.b found.at found.same made)
+
+-- ---- a lake that goes on
+
+-- versions stay below the next one
+pub below_after : (given : VersionsGiven) (entries : List HistoryEntry) → AreBelowNext given → AreBelowNext (count_versions given entries)
+below_after given [] below = below
+below_after given (entry ∷ entries) below = below_after (versions_after given entry) entries (AreBelowNext-after given entry below)
+
+-- and are counted on
+count-append : (given : VersionsGiven) (first later : List HistoryEntry)
+    → count_versions given (first ++ later) ≡ count_versions (count_versions given first) later
+count-append given [] later = refl
+count-append given (entry ∷ first) later = count-append (versions_after given entry) first later
 
 -- a lake that goes on from another one has its entries and more
 module _ {K : Type 0} (before now : LakeValue K) (later : List HistoryEntry) (repo branch : List ℕ) (swap : SwapKind) (about : AboutValue)
     (head : HeadDraft) where
-  abbrev ready_in : LakeState → List HistoryEntry → Type 0
-  ready_in opened history =
-      IsReadyFor (replay (state_of (lake_value opened)) history)
-      (versions_since (lake_value opened) history) repo branch head.version head.settings swap about head.tree
+  abbrev ready_of : State → VersionsGiven → Type 0
+  ready_of state given = IsReadyFor state given repo branch head.version head.settings swap about head.tree
 
-  pub later_swap : Waits (lake_value before.opened) before.history repo branch swap about head → now.opened ≡ before.opened
+  abbrev ready_in : LakeState → List HistoryEntry → Type 0
+  ready_in opened history = ready_of (replay (state_of (lake_value opened)) history) (versions_since (lake_value opened) history)
+
+  pub later_swap : Waits (state before) (versions before) repo branch swap about head → now.opened ≡ before.opened
       → now.history ≡ before.history ++ later
       → IsLegal (state_of (lake_value now.opened)) now.history
       → IsReadyFor (state now) (versions now) repo branch head.version head.settings swap about head.tree
   later_swap waits same goes_on legal =
+      let start = state_of (lake_value before.opened) in
+      let whole = subst (λ opened. IsLegal (state_of (lake_value opened)) (before.history ++ later)) same
+      (subst (IsLegal (state_of (lake_value now.opened))) goes_on legal) in
       subst (λ opened. ready_in opened now.history) (sym same)
       (subst (ready_in before.opened) (sym goes_on)
-      (waits later
-      (subst (λ opened. IsLegal (state_of (lake_value opened)) (before.history ++ later)) same
-      (subst (IsLegal (state_of (lake_value now.opened))) goes_on legal))))
+      (subst (λ x. ready_of x (versions_since (lake_value before.opened) (before.history ++ later))) (sym (replay-append start before.history later))
+      (subst (ready_of (replay (replay start before.history) later))
+      (sym (count-append (versions_of (lake_value before.opened)) before.history later))
+      (waits later (IsLegal-later start before.history later whole)))))

@@ -1,3 +1,2 @@
-pub mod DraftMaps
 pub mod Drafts
 pub mod HeadDrafts

@@ -4,11 +4,10 @@ ghost use Rattle.std.specs.FinMap.{keys};
 ghost use Rattle.lake_values.specs.HookDecisions.{denying_rule};
 ghost use Rattle.lake_values.specs.KeyMap.{apply, differences};
 ghost use Rattle.lake_values.specs.Merging.{merged_map};
+ghost use Rattle.lake_model.specs.HeadRefusals.{conflicts_refusal, first_path, no_changes};
+ghost use Rattle.lake_model.specs.declared.fault.HeadRefusal.TheVariants.{Dirty, HookDenied};
 ghost use Rattle.core_readings.specs.Preparations.{prepared_value};
-ghost use Rattle.head_drafts.specs.Drafts.{IsDraft, IsTest, clean_merge, drafted_commit, conflicts_fault, drafted_map};
-ghost use Rattle.head_drafts.specs.Drafts.{no_changes};
-ghost use Rattle.head_drafts.specs.DraftMaps.{first_path};
-ghost use Rattle.head_drafts.specs.declared.fault.DraftFault.TheVariants.{Dirty, HookDenied};
+ghost use Rattle.head_drafts.specs.Drafts.{IsDraft, IsTest, drafted_commit, drafted_map, drafted_merge, sides_by};
 
 use crate::fault::DraftFault;
 use crate::maps::{differences_of, first_path, map_of};
@@ -16,7 +15,8 @@ use hook_rules::{Decision, Event, decide};
 use key_merge::merge;
 use lake_base::{RefName, TryCopy};
 use lake_core::Prepared;
-use lake_values::{Changes, HookRules, KeyMap, Pairs, Strategy};
+use lake_model::HeadRefusal;
+use lake_values::{Changes, CommitId, HookRules, KeyMap, Pairs, Strategy};
 use meta_range::{Tree, Trio};
 use std::alloc::Global;
 
@@ -41,8 +41,16 @@ pub fn draft(
     match &prepared.trio {
         None => draft_commit(alloc, prepared, branch, metadata, &sealed, &uncommitted),
         Some(trio) => {
-            test_clean(alloc, &uncommitted)?;
-            draft_merge(alloc, prepared, trio, strategy, branch, metadata, &head)
+            draft_merge(
+                alloc,
+                prepared,
+                trio,
+                strategy,
+                branch,
+                metadata,
+                &head,
+                &uncommitted,
+            )
         }
     }
 }
@@ -61,12 +69,12 @@ fn draft_commit(
     requires modulus { 0 < prepared.now.cut.modulus }
     ensures { IsDraft prepared.now.cut (drafted_commit (prepared_value prepared.now) branch.now metadata.now) result }
 {
-    test_changed(uncommitted)?;
+    test_changed(uncommitted, prepared.head)?;
     test_hooks(&prepared.rules, branch, metadata, uncommitted)?;
     Ok(Tree::build(alloc, sealed, &prepared.cut)?)
 }
 
-// The tree of a merge or a pick into the head, whose map is this.
+// The tree of a merge or a pick into the head, whose map is this and which the sealed changes change so.
 fn draft_merge(
     alloc: Global,
     prepared: &Prepared,
@@ -75,16 +83,20 @@ fn draft_merge(
     branch: &RefName,
     metadata: &Pairs,
     head: &KeyMap,
+    uncommitted: &Changes,
 ) -> Result<Tree, DraftFault>
     requires dest { trio.now.dest ≡ prepared.now.tree.value }
     requires head { head.now ≡ prepared.now.tree.value.map }
+    requires uncommitted { uncommitted.now ≡ differences
+        (apply prepared.now.sealed prepared.now.tree.value.map) prepared.now.tree.value.map }
     requires modulus { 0 < prepared.now.cut.modulus }
     ensures { IsDraft prepared.now.cut
-        (clean_merge strategy (trio.now.base.map, trio.now.source.map)
+        (drafted_merge strategy (trio.now.base.map, trio.now.source.map)
         (prepared_value prepared.now) branch.now metadata.now) result }
 {
+    test_clean(alloc, uncommitted)?;
     let taken = differences_of(alloc, trio.source(), trio.base())?;
-    test_changed(&taken)?;
+    test_changed(&taken, prepared.head)?;
     let changes = merged(alloc, trio, strategy)?;
     test_hooks(&prepared.rules, branch, metadata, &changes)?;
     let objects = head.apply(alloc, &changes)?;
@@ -95,7 +107,8 @@ fn draft_merge(
 fn merged(alloc: Global, trio: &Trio, strategy: Strategy) -> Result<Changes, DraftFault>
     ensures changes { IfOk result (λ changes. changes ≡ differences
         (merged_map strategy trio.now.base.map trio.now.source.map trio.now.dest.map) trio.now.dest.map) }
-    ensures test { IsTest (conflicts_fault strategy trio.now.base.map trio.now.source.map trio.now.dest.map) result }
+    ensures test { IsTest
+        (conflicts_refusal (sides_by strategy (trio.now.base.map, trio.now.source.map)) trio.now.dest.map) result }
 {
     Ok(merge(alloc, trio, strategy)?)
 }
@@ -105,18 +118,18 @@ fn test_clean(alloc: Global, uncommitted: &Changes) -> Result<(), DraftFault>
     ensures { IsTest (option_map Dirty (first_path (keys uncommitted.now))) result }
 {
     match first_path(uncommitted) {
-        Some(path) => Err(DraftFault::Dirty(path.copy(alloc)?)),
+        Some(path) => Err(DraftFault::Refused(HeadRefusal::Dirty(path.copy(alloc)?))),
         None => Ok(()),
     }
 }
 
-// Refuses what changes nothing. NoChanges. It takes no memory.
-fn test_changed(changes: &Changes) -> Result<(), DraftFault>
-    ensures { IsTest (no_changes (first_path (keys changes.now))) result }
+// Refuses what changes nothing over a head. NoChanges. It takes no memory.
+fn test_changed(changes: &Changes, head: CommitId) -> Result<(), DraftFault>
+    ensures { IsTest (no_changes head (first_path (keys changes.now))) result }
 {
     match first_path(changes) {
         Some(_) => Ok(()),
-        None => Err(DraftFault::NoChanges),
+        None => Err(DraftFault::Refused(HeadRefusal::NoChanges(head))),
     }
 }
 
@@ -136,6 +149,6 @@ fn test_hooks(
     };
     match decide(rules, &event) {
         Decision::Allow => Ok(()),
-        Decision::Deny(rule) => Err(DraftFault::HookDenied(rule)),
+        Decision::Deny(rule) => Err(DraftFault::Refused(HeadRefusal::HookDenied(rule))),
     }
 }

@@ -5,27 +5,17 @@ ghost use Rattle.head_drafts.specs.declared.fault.DraftFault.TheVariants.{NoMemo
 ghost use Rattle.head_drafts.specs.declared.fault.HeadFault.TheVariants.{Draft, Step};
 
 use key_merge::MergeFault;
-use lake_base::{NoMemory, Path, Sequence};
-use lake_model::StepFault;
+use lake_base::NoMemory;
+use lake_model::{HeadRefusal, StepFault};
 use std::alloc::AllocFailed;
 use thiserror::Error;
 
-/// Why there is no draft, the first cause that holds.
+/// Why there is no draft.
 #[derive(Debug, Drop, Error)]
 pub enum DraftFault {
-    /// Of a merge or a pick: sealed changes aren't committed. The least path that they change.
-    #[error("uncommitted changes at {}", .0.as_str())]
-    Dirty(Path),
-    /// The commit would change nothing: the sealed changes leave the head's map as it is, or the source's map is the
-    /// base's.
-    #[error("no changes")]
-    NoChanges,
-    /// There is no strategy, and paths conflict: the least 100 of them, in ascending order, and how many there are.
-    #[error("{total} paths conflict")]
-    Conflicts { paths: Sequence<Path>, total: u64 },
-    /// The hook of this number denies it, counted from 0.
-    #[error("hook {0} denies it")]
-    HookDenied(usize),
+    /// The new head is refused: the first cause that holds.
+    #[error("{0}")]
+    Refused(HeadRefusal),
     /// No memory was left.
     #[error("out of memory")]
     NoMemory,
@@ -63,7 +53,9 @@ impl From<MergeFault> for DraftFault {
 
     fn from(fault: MergeFault) -> Self {
         match fault {
-            MergeFault::Conflicts { paths, total } => DraftFault::Conflicts { paths, total },
+            MergeFault::Conflicts { paths, total } => {
+                DraftFault::Refused(HeadRefusal::Conflicts { paths, total })
+            }
             MergeFault::NoMemory => DraftFault::NoMemory,
         }
     }

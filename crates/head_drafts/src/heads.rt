@@ -2,20 +2,21 @@
 ghost use Rattle.std.specs.Prelude.{◌≡◌, ◌↔◌, IfOk, IfSome, IsTrue, false};
 ghost use Rattle.lake_values.specs.Commit.{AboutValue};
 ghost use Rattle.lake_model.specs.declared.reply.SwapKind.{SwapKind as AnyKind};
+ghost use Rattle.lake_model.specs.HeadRefusals.{reading_refusal};
 ghost use Rattle.lake_model.specs.Preparing.{prepare_reply};
 ghost use Rattle.lake_model.specs.Steps.{is_current};
 ghost use Rattle.meta_range.specs.Ranges.{TreeValue};
 ghost use Rattle.lake_laws.specs.Prepared.{WhereThere};
-ghost use Rattle.core_state.specs.LakeStates.{lake_value};
 ghost use Rattle.core_readings.specs.Preparations.{HasSides};
 ghost use Rattle.lake_core.specs.HeadConditions.{IsReadyFor};
 ghost use Rattle.lake_core.specs.Lakes.{state, versions};
 ghost use Rattle.head_drafts.specs.Drafts.{drafted_map};
-ghost use Rattle.head_drafts.specs.HeadDrafts.{IsHeadReply, Waits, sides_of, strategy_of};
+ghost use Rattle.head_drafts.specs.HeadDrafts.{IsHeadReply, IsReadingReply, Waits};
+ghost use Rattle.head_drafts.specs.HeadDrafts.{sides_of, strategy_of};
 
 use crate::drafting::draft;
 use crate::fault::HeadFault;
-use crate::waiting::law_of_waiting;
+use crate::waiting::{law_of_readings, law_of_waiting};
 use keeper::Keeper;
 use lake_base::{RefName, RepoName};
 use lake_core::Lake;
@@ -51,9 +52,12 @@ pub fn draft_head<K: Keeper>(
         (λ p. drafted_map (strategy_of kind) p branch.now about.now.metadata) result }
     ensures ready { IfOk result (λ head. IsReadyFor (state lake.now) (versions lake.now) repo.now branch.now
         head.version head.settings kind about.now head.tree) }
+    ensures refusal { IsReadingReply
+        (reading_refusal (state lake.now) repo.now branch.now kind about.now) result }
     ensures waits { IfOk result
-        (λ head. Waits (lake_value lake.now.opened) lake.now.history repo.now branch.now kind about.now head) }
+        (λ head. Waits (state lake.now) (versions lake.now) repo.now branch.now kind about.now head) }
 {
+    law_of_readings();
     law_of_waiting();
     let _ = lake.entries();
     let sides = sides_of(&kind);

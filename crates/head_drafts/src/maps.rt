@@ -2,7 +2,7 @@
 ghost use Rattle.std.specs.Prelude.{◌≡◌, IfOk, option_copied};
 ghost use Rattle.std.specs.FinMap.{keys};
 ghost use Rattle.lake_values.specs.KeyMap.{differences};
-ghost use Rattle.head_drafts.specs.DraftMaps.{first_path};
+ghost use Rattle.lake_model.specs.HeadRefusals.{first_path};
 
 use lake_base::{NoMemory, Path, TryCopy};
 use lake_values::{Changes, EntryCursor, KeyMap};

@@ -1,7 +1,7 @@
 //! Why there is no draft, in the words of scripts.
 
 use head_drafts::{DraftFault, HeadFault};
-use lake_model::StepFault;
+use lake_model::{HeadRefusal, StepFault};
 use script_forms::{DraftRefusal, ScriptFault};
 
 /// Why a branch has no draft of a new head.
@@ -15,12 +15,17 @@ pub fn head_fault(fault: HeadFault) -> ScriptFault {
 /// Why there is no draft.
 pub fn draft_fault(fault: DraftFault) -> ScriptFault {
     match fault {
-        DraftFault::Dirty(path) => ScriptFault::Draft(DraftRefusal::Dirty(path)),
-        DraftFault::NoChanges => ScriptFault::Draft(DraftRefusal::NoChanges),
-        DraftFault::Conflicts { paths, total } => {
-            ScriptFault::Draft(DraftRefusal::Conflicts { paths, total })
-        }
-        DraftFault::HookDenied(hook) => ScriptFault::Draft(DraftRefusal::HookDenied(hook)),
+        DraftFault::Refused(refusal) => ScriptFault::Draft(draft_refusal(refusal)),
         DraftFault::NoMemory => ScriptFault::Step(StepFault::NoMemory),
+    }
+}
+
+// Why a new head is refused.
+fn draft_refusal(refusal: HeadRefusal) -> DraftRefusal {
+    match refusal {
+        HeadRefusal::Dirty(path) => DraftRefusal::Dirty(path),
+        HeadRefusal::NoChanges(_) => DraftRefusal::NoChanges,
+        HeadRefusal::Conflicts { paths, total } => DraftRefusal::Conflicts { paths, total },
+        HeadRefusal::HookDenied(hook) => DraftRefusal::HookDenied(hook),
     }
 }
