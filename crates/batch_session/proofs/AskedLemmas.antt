@@ -2,7 +2,7 @@
 use Rattle.std.proofs.Common.{inl, inr, ◌≡◌, ◌⊎◌, ℕ, Bool, true, false, List, [], ◌∷◌, refl}
 use Rattle.std.specs.Prelude.{◌&&◌, nat_le, length, Option, Some, None, IfSome, option_map, codes, if◌then◌else◌}
 use Rattle.std.specs.Str.{bytes_eq, is_utf8}
-use Rattle.lake_calls.specs.Calls.{Call}
+use Rattle.lake_calls.specs.LineCalls.{Call}
 use Rattle.batch_session.specs.Command.{LineValue, Skipped, NotBuilt, Asks, call_of, call_of_words, cat_call, cat_of_words, is_plain, is_skipped, line_of_call}
 use Rattle.batch_session.specs.Command.{line_value, path_of, upload_call, upload_of_words, words_of}
 

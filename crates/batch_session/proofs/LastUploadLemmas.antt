@@ -30,10 +30,10 @@ use Rattle.lake_model.specs.Uncommitted.{own_number, with_staged}
 use Rattle.lake_model.specs.Readings.{◌then◌, expression_map, is_gone, look_reply, seen_in}
 use Rattle.lake_model.specs.Resolving.{commit_named, moved_target}
 use Rattle.lake_laws.proofs.PartsLemmas.{changed_if, get_changed_at}
-use Rattle.lake_calls.specs.Calls.{UploadCall}
-use Rattle.lake_calls.specs.Courses.{upload_entry}
-use Rattle.lake_calls.specs.Effects.{drop_entry}
-use Rattle.lake_calls.specs.Replies.{CallReply, Gone, ObjectReply, Refusal, found_reply, held_reply, object_reply, place_reply, seen_reply}
+use Rattle.lake_calls.specs.LineCalls.{UploadCall}
+use Rattle.lake_calls.specs.LineCourses.{upload_entry}
+use Rattle.lake_calls.specs.LineEffects.{drop_entry}
+use Rattle.lake_calls.specs.LineReplies.{CallReply, Gone, ObjectReply, Refusal, found_reply, held_reply, object_reply, place_reply, seen_reply}
 
 -- the repository and the branch of a batch
 abbrev pub quickstart : List ℕ

@@ -14,10 +14,10 @@ use Rattle.lake_model.specs.Soundness.{fresh}
 use Rattle.lake_model.specs.Steps.{stage_causes, write_causes}
 use Rattle.lake_model.specs.Uncommitted.{HasTicket, put_number}
 use Rattle.lake_model.specs.Versions.{VersionsGiven, branch_version, fresh_versions}
-use Rattle.lake_calls.specs.Calls.{Call, Object, Request, Upload, UploadCall}
-use Rattle.lake_calls.specs.Courses.{upload_entry}
-use Rattle.lake_calls.specs.Effects.{drop_entry, effect, upload_effect}
-use Rattle.lake_calls.specs.Replies.{stage_refusal, ticket_entry, ticket_refusal}
+use Rattle.lake_calls.specs.LineCalls.{Call, Object, Request, Upload, UploadCall}
+use Rattle.lake_calls.specs.LineCourses.{upload_entry}
+use Rattle.lake_calls.specs.LineEffects.{drop_entry, effect, upload_effect}
+use Rattle.lake_calls.specs.LineReplies.{stage_refusal, ticket_entry, ticket_refusal}
 use Rattle.lake_calls.proofs.EffectLemmas.{both_none}
 use Rattle.batch_session.specs.Batch.{AreServed, CutShort, IsCallServed, IsValueServed, Lake, LineEffect, Served, Unread, first_lake, lake_left, state_of}
 use Rattle.batch_session.specs.Batch.{usual_cut}

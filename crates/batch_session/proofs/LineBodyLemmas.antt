@@ -26,10 +26,10 @@ use Rattle.lake_model.specs.History.{after, replay}
 use Rattle.lake_model.specs.Soundness.{fresh}
 use Rattle.lake_format.specs.Spelling.{commit_id}
 use Rattle.lake_laws.proofs.HistoryLemmas.{replay-append}
-use Rattle.lake_calls.specs.Calls.{Call, UploadCall, Upload, Request}
-use Rattle.lake_calls.specs.Courses.{upload_entry}
-use Rattle.lake_calls.specs.Effects.{drop_entries, drop_entry, effect, upload_effect}
-use Rattle.lake_calls.specs.Replies.{CallReply, Lost, UploadReply, is_done, object_reply, reply_or, stage_refusal, ticket_entry, ticket_refusal}
+use Rattle.lake_calls.specs.LineCalls.{Call, UploadCall, Upload, Request}
+use Rattle.lake_calls.specs.LineCourses.{upload_entry}
+use Rattle.lake_calls.specs.LineEffects.{drop_entries, drop_entry, effect, upload_effect}
+use Rattle.lake_calls.specs.LineReplies.{CallReply, Lost, UploadReply, is_done, object_reply, reply_or, stage_refusal, ticket_entry, ticket_refusal}
 use Rattle.batch_session.specs.Batch.{AreServed, CutShort, IsCallServed, IsLineServed, IsValueServed, Lake, LineEffect, Served, Unread, any_starved, first_lake}
 use Rattle.batch_session.specs.Batch.{lake_left, next_request, reply_of, state_of, usual_cut, with_object}
 use Rattle.batch_session.specs.Command.{LineValue, Skipped, NotBuilt, Asks, cat_call, line_value}

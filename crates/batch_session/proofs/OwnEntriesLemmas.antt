@@ -10,10 +10,10 @@ use Rattle.lake_model.specs.declared.history.By.{By}
 use Rattle.lake_model.specs.declared.history.HistoryEntry.{HistoryEntry}
 use Rattle.lake_model.specs.State.{State}
 use Rattle.lake_model.specs.History.{after}
-use Rattle.lake_calls.specs.Calls.{Call, UploadCall, Upload, Object, Request}
-use Rattle.lake_calls.specs.Courses.{course_entries, upload_entry}
-use Rattle.lake_calls.specs.Effects.{CallEffect, drop_entry, effect, fronts, upload_effect}
-use Rattle.lake_calls.specs.Replies.{stage_refusal, ticket_entry, ticket_refusal}
+use Rattle.lake_calls.specs.LineCalls.{Call, UploadCall, Upload, Object, Request}
+use Rattle.lake_calls.specs.LineCourses.{course_entries, upload_entry}
+use Rattle.lake_calls.specs.LineEffects.{CallEffect, drop_entry, effect, fronts, upload_effect}
+use Rattle.lake_calls.specs.LineReplies.{stage_refusal, ticket_entry, ticket_refusal}
 use Rattle.lake_calls.proofs.EffectLemmas.{accepted_effect, both_none, done_by}
 use Rattle.batch_session.specs.Batch.{AreServed, CutShort, IsCallServed, IsLineServed, IsValueServed, Lake, LineEffect, Served, Unread, after_call, first_lake}
 use Rattle.batch_session.specs.Batch.{lake_left, next_request, state_of}

@@ -10,7 +10,7 @@ use Rattle.lake_model.specs.Branches.{protected_by}
 use Rattle.lake_model.specs.State.{Repository, State, branch_of}
 use Rattle.lake_model.specs.Refusals.{Causes, cause_if, first_cause, first_of}
 use Rattle.lake_model.specs.Steps.{write_causes}
-use Rattle.lake_calls.specs.Replies.{guarded_refusal, reading_causes}
+use Rattle.lake_calls.specs.LineReplies.{guarded_refusal, reading_causes}
 
 -- another refusal than that nothing stands at the path
 abbrev IsPathless : StepFault → Type 0

@@ -10,9 +10,9 @@ use Rattle.lake_model.specs.History.{IsLegal}
 use Rattle.lake_model.specs.Readings.{look_reply}
 use Rattle.lake_model.specs.Soundness.{fresh}
 use Rattle.lake_laws.proofs.HistoryLemmas.{IsLegal-later}
-use Rattle.lake_calls.specs.Calls.{Call}
-use Rattle.lake_calls.specs.Effects.{nothing}
-use Rattle.lake_calls.specs.Replies.{CallReply, seen_reply}
+use Rattle.lake_calls.specs.LineCalls.{Call}
+use Rattle.lake_calls.specs.LineEffects.{nothing}
+use Rattle.lake_calls.specs.LineReplies.{CallReply, seen_reply}
 use Rattle.batch_session.specs.declared.reply.Reply.{Reply}
 use Rattle.batch_session.specs.Batch.{CutShort, IsCallServed, IsValueServed, Lake, LineEffect, Served, Unread, after_call, call_line_effect, next_request}
 use Rattle.batch_session.specs.Batch.{starved_effect, state_of, usual_cut}

@@ -28,7 +28,7 @@ use Rattle.lake_core.specs.Opening.{IsUnopened}
 use Rattle.lake_core.specs.Leaving.{Leaves, parts_of}
 use Rattle.core_puts.specs.KeeperViews.{KeeperView}
 use Rattle.core_puts.specs.KeptChanges.{IsFaulted, Making, Parts}
-use Rattle.lake_calls.specs.Replies.{guarded_refusal, reading_causes}
+use Rattle.lake_calls.specs.LineReplies.{guarded_refusal, reading_causes}
 use Rattle.batch_session.specs.Batch.{usual_cut}
 use Rattle.batch_session.specs.SureSteps.{IsFromFresh, IsStep, state_at}
 use Rattle.batch_session.proofs.GuardLemmas.{current_causes}
@@ -75,10 +75,10 @@ module _ {K X : Type 0} (view : KeeperView K) (quiet : (k : K) → view.faults k
       → Leaves view by (Some made) result old new → IsSure refusal value (accepted_entry by made.operation) result old new
   sure_step (Ok answer) gives leaves =
       let is = answered_by answer refusal value gives in
-      record { opened = leaves.0; step = (is.0, (is.1, leaves.1.history)) }
+      record { opened = leaves.0.opened; step = (is.0, (is.1, leaves.1.history)) }
   sure_step (Err StoreFault) gives leaves = absurd (never leaves.1)
-  sure_step (Err NoMemory) gives leaves = record { opened = leaves.0; step = (inl refl, leaves.1.history) }
-  sure_step (Err fault) gives leaves = record { opened = leaves.0; step = same fault gives leaves.1 }
+  sure_step (Err NoMemory) gives leaves = record { opened = leaves.0.opened; step = (inl refl, leaves.1.history) }
+  sure_step (Err fault) gives leaves = record { opened = leaves.0.opened; step = same fault gives leaves.1 }
 
 -- ---- a branch's version
 
@@ -102,7 +102,8 @@ read_branch given repo branch at false answer is =
 
 read_repository : (given : VersionsGiven) (repo branch : List ℕ) (at : ℕ) (found : Option Repository) (answer : Result Versions StepFault)
     → answer
-    ≡ option_map_or (λ (r : Repository). if is_some (get r.branches branch) then Ok (versions_at at given repo branch) else Err (NoRef Named)) found (Err NoRepo)
+    ≡ option_map_or (λ (r : Repository). if is_some (get r.branches branch) then Ok (versions_at at given repo branch) else Err (NoRef Named))
+    found (Err NoRepo)
     → IsRead (branch_version given repo branch) answer (missing (is_some found) (is_some (option_and_then (λ (r : Repository). get r.branches branch) found)))
 read_repository given repo branch at (Some r) answer is = read_branch given repo branch at (is_some (get r.branches branch)) answer is
 read_repository given repo branch at None answer is =
@@ -125,7 +126,7 @@ guarded_step refusal write stage value entry result old new none is step =
 
 -- what contracts see of a keeper that never fails
 abbrev pub sure_view : KeeperView KeptPairs
-sure_view = record { kept = λ pairs. Some pairs; faults = λ pairs. 0; calls = λ pairs. None }
+sure_view = record { kept = λ pairs. Some pairs; faults = λ pairs. 0; calls = λ pairs. None; successes = λ pairs. None }
 
 -- its state is that of its entries
 pub state_of_entries : (lake : LakeValue KeptPairs) (history : List HistoryEntry) → state_of (founding.fresh_lake usual_cut) ≡ fresh usual_cut

@@ -7,7 +7,7 @@ use Rattle.std.specs.FinMap.{get, insert, get-insert}
 use Rattle.lake_model.specs.declared.history.By.{By}
 use Rattle.lake_model.specs.Refusals.{causes_of_change, first_cause}
 use Rattle.lake_model.specs.State.{State}
-use Rattle.lake_calls.specs.Effects.{drop_entries, drop_entry}
+use Rattle.lake_calls.specs.LineEffects.{drop_entries, drop_entry}
 
 -- a ticket that was put
 pub ticket_tied : (s : State) (by : By) (number : ℕ) → get (insert s.tickets number by.seat) number ≡ Some by.seat

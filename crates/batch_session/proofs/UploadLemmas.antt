@@ -19,10 +19,10 @@ use Rattle.lake_model.specs.History.{accepted_entry, after}
 use Rattle.lake_model.specs.Soundness.{fresh}
 use Rattle.lake_model.specs.Uncommitted.{HasTicket}
 use Rattle.lake_laws.proofs.HistoryLemmas.{replay-append}
-use Rattle.lake_calls.specs.Calls.{UploadCall, Upload, Request}
-use Rattle.lake_calls.specs.Courses.{upload_entry}
-use Rattle.lake_calls.specs.Effects.{drop_entries, drop_entry, entries_alone, nothing, upload_effect, with_body}
-use Rattle.lake_calls.specs.Replies.{CallReply, UploadReply, guarded_refusal, is_done, reply_or, stage_refusal, ticket_entry, ticket_refusal}
+use Rattle.lake_calls.specs.LineCalls.{UploadCall, Upload, Request}
+use Rattle.lake_calls.specs.LineCourses.{upload_entry}
+use Rattle.lake_calls.specs.LineEffects.{drop_entries, drop_entry, entries_alone, nothing, upload_effect, with_body}
+use Rattle.lake_calls.specs.LineReplies.{CallReply, UploadReply, guarded_refusal, is_done, reply_or, stage_refusal, ticket_entry, ticket_refusal}
 use Rattle.batch_session.specs.declared.reply.Reply.{Reply}
 use Rattle.batch_session.specs.Batch.{Lake, after_call, usual_cut}
 use Rattle.batch_session.specs.Calling.{IsAnswered, IsCutOff, IsRefused, IsStaged, ServesCall, ShowsReply, with_entry, with_held, upload_request}

@@ -8,9 +8,9 @@ use Rattle.lake_model.specs.declared.history.HistoryEntry.{HistoryEntry}
 use Rattle.lake_model.specs.State.{State}
 use Rattle.lake_model.specs.History.{IsLegal, replay}
 use Rattle.lake_model.specs.Soundness.{fresh}
-use Rattle.lake_calls.specs.Calls.{Call, Request}
-use Rattle.lake_calls.specs.Replies.{CallReply, is_done, reply}
-use Rattle.lake_calls.specs.Effects.{CallEffect, effect, fronts}
+use Rattle.lake_calls.specs.LineCalls.{Call, Request}
+use Rattle.lake_calls.specs.LineReplies.{CallReply, is_done, reply}
+use Rattle.lake_calls.specs.LineEffects.{CallEffect, effect, fronts}
 use Rattle.batch_session.specs.Command.{LineValue, Skipped, NotBuilt, Asks, line_value}
 use Rattle.batch_session.specs.Text.{call_text, not_built_text, out_of_memory_text}
 

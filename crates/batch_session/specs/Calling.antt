@@ -8,9 +8,9 @@ use Rattle.lake_model.specs.declared.fault.StepFault.{StepFault}
 use Rattle.lake_model.specs.declared.fault.StepFault.TheVariants.{NoMemory}
 use Rattle.lake_model.specs.declared.history.By.{By}
 use Rattle.lake_model.specs.declared.history.HistoryEntry.{HistoryEntry}
-use Rattle.lake_calls.specs.Calls.{UploadCall, Upload, Request}
-use Rattle.lake_calls.specs.Replies.{CallReply, is_done}
-use Rattle.lake_calls.specs.Effects.{CallEffect, effect, fronts}
+use Rattle.lake_calls.specs.LineCalls.{UploadCall, Upload, Request}
+use Rattle.lake_calls.specs.LineReplies.{CallReply, is_done}
+use Rattle.lake_calls.specs.LineEffects.{CallEffect, effect, fronts}
 use Rattle.batch_session.specs.declared.reply.Reply.{Reply}
 use Rattle.batch_session.specs.Batch.{Lake, state_of, reply_of, after_call}
 use Rattle.batch_session.specs.Text.{batch_names, call_text, refusal_text}

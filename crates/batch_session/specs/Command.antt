@@ -5,7 +5,7 @@ use Rattle.std.specs.List.{slice_split, list_any, starts_with}
 use Rattle.std.specs.Str.{bytes_eq, is_utf8}
 use Rattle.lake_base.specs.Names.{path_fault}
 use Rattle.lake_base.specs.declared.names.NameFault.{NameFault}
-use Rattle.lake_calls.specs.Calls.{Call, UploadCall, Upload, Object}
+use Rattle.lake_calls.specs.LineCalls.{Call, UploadCall, Upload, Object}
 
 -- a text becomes an object at a path of a branch
 abbrev pub upload_of : (repo branch path text : List ℕ) → UploadCall

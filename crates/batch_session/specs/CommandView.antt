@@ -4,7 +4,7 @@ use Rattle.batch_session.specs.declared.command.Command.{Command}
 use Rattle.batch_session.specs.declared.command.Command.TheVariants as read
 use Rattle.batch_session.specs.declared.command.Line.{Line}
 use Rattle.batch_session.specs.declared.command.Line.TheVariants as line
-use Rattle.lake_calls.specs.Calls.{Call}
+use Rattle.lake_calls.specs.LineCalls.{Call}
 use Rattle.batch_session.specs.Command.{upload_call, cat_call, LineValue, Skipped, NotBuilt, Asks}
 
 abbrev pub command_view : Command → Call

@@ -2,7 +2,7 @@
 use Rattle.std.specs.Prelude.{◌≡◌, ◌&&◌, ℕ, Bool, false, List, [], ◌∷◌, Option, Some, None, if◌then◌else◌}
 use Rattle.std.specs.Option.{option_or}
 use Rattle.std.specs.Str.{bytes_eq}
-use Rattle.lake_calls.specs.Calls.{Upload, Object}
+use Rattle.lake_calls.specs.LineCalls.{Upload, Object}
 use Rattle.batch_session.specs.Batch.{LineEffect, any_starved}
 use Rattle.batch_session.specs.Command.{LineValue, Skipped, NotBuilt, Asks, line_value}
 use Rattle.batch_session.specs.Text.{no_path_text}

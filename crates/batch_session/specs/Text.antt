@@ -7,8 +7,8 @@ use Rattle.lake_values.specs.declared.entry.Place.TheVariants.{Own, External}
 use Rattle.lake_model.specs.declared.fault.StepFault.{StepFault}
 use Rattle.lake_model.specs.declared.fault.StepFault.TheVariants.{Stopped, HistoryFull, NoRepo, NoRef, NoParent, NoNote, Exists, DefaultBranch, Protected}
 use Rattle.lake_model.specs.declared.fault.StepFault.TheVariants.{Changed, NoPath, Expired, NameClash, StoreFault, NoMemory}
-use Rattle.lake_calls.specs.Calls.{Call, Upload, Object}
-use Rattle.lake_calls.specs.Replies.{CallReply, UploadReply, ObjectReply, Refusal, Gone, NotHeld, Lost}
+use Rattle.lake_calls.specs.LineCalls.{Call, Upload, Object}
+use Rattle.lake_calls.specs.LineReplies.{CallReply, UploadReply, ObjectReply, Refusal, Gone, NotHeld, Lost}
 
 -- a text and the end of its line
 abbrev pub line : List ℕ → List ℕ

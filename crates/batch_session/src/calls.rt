@@ -7,9 +7,9 @@ ghost use Rattle.lake_model.specs.declared.history.Operation.TheVariants.{Stage}
 ghost use Rattle.lake_model.specs.History.{accepted_entry};
 ghost use Rattle.lake_model.specs.Readings.{look_reply};
 ghost use Rattle.lake_model.specs.Uncommitted.{HasTicket};
-ghost use Rattle.lake_calls.specs.Courses.{upload_entry};
-ghost use Rattle.lake_calls.specs.Effects.{drop_entries};
-ghost use Rattle.lake_calls.specs.Replies.{guarded_refusal, found_reply, place_reply, held_reply, seen_reply};
+ghost use Rattle.lake_calls.specs.LineCourses.{upload_entry};
+ghost use Rattle.lake_calls.specs.LineEffects.{drop_entries};
+ghost use Rattle.lake_calls.specs.LineReplies.{guarded_refusal, found_reply, place_reply, held_reply, seen_reply};
 ghost use Rattle.batch_session.specs.Calling.{IsRefused, IsStaged, ServesCall, ShowsReply, lake_at, upload_request};
 ghost use Rattle.batch_session.specs.SureSteps.{state_at};
 ghost use Rattle.batch_session.specs.Text.{batch_names, reply_text, upload_text};

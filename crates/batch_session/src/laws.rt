@@ -2,9 +2,9 @@
 ghost use Rattle.std.specs.Prelude.{◌≡◌, ◌≢◌, ◌+◌, ◌∷◌, [], ℕ, List, true, false};
 ghost use Rattle.lake_model.specs.History.{IsLegal};
 ghost use Rattle.lake_model.specs.Soundness.{fresh};
-ghost use Rattle.lake_calls.specs.Calls.{Call, UploadCall, Upload};
-ghost use Rattle.lake_calls.specs.Courses.{course_entries};
-ghost use Rattle.lake_calls.specs.Replies.{Lost};
+ghost use Rattle.lake_calls.specs.LineCalls.{Call, UploadCall, Upload};
+ghost use Rattle.lake_calls.specs.LineCourses.{course_entries};
+ghost use Rattle.lake_calls.specs.LineReplies.{Lost};
 ghost use Rattle.batch_session.specs.Batch.{AreServed, IsLineServed, LineEffect, first_lake, lake_left};
 ghost use Rattle.batch_session.specs.Batch.{next_request, reply_of, state_of, usual_cut};
 ghost use Rattle.batch_session.specs.Command.{Asks, cat_call, line_value};

@@ -7,7 +7,7 @@ ghost use Rattle.lake_model.specs.Refusals.{Gives, causes_of_change, first_cause
 ghost use Rattle.lake_model.specs.Soundness.{fresh};
 ghost use Rattle.lake_model.specs.Steps.{write_causes};
 ghost use Rattle.lake_model.specs.Uncommitted.{HasTicket, put_number};
-ghost use Rattle.lake_calls.specs.Replies.{guarded_refusal};
+ghost use Rattle.lake_calls.specs.LineReplies.{guarded_refusal};
 ghost use Rattle.batch_session.specs.Batch.{usual_cut};
 ghost use Rattle.batch_session.specs.SureSteps.{IsStep, state_at};
 

@@ -6,10 +6,10 @@ use Rattle.lake_values.specs.Entry.{EntryValue}
 use Rattle.lake_model.specs.declared.fault.StepFault.{StepFault}
 use Rattle.lake_model.specs.declared.history.By.{By}
 use Rattle.lake_model.specs.State.{State}
-use Rattle.lake_calls.specs.Calls.{Call, Object, Request, Upload, UploadCall}
-use Rattle.lake_calls.specs.Courses.{course_entries, upload_entry}
-use Rattle.lake_calls.specs.Effects.{effect, upload_effect}
-use Rattle.lake_calls.specs.Replies.{UploadReply, is_done, reply, reply_or, stage_refusal, ticket_refusal}
+use Rattle.lake_calls.specs.LineCalls.{Call, Object, Request, Upload, UploadCall}
+use Rattle.lake_calls.specs.LineCourses.{course_entries, upload_entry}
+use Rattle.lake_calls.specs.LineEffects.{effect, upload_effect}
+use Rattle.lake_calls.specs.LineReplies.{UploadReply, is_done, reply, reply_or, stage_refusal, ticket_refusal}
 
 -- a reply that is no refusal
 pub done_by : (refusal : Option StepFault) (entry : EntryValue) → is_done (reply_or refusal (UploadReply entry)) ≡ true → refusal ≡ None

@@ -1,7 +1,12 @@
--- What clients ask of a lake.
-use Rattle.std.specs.Prelude.{ℕ, List}
+-- What clients ask of a lake: what contracts see of the parts of calls.
+use Rattle.std.specs.Prelude.{◌≤◌, ◌++◌, ℕ, List, Option, codes, length}
+use Rattle.lake_values.specs.declared.commit.Strategy.{Strategy}
 use Rattle.commit_graph.specs.Expressions.{RefExprValue}
-use Rattle.lake_model.specs.declared.history.By.{By}
+
+-- an expression, with its text as a client gave it
+pub record ExpressionValue : Type 0 where
+  pub e : RefExprValue
+  pub text : List ℕ
 
 -- a body that is to become an object at a path of a branch
 pub record UploadCall : Type 0 where
@@ -11,20 +16,60 @@ pub record UploadCall : Type 0 where
   pub content_type : List ℕ
   pub body : List ℕ
 
--- an object that is to be read: the one at a path of what an expression leads to, with the expression's text as given
-pub record ObjectCall : Type 0 where
+-- the limits of an upload
+pub record IsUpload (content_type body : List ℕ) : Type 0 where
+  pub short_type : length content_type ≤ 255
+  pub short : length body ≤ 67108864
+
+-- an object outside that is to stand at a path of a branch
+pub record LinkCall : Type 0 where
   pub repo : List ℕ
-  pub e : RefExprValue
-  pub text : List ℕ
+  pub branch : List ℕ
   pub path : List ℕ
+  pub address : List ℕ
+  pub checksum : List ℕ
+  pub size : ℕ
+  pub mtime : Option ℕ
+  pub content_type : List ℕ
+  pub metadata : List (List ℕ × List ℕ)
 
--- a call, as a client makes it
-pub data Call : Type 0 where
-  Upload : UploadCall → Call
-  Object : ObjectCall → Call
+-- a branch or a tag that is to be made at the commit of an expression
+pub record NewNameCall : Type 0 where
+  pub repo : List ℕ
+  pub name : List ℕ
+  pub source : ExpressionValue
 
--- a call that is made at a moment, in seconds since 1970, by a seat and under a number
-pub record Request : Type 0 where
-  pub call : Call
-  pub moment : ℕ
-  pub by : By
+-- a repository that is to be made
+pub record NewRepositoryCall : Type 0 where
+  pub name : List ℕ
+  pub default_branch : List ℕ
+
+-- sealed changes that are to be committed
+pub record CommitCall : Type 0 where
+  pub repo : List ℕ
+  pub branch : List ℕ
+  pub committer : List ℕ
+  pub message : List ℕ
+  pub metadata : List (List ℕ × List ℕ)
+
+-- a commit that is to be merged into a branch
+pub record MergeCall : Type 0 where
+  pub repo : List ℕ
+  pub source : ExpressionValue
+  pub branch : List ℕ
+  pub committer : List ℕ
+  pub message : Option (List ℕ)
+  pub metadata : List (List ℕ × List ℕ)
+  pub strategy : Strategy
+
+-- the message of a merge without one: Merge 'SOURCE' into 'BRANCH'
+abbrev pub merge_message : (source branch : List ℕ) → List ℕ
+merge_message source branch = codes "Merge '" ++ source ++ codes "' into '" ++ branch ++ codes "'"
+
+-- a commit that is to be taken into a branch over one of its parents, or to be undone there
+pub record PickCall : Type 0 where
+  pub repo : List ℕ
+  pub branch : List ℕ
+  pub committer : List ℕ
+  pub at : ExpressionValue
+  pub parent : Option ℕ

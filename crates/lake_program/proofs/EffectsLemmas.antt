@@ -3,7 +3,7 @@ use Rattle.std.proofs.Common.{◌≡◌, ◌&&◌, ◌||◌, ℕ, List, [], ◌�
 use Rattle.std.proofs.lemmas.List.{flat_map_more}
 use Rattle.std.proofs.lemmas.List.Recursion.{and_push, or_push}
 use Rattle.batch_session.specs.Batch.{Lake, LineEffect, IsLineServed, AreServed, lake_left, any_starved}
-use Rattle.lake_program.specs.LineEffects.{text_of, moments_of, all_done}
+use Rattle.lake_program.specs.ServedLines.{text_of, moments_of, all_done}
 
 pub served_more : (lines : List (List ℕ)) (lake : Lake) (effects : List LineEffect) (line : List ℕ)
     (effect : LineEffect) → AreServed lines lake effects → IsLineServed line (lake_left lake effects) effect

@@ -11,7 +11,7 @@ use Rattle.batch_session.specs.declared.timing.Timing.{Timing}
 use Rattle.batch_session.specs.Batch.{Lake, LineEffect, first_lake, IsLineServed, AreServed}
 use Rattle.batch_session.specs.Moments.{AreMoments}
 use Rattle.batch_session.proofs.MomentsLemmas.{moments_none, moments_then, moments_as}
-use Rattle.lake_program.specs.LineEffects.{text_of, moments_of}
+use Rattle.lake_program.specs.ServedLines.{text_of, moments_of}
 use Rattle.lake_program.specs.Feeding.{line_room, HasShown, IsBrokenOff, ShowsLines, HasServed, Feeds}
 use Rattle.lake_program.specs.Front.{Shows}
 use Rattle.lake_program.specs.Lines.{ended_lines, last_part}

@@ -8,7 +8,7 @@ use Rattle.batch_session.specs.Moments.{AreMoments}
 use Rattle.batch_session.specs.Batch.{LineEffect, any_starved}
 use Rattle.lake_program.specs.declared.status.ExitStatus.{ExitStatus}
 use Rattle.lake_program.specs.declared.status.ExitStatus.TheVariants.{SourceFailed, SinkFailed}
-use Rattle.lake_program.specs.LineEffects.{text_of, all_done}
+use Rattle.lake_program.specs.ServedLines.{text_of, all_done}
 use Rattle.lake_program.specs.Front.{IsPrefix, Wrote}
 use Rattle.lake_program.specs.Lines.{ended_lines, batch_lines, end_text}
 use Rattle.lake_program.specs.Progress.{ServerState}

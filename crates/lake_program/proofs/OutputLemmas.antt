@@ -3,7 +3,7 @@ use Rattle.std.proofs.Common.{◌≡◌, ℕ, List, [], ◌++◌, Option, Result
 use Rattle.std.proofs.lemmas.List.{append-nil}
 use Rattle.lake_base.specs.declared.outside.Failed.{Failed}
 use Rattle.batch_session.specs.Batch.{LineEffect}
-use Rattle.lake_program.specs.LineEffects.{text_of}
+use Rattle.lake_program.specs.ServedLines.{text_of}
 use Rattle.lake_program.specs.Feeding.{HasShown, IsBrokenOff, ShowsLines}
 use Rattle.lake_program.specs.Front.{Wrote, WroteFront, Shows}
 use Rattle.lake_program.specs.Progress.{ServerState}

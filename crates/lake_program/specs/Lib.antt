@@ -1,6 +1,6 @@
 pub mod Feeding
 pub mod Front
-pub mod LineEffects
+pub mod ServedLines
 pub mod Lines
 pub mod Outcome
 pub mod Progress

@@ -6,7 +6,7 @@ use Rattle.lake_program.specs.declared.status.ExitStatus.{ExitStatus}
 use Rattle.lake_program.specs.declared.status.ExitStatus.TheVariants.{Usage, SourceFailed, SinkFailed, OutOfMemory}
 use Rattle.lake_program.specs.Words.{timing_of}
 use Rattle.batch_session.specs.Batch.{LineEffect, first_lake, AreServed}
-use Rattle.lake_program.specs.LineEffects.{text_of, moments_of}
+use Rattle.lake_program.specs.ServedLines.{text_of, moments_of}
 use Rattle.lake_program.specs.Lines.{batch_lines, end_text}
 use Rattle.batch_session.specs.Moments.{AreMoments}
 use Rattle.lake_program.specs.Outcome.{IsReadOut, Outcome, batch_status}

@@ -2,7 +2,7 @@ use Rattle.std.proofs.Common.{[], sym, subst}
 use Rattle.std.specs.Prelude.{IfSome}
 use Rattle.lake_values.specs.declared.entry.Change.TheVariants.{Put}
 use Rattle.lake_model.specs.Uncommitted.{HasTicket, put_number}
-use Rattle.lake_calls.specs.Courses.{upload_entry}
+use Rattle.lake_calls.specs.LineCourses.{upload_entry}
 use Rattle.batch_session.specs.SureSteps.{state_at}
 use Rattle.batch_session.specs.Command.{upload_of}
 use Rattle.batch_session.proofs.SessionLemmas.{never_failed}

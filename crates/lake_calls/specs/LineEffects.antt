@@ -7,9 +7,9 @@ use Rattle.lake_model.specs.declared.history.Operation.TheVariants.{TicketDrop}
 use Rattle.lake_model.specs.State.{State}
 use Rattle.lake_model.specs.History.{accepted_entry, after, replay}
 use Rattle.lake_model.specs.Refusals.{causes_of_change, first_cause}
-use Rattle.lake_calls.specs.Calls.{UploadCall, Call, Upload, Object, Request}
-use Rattle.lake_calls.specs.Courses.{course_entries}
-use Rattle.lake_calls.specs.Replies.{ticket_entry, ticket_refusal, stage_refusal}
+use Rattle.lake_calls.specs.LineCalls.{UploadCall, Call, Upload, Object, Request}
+use Rattle.lake_calls.specs.LineCourses.{course_entries}
+use Rattle.lake_calls.specs.LineReplies.{ticket_entry, ticket_refusal, stage_refusal}
 
 -- entries, and a body under a number, where one was put
 pub record CallEffect : Type 0 where

@@ -16,8 +16,8 @@ use Rattle.lake_model.specs.History.{accepted_entry, after}
 use Rattle.lake_model.specs.Refusals.{Causes, first_cause, no_causes, with_branch}
 use Rattle.lake_model.specs.Readings.{look_reply}
 use Rattle.lake_model.specs.Steps.{write_causes}
-use Rattle.lake_calls.specs.Calls.{UploadCall, ObjectCall, Call, Upload, Object, Request}
-use Rattle.lake_calls.specs.Courses.{upload_entry}
+use Rattle.lake_calls.specs.LineCalls.{UploadCall, ObjectCall, Call, Upload, Object, Request}
+use Rattle.lake_calls.specs.LineCourses.{upload_entry}
 
 -- a reply: what an accepted upload put, what an object holds, or a refusal
 pub data CallReply : Type 0 where
