@@ -10,8 +10,7 @@ use Rattle.lake_values.specs.declared.commit.Strategy.TheVariants.{Refuse}
 use Rattle.lake_model.specs.State.{Branch, HasBranch, Repository, State, map_of}
 use Rattle.lake_model.specs.Branches.{clean_branch}
 use Rattle.lake_model.specs.History.{Allows, after}
-use Rattle.law_examples.specs.HistoryWords.{quickstart, main, first, outside}
-use Rattle.law_examples.specs.RefusedLakes.{b}
+use Rattle.law_examples.specs.HistoryWords.{quickstart, main, first, outside, b}
 use Rattle.law_examples.specs.Merges.{Fork, IsMergeAdmissible, ahead_lake, dev_head, merge_entry}
 use Rattle.law_examples.proofs.EntriesLemmas.{apply_nothing}
 use Rattle.law_examples.proofs.BranchesLemmas.{spread}

@@ -17,8 +17,7 @@ use Rattle.lake_model.specs.Commits.{Draft, denied_by}
 use Rattle.lake_model.specs.Parts.{in_repository}
 use Rattle.lake_model.specs.Removal.{AreDistinct, with_expired}
 use Rattle.lake_model.specs.History.{Allows, after}
-use Rattle.law_examples.specs.HistoryWords.{quickstart, main, first, outside, head_of}
-use Rattle.law_examples.specs.RefusedLakes.{a}
+use Rattle.law_examples.specs.HistoryWords.{quickstart, main, first, outside, head_of, a}
 use Rattle.law_examples.specs.Merges.{Fork, IsMergeAdmissible, dev_head, merge_entry, three_commits}
 use Rattle.law_examples.proofs.CommitsLemmas.{apart_at}
 use Rattle.law_examples.proofs.EntriesLemmas.{apply_nothing}

@@ -21,9 +21,8 @@ use Rattle.lake_model.specs.Branches.{IsUnprotected}
 use Rattle.lake_model.specs.Commits.{IsAdmissible, IsCommittable, MayBecomeHead, bare_repository, commit_draft, first_draft}
 use Rattle.lake_model.specs.History.{Allows, after}
 use Rattle.lake_model.specs.Soundness.{fresh}
-use Rattle.law_examples.specs.HistoryWords.{quickstart, main, outside, entry_of, commit_entry, IsCommitAdmissible}
-use Rattle.law_examples.specs.Nothing as nothing
-use Rattle.law_examples.specs.RefusedLakes.{a}
+use Rattle.law_examples.specs.HistoryWords.{quickstart, main, outside, entry_of, commit_entry, IsCommitAdmissible, a}
+use Rattle.law_examples.specs.Nothing.{lake_of_nothing}
 use Rattle.law_examples.specs.Picks.{IsPickAdmissible, limited_lake, no_changes, pick_entry}
 use Rattle.law_examples.proofs.SceneLemmas.{scene, counted, in_quickstart, on_main, the_main}
 use Rattle.law_examples.proofs.EntriesLemmas.{first_branch, first_repository}
@@ -47,8 +46,8 @@ module _ (cut : Cut) where
   abbrev r0 : Repository
   r0 = first_repository cut
 
-  pub nothing_others : (about : AboutValue) → IsCommitAdmissible (nothing.lake cut) about
-      → HasBranch (nothing.lake cut) quickstart main (λ r b. IsUnprotected r main × MayBecomeHead (nothing.lake cut) main r b (commit_draft r b about))
+  pub nothing_others : (about : AboutValue) → IsCommitAdmissible (lake_of_nothing cut) about
+      → HasBranch (lake_of_nothing cut) quickstart main (λ r b. IsUnprotected r main × MayBecomeHead (lake_of_nothing cut) main r b (commit_draft r b about))
   nothing_others about admissible = subst (λ (l : State).
       HasBranch l quickstart main (λ r b. IsUnprotected r main × MayBecomeHead l main r b (commit_draft r b about))) (sym (nothing_lemmas.course cut).comes)
       (on_main (λ r b. IsUnprotected r main × MayBecomeHead (nothing_lemmas.end cut) main r b (commit_draft r b about))

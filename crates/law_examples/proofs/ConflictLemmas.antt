@@ -22,8 +22,7 @@ use Rattle.lake_model.specs.State.{Branch, HasCommit, HasLiveCommit, Repository,
 use Rattle.lake_model.specs.Commits.{IsAdmissible, IsPick, pick_draft}
 use Rattle.lake_model.specs.Uncommitted.{with_staged}
 use Rattle.lake_model.specs.History.{Allows, after, replay}
-use Rattle.law_examples.specs.HistoryWords.{quickstart, main, first, outside, head_of, put_entry, seal_entry, commit_entry}
-use Rattle.law_examples.specs.RefusedLakes.{a}
+use Rattle.law_examples.specs.HistoryWords.{quickstart, main, first, outside, head_of, put_entry, seal_entry, commit_entry, a}
 use Rattle.law_examples.specs.Picks.{AreThree, IsPickAdmissible, larger_object, last_commit, new_commit, pick_entry, twice_committed_lake}
 use Rattle.law_examples.proofs.SceneLemmas.{scene, counted, get_one, in_main, on_main, the_main}
 use Rattle.law_examples.proofs.EntriesLemmas.{after_seal_of_one, apply_nothing, may}

@@ -12,9 +12,10 @@ use Rattle.lake_model.specs.declared.history.Operation.TheVariants.{NoteSet}
 use Rattle.lake_model.specs.State.{Branch, Repository, State, head_map, sealed_map}
 use Rattle.lake_model.specs.History.{replay}
 use Rattle.lake_model.specs.Soundness.{fresh}
+use Rattle.law_examples.specs.RefusedLakes.{one_day}
 use Rattle.law_examples.specs.HistoryWords.{quickstart, first, own, head_of, entry_of, commit_entry, IsCommitAdmissible}
 use Rattle.law_examples.specs.Days.{x, y, z, said_at, first_changes, lake_before_first, first_day, lake_of_first, second_changes, lake_before_second}
-use Rattle.law_examples.specs.Days.{second_day, lake_of_second, one_day, last_changes, lake, first_commit, second_commit}
+use Rattle.law_examples.specs.Days.{second_day, lake_of_second, last_changes, lake_of_days, first_commit, second_commit}
 use Rattle.law_examples.proofs.SceneLemmas.{scene, of_main, counted, get_one, repo_there, in_quickstart, Leads, leads_one, leads_on, comes_more}
 use Rattle.law_examples.proofs.EntriesLemmas.{first_repository, may}
 use Rattle.law_examples.proofs.CommitsLemmas.{with_new, new_id, after_committing, new_map, may_commit, apart_at}
@@ -150,6 +151,6 @@ module _ (cut : Cut) (digest : Digest) where
   later_course = leads_on (upload (counted s2) r2 two refl (omega arith) refl empty 2 z digest refl)
       (leads_on (taking s3 r2 two refl (omega arith) refl empty 3 z digest refl last) noting)
 
-  pub lake_end : lake cut digest ≡ scene end (keeping r2) last
-  unfolding lake
+  pub lake_end : lake_of_days cut digest ≡ scene end (keeping r2) last
+  unfolding lake_of_days
   lake_end = ap (λ (l : State). replay l (last_changes digest)) second_end ∙ later_course.comes

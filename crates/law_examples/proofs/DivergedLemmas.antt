@@ -25,8 +25,7 @@ use Rattle.lake_model.specs.Removal.{AreDistinct, with_expired}
 use Rattle.lake_model.specs.Uncommitted.{own_number}
 use Rattle.lake_model.specs.History.{after, replay}
 use Rattle.lake_model.specs.Soundness.{fresh}
-use Rattle.law_examples.specs.HistoryWords.{quickstart, main, first, outside, head_of}
-use Rattle.law_examples.specs.RefusedLakes.{a, b}
+use Rattle.law_examples.specs.HistoryWords.{quickstart, main, first, outside, head_of, a, b}
 use Rattle.law_examples.specs.Picks.{larger_object}
 use Rattle.law_examples.specs.Merges.{Fork, branch_entry, change_entries, dev, dev_head, diverged_lake, fork_entries, lake_of_dev, rival_lake, three_commits}
 use Rattle.law_examples.proofs.SceneLemmas.{counted, get_one}

@@ -12,7 +12,7 @@ use Rattle.lake_model.specs.Naming.{IsGarbage, IsNamed}
 use Rattle.lake_model.specs.Removal.{IsExpirable, IsKeptIn, MayExpire}
 use Rattle.lake_model.specs.Soundness.{fresh}
 use Rattle.law_examples.specs.HistoryWords.{quickstart, first, IsCommitAdmissible}
-use Rattle.law_examples.specs.Days.{AreApart, commit, condemn_entry, entries, expire_entry, first_commit, lake, lake_after, lake_before_first}
+use Rattle.law_examples.specs.Days.{AreApart, commit, condemn_entry, two_days, expire_entry, first_commit, lake_of_days, lake_after, lake_before_first}
 use Rattle.law_examples.specs.Days.{lake_before_second, older_commits, said_at, second_commit}
 use Rattle.law_examples.proofs.SceneLemmas.{scene, of_main, counted, Leads, leads_one, leads_on}
 use Rattle.law_examples.proofs.EntriesLemmas.{may}
@@ -50,12 +50,13 @@ module _ (cut : Cut) (digest : Digest) where
   pub named_by_ticket : IsNamed (lake_after cut digest) 3
   named_by_ticket = subst (λ (l : State). IsNamed l 3) (sym after_is) (three_named cut digest)
 
-  pub twice : Allows (lake cut digest) (expire_entry (commit (first_commit cut digest) ∷ commit (first cut) ∷ commit (first cut) ∷ [])) → ⊥
+  pub twice : Allows (lake_of_days cut digest) (expire_entry (commit (first_commit cut digest) ∷ commit (first cut) ∷ commit (first cut) ∷ [])) → ⊥
   twice allowed = allowed.possible.distinct.1.0 (0, omega arith, refl)
 
-  pub not_head : Allows (lake cut digest) (expire_entry (commit (first_commit cut digest) ∷ commit (first cut) ∷ commit (second_commit cut digest) ∷ [])) → ⊥
+  pub not_head : Allows (lake_of_days cut digest)
+      (expire_entry (commit (first_commit cut digest) ∷ commit (first cut) ∷ commit (second_commit cut digest) ∷ [])) → ⊥
   not_head allowed =
-      let can : IsExpirable (lake cut digest) 1300000 (commit (second_commit cut digest)) =
+      let can : IsExpirable (lake_of_days cut digest) 1300000 (commit (second_commit cut digest)) =
       (allowed.possible.all (commit (second_commit cut digest))).0 (2, omega arith, refl) in
       head_stays (end cut digest) (r2 cut digest) (last cut digest) refl
       (subst (λ (id : Digest). IsExpirable at_end 1300000 (commit id)) (second_is cut digest)
@@ -63,7 +64,7 @@ module _ (cut : Cut) (digest : Digest) where
 
   -- what is no commit can't expire
   pub not_other : (id : Digest) → (first cut ≡ id → ⊥) → (first_commit cut digest ≡ id → ⊥) → (second_commit cut digest ≡ id → ⊥)
-      → Allows (lake cut digest) (expire_entry (commit (first_commit cut digest) ∷ commit (first cut) ∷ commit id ∷ [])) → ⊥
+      → Allows (lake_of_days cut digest) (expire_entry (commit (first_commit cut digest) ∷ commit (first cut) ∷ commit id ∷ [])) → ⊥
   not_other id not_first not_one not_two allowed =
       let can : IsExpirable at_end 1300000 (commit id) =
       subst (λ (l : State). IsExpirable l 1300000 (commit id)) (lake_end cut digest) ((allowed.possible.all (commit id)).0 (2, omega arith, refl)) in
@@ -125,7 +126,7 @@ module _ (cut : Cut) (digest : Digest) where
     ends : first cut ≡ two cut digest → ⊥
     ends is = apart.ends (is ∙ sym (second_is cut digest))
 
-    pub named_before : IsNamed (lake cut digest) 0
+    pub named_before : IsNamed (lake_of_days cut digest) 0
     named_before = subst (λ (l : State). IsNamed l 0) (sym (lake_end cut digest)) (zero_named cut digest late)
 
     pub named_by_head : IsNamed (lake_after cut digest) 1
@@ -152,18 +153,18 @@ module _ (cut : Cut) (digest : Digest) where
     end_allows = subst (λ (id : Digest). Allows at_end (expire_entry (listed id))) (sym (first_is cut digest))
         (may (end cut digest) (keeping (r2 cut digest)) (last cut digest) 1 (Expire 1300000 (listed (one cut digest))) refl (omega arith) may_expire)
 
-    pub allowed : Allows (lake cut digest) (expire_entry (older_commits cut digest))
+    pub allowed : Allows (lake_of_days cut digest) (expire_entry (older_commits cut digest))
     allowed = subst (λ (l : State). Allows l (expire_entry (older_commits cut digest))) (sym (lake_end cut digest)) end_allows
 
-    pub one_left : Allows (lake cut digest) (expire_entry (commit (first_commit cut digest) ∷ [])) → ⊥
+    pub one_left : Allows (lake_of_days cut digest) (expire_entry (commit (first_commit cut digest) ∷ [])) → ⊥
     one_left allows =
-        let can : IsExpirable (lake cut digest) 1300000 (commit (first cut)) = subst (λ (l : State). IsExpirable l 1300000 (commit (first cut)))
+        let can : IsExpirable (lake_of_days cut digest) 1300000 (commit (first cut)) = subst (λ (l : State). IsExpirable l 1300000 (commit (first cut)))
         (sym (lake_end cut digest)) (can_expire (commit (first cut)) (1, omega arith, refl)) in
         apart.early (sym (ap (λ (c : RepositoryCommit). c.commit)
         (only_element (commit (first_commit cut digest)) (commit (first cut)) ((allows.possible.all (commit (first cut))).1 can))))
 
     pub legal : IsCommitAdmissible (lake_before_first cut digest) (said_at 1000000) → IsCommitAdmissible (lake_before_second cut digest) (said_at 1100000)
-        → IsLegal (fresh cut) (entries cut digest)
+        → IsLegal (fresh cut) (two_days cut digest)
     legal first_admissible second_admissible =
         (leads_on (first_legal cut digest first_admissible) (leads_on (second_legal cut digest second_admissible)
         (leads_on (later_course cut digest) (leads_on (leads_one end_allows after_older) condemning_course)))).legal

@@ -15,8 +15,8 @@ use Rattle.lake_model.specs.Steps.{stage_reply}
 use Rattle.lake_model.specs.Uncommitted.{with_staged}
 use Rattle.lake_model.specs.Versions.{branch_version, fresh_versions}
 use Rattle.lake_model.specs.Soundness.{fresh}
-use Rattle.law_examples.specs.HistoryWords.{quickstart, main, at_main, outside, put_entry}
-use Rattle.law_examples.specs.Guard.{a, seal_of_other, entries, lake_of_seal, versions_of_seal, lake}
+use Rattle.law_examples.specs.HistoryWords.{quickstart, main, at_main, outside, put_entry, a}
+use Rattle.law_examples.specs.Guard.{seal_of_other, seal_and_write, lake_of_seal, versions_of_seal, lake_of_write}
 use Rattle.law_examples.proofs.SceneLemmas.{scene, counted, on_main, repo_there, main_there, get_one, Leads, leads_one, leads_on}
 use Rattle.law_examples.proofs.EntriesLemmas.{first_repository, first_branch, may, after_put_outside, after_empty_seal}
 use Rattle.law_examples.proofs.MapsLemmas.{first_map, get_now, no_change, no_entry}
@@ -42,7 +42,7 @@ module _ (cut : Cut) where
       (on_main (λ r b. IsUnprotected r main) (counted (fresh cut)) (first_repository cut) (first_branch cut) refl, tt))
       (after_put_outside (counted (fresh cut)) (first_repository cut) (first_branch cut) a)
 
-  pub course : Leads (fresh cut) entries (scene (counted (counted (fresh cut))) (first_repository cut) with_object)
+  pub course : Leads (fresh cut) seal_and_write (scene (counted (counted (fresh cut))) (first_repository cut) with_object)
   course = leads_on first_entry second_entry
 
   pub late : stage_reply (lake_of_seal cut) versions_of_seal quickstart main 1 ≡ Err (Changed 2 0)
@@ -66,6 +66,6 @@ module _ (cut : Cut) where
   before = subst (λ (x : State). look_reply x quickstart at_main a ≡ Ok (record { at = 1; found = None; gone = false })) (sym first_entry.comes)
       (simp (repo_there, main_there, none_before))
 
-  pub later : look_reply (lake cut) quickstart at_main a ≡ Ok (record { at = 2; found = Some outside; gone = false })
+  pub later : look_reply (lake_of_write cut) quickstart at_main a ≡ Ok (record { at = 2; found = Some outside; gone = false })
   later = subst (λ (x : State). look_reply x quickstart at_main a ≡ Ok (record { at = 2; found = Some outside; gone = false })) (sym course.comes)
       (simp (repo_there, main_there, one_after))

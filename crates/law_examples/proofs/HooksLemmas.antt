@@ -14,8 +14,7 @@ use Rattle.lake_model.specs.Branches.{clean_branch}
 use Rattle.lake_model.specs.Commits.{denied_by}
 use Rattle.lake_model.specs.Removal.{AreDistinct}
 use Rattle.lake_model.specs.History.{Allows, after}
-use Rattle.law_examples.specs.HistoryWords.{quickstart, main, first, outside, entry_of}
-use Rattle.law_examples.specs.RefusedLakes.{b}
+use Rattle.law_examples.specs.HistoryWords.{quickstart, main, first, outside, entry_of, b}
 use Rattle.law_examples.specs.Merges.{Fork, IsMergeAdmissible, change_limit, dev_head, diverged_lake, hooked_lake, merge_entry, three_commits}
 use Rattle.law_examples.proofs.EntriesLemmas.{apply_nothing}
 use Rattle.law_examples.proofs.SceneLemmas.{counted}

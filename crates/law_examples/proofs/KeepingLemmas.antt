@@ -16,8 +16,9 @@ use Rattle.lake_model.specs.NoteChanges.{notes_after}
 use Rattle.lake_model.specs.Parts.{in_repository}
 use Rattle.lake_model.specs.Removal.{IsExpirable, IsKeptIn, heads_of, tagged_of, with_expired}
 use Rattle.lake_model.specs.History.{after}
+use Rattle.law_examples.specs.RefusedLakes.{one_day}
 use Rattle.law_examples.specs.HistoryWords.{quickstart, main}
-use Rattle.law_examples.specs.Days.{commit, expire_entry, one_day}
+use Rattle.law_examples.specs.Days.{commit, expire_entry}
 use Rattle.law_examples.proofs.SceneLemmas.{scene, of_main, counted, repo_there, in_quickstart}
 use Rattle.law_examples.proofs.NamingLemmas.{only_one}
 use Rattle.law_examples.proofs.GraphsLemmas.{AreDatedBy, entries_one, entries_empty}

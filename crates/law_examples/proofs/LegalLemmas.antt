@@ -12,8 +12,7 @@ use Rattle.lake_model.specs.History.{Allows, IsLegal}
 use Rattle.lake_model.specs.Removal.{AreDistinct}
 use Rattle.lake_model.specs.Soundness.{fresh}
 use Rattle.lake_model.specs.Uncommitted.{own_number}
-use Rattle.law_examples.specs.HistoryWords.{main, first, outside}
-use Rattle.law_examples.specs.RefusedLakes.{a, b}
+use Rattle.law_examples.specs.HistoryWords.{main, first, outside, a, b}
 use Rattle.law_examples.specs.Picks.{larger_object}
 use Rattle.law_examples.specs.Merges.{AreChangesAdmissible, Fork, IsChangeAdmissible, branch_entry, change_entries, dev, diverged_lake, fork_entries}
 use Rattle.law_examples.specs.Merges.{rival_lake, three_commits}

@@ -2,6 +2,7 @@ pub mod AcceptedLemmas
 pub mod AheadLemmas
 pub mod AllowedLemmas
 pub mod BranchesLemmas
+pub mod CallHistoriesLemmas
 pub mod ChangesLemmas
 pub mod CommitsLemmas
 pub mod CommittingLemmas
@@ -33,6 +34,7 @@ pub mod SidesLemmas
 pub mod StaysStagedLemmas
 pub mod TakenBackLemmas
 pub mod TwoSealsLemmas
+pub mod UploadStepsLemmas
 pub mod UploadsLemmas
 pub mod VersionsLemmas
 pub mod WritingLemmas

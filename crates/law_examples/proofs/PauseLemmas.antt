@@ -24,12 +24,13 @@ use Rattle.lake_model.specs.Refusals.{Causes, Clash, cause_if, first_cause, firs
 use Rattle.lake_model.specs.State.{Branch, Repository, State, is_expired}
 use Rattle.lake_model.specs.Steps.{SwapRule, expired_fault, is_current, new_commit, swap_causes, swap_rule}
 use Rattle.lake_model.specs.Versions.{VersionsGiven, branch_version, settings_version}
+use Rattle.law_examples.specs.RefusedLakes.{one_day}
 use Rattle.law_examples.specs.HistoryWords.{quickstart, main, first, entry_of}
 use Rattle.law_examples.proofs.InsertsLemmas.{stands}
 use Rattle.law_examples.proofs.MapsLemmas.{get_put}
 use Rattle.law_examples.proofs.EntriesLemmas.{may}
 use Rattle.law_examples.proofs.SceneLemmas.{counted, in_quickstart, main_there, of_main, repo_there, scene}
-use Rattle.law_examples.specs.Days.{AreApart, commit, expire_entry, first_commit, older_commits, one_day, quiet_lake, quiet_lake_after}
+use Rattle.law_examples.specs.Days.{AreApart, commit, expire_entry, first_commit, older_commits, quiet_lake, quiet_lake_after}
 use Rattle.law_examples.proofs.DaysLemmas.{clean_second, first_is, one, r2, s2, second_end, second_is, two}
 use Rattle.law_examples.proofs.EndLemmas.{dated, left, live_first, live_one, only}
 use Rattle.law_examples.proofs.KeepingLemmas.{after_expiring, expirable_listed, keeping, listed_expirable, only_element}

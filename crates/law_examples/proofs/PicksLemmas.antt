@@ -30,8 +30,8 @@ use Rattle.lake_model.specs.Removal.{with_expired}
 use Rattle.lake_model.specs.Parts.{in_repository}
 use Rattle.lake_model.specs.Uncommitted.{copied_map, with_staged}
 use Rattle.lake_model.specs.History.{Allows, after, replay}
-use Rattle.law_examples.specs.HistoryWords.{quickstart, main, first, outside, head_of, entry_of, put_entry, seal_entry, commit_entry}
-use Rattle.law_examples.specs.RefusedLakes.{a, b, ready_lake}
+use Rattle.law_examples.specs.HistoryWords.{quickstart, main, first, outside, head_of, entry_of, put_entry, seal_entry, commit_entry, a, b}
+use Rattle.law_examples.specs.RefusedLakes.{ready_lake}
 use Rattle.law_examples.specs.Picks.{IsPickAdmissible, asking_lake, barred_lake, barred_pick_lake, committed_lake, copy_entry, expired_head_lake, new_commit}
 use Rattle.law_examples.specs.Picks.{new_pick, pick_entry, reason, reason_wanted, sealed_lake, with_reason, without_metadata}
 use Rattle.law_examples.proofs.SceneLemmas.{scene, counted, get_one, in_quickstart, main_there, on_main, the_main}

@@ -19,8 +19,7 @@ use Rattle.lake_model.specs.Parts.{in_repository}
 use Rattle.lake_model.specs.Removal.{AreDistinct, with_expired}
 use Rattle.lake_model.specs.Commits.{IsMerge}
 use Rattle.lake_model.specs.History.{Allows, after, replay}
-use Rattle.law_examples.specs.HistoryWords.{quickstart, main, first, outside, head_of, put_entry, seal_entry}
-use Rattle.law_examples.specs.RefusedLakes.{a, b}
+use Rattle.law_examples.specs.HistoryWords.{quickstart, main, first, outside, head_of, put_entry, seal_entry, a, b}
 use Rattle.law_examples.specs.Merges.{Fork, IsMergeAdmissible, dev_head, diverged_lake, merge_commit, merge_entry, resealed_lake, three_commits}
 use Rattle.law_examples.proofs.CommitsLemmas.{apart_at}
 use Rattle.law_examples.proofs.MapsLemmas.{get_put}

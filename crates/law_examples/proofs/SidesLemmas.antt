@@ -16,8 +16,7 @@ use Rattle.lake_values.specs.declared.entry.Change.TheVariants.{Put}
 use Rattle.lake_values.specs.declared.merge.Side.TheVariants.{Source, Destination, Neither}
 use Rattle.lake_values.proofs.KeyMapLemmas.{get_apply, get_differences, same, same_as_itself}
 use Rattle.lake_values.proofs.MergingLemmas.{refused_from, refused_to, same_path}
-use Rattle.law_examples.specs.HistoryWords.{outside}
-use Rattle.law_examples.specs.RefusedLakes.{a, b}
+use Rattle.law_examples.specs.HistoryWords.{outside, a, b}
 use Rattle.law_examples.specs.Picks.{larger_object}
 use Rattle.law_examples.proofs.MapsLemmas.{no_entry}
 use Rattle.law_examples.proofs.SceneLemmas.{get_one}

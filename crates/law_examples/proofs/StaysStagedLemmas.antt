@@ -16,8 +16,8 @@ use Rattle.lake_model.specs.Uncommitted.{with_staged}
 use Rattle.lake_model.specs.History.{IsLegal}
 use Rattle.lake_model.specs.Soundness.{fresh}
 use Rattle.lake_model.specs.Versions.{branch_version, count_versions, fresh_versions}
-use Rattle.law_examples.specs.HistoryWords.{quickstart, main, outside, put_entry, seal_entry, commit_entry, read_at, IsCommitAdmissible}
-use Rattle.law_examples.specs.StaysStaged.{a, b, until_seal, until_second, entries, lake_before, lake}
+use Rattle.law_examples.specs.HistoryWords.{quickstart, main, outside, put_entry, seal_entry, commit_entry, read_at, IsCommitAdmissible, a, b, until_seal}
+use Rattle.law_examples.specs.StaysStaged.{until_second_put, commit_beside_staged, lake_before_commit, lake_beside_staged}
 use Rattle.law_examples.proofs.SceneLemmas.{scene, counted, on_main, get_one, Leads, leads_one, leads_on, legal_more, comes_more}
 use Rattle.law_examples.proofs.EntriesLemmas.{first_repository, first_branch, may, after_put_outside, after_seal_of_one}
 use Rattle.law_examples.proofs.CommitsLemmas.{with_new, at_new, after_committing, new_map, may_commit, apart_at}
@@ -34,7 +34,7 @@ module _ (cut : Cut) where
   abbrev with_b : Branch
   with_b = with_staged b (Put outside) a_sealed
 
-  abbrev first_state : State
+  abbrev pub first_state : State
   first_state = counted (fresh cut)
 
   abbrev pub second_state : State
@@ -43,7 +43,7 @@ module _ (cut : Cut) where
   abbrev third_state : State
   third_state = counted second_state
 
-  first_entry : Leads (fresh cut) (put_entry a outside ∷ []) (scene first_state (first_repository cut) with_a)
+  pub first_entry : Leads (fresh cut) (put_entry a outside ∷ []) (scene first_state (first_repository cut) with_a)
   first_entry = leads_one
       (may (fresh cut) (first_repository cut) (first_branch cut) 1 (Stage quickstart main a (Put outside)) refl (omega arith)
       (on_main (λ r b. IsUnprotected r main) (fresh cut) (first_repository cut) (first_branch cut) refl, tt))
@@ -64,7 +64,7 @@ module _ (cut : Cut) where
       (on_main (λ r b. IsUnprotected r main) second_state (first_repository cut) a_sealed refl, tt))
       (after_put_outside second_state (first_repository cut) a_sealed b)
 
-  to_second : Leads (fresh cut) until_second (scene third_state (first_repository cut) with_b)
+  to_second : Leads (fresh cut) until_second_put (scene third_state (first_repository cut) with_b)
   to_second = leads_on to_seal third_entry
 
   -- what the next commit has at the two paths
@@ -84,27 +84,28 @@ module _ (cut : Cut) where
     abbrev new_branch : Branch
     new_branch = at_new third_state (first_repository cut) with_b about
 
-    comes : lake cut about ≡ scene (counted third_state) new_repository new_branch
+    comes : lake_beside_staged cut about ≡ scene (counted third_state) new_repository new_branch
     comes = comes_more (commit_entry about) to_second (after_committing third_state (first_repository cut) with_b about)
 
-    pub legal : IsCommitAdmissible (lake_before cut) about → IsLegal (fresh cut) (entries about)
+    pub legal : IsCommitAdmissible (lake_before_commit cut) about → IsLegal (fresh cut) (commit_beside_staged about)
     legal admissible = legal_more to_second
         (may_commit third_state (first_repository cut) with_b about refl (omega arith) refl refl
         (apart_at (sealed_map (first_repository cut) with_b) (head_map (first_repository cut) with_b) a outside has_a lacks_a)
         (subst (λ (x : State). IsCommitAdmissible x about) to_second.comes admissible))
 
-    in_head : (P : KeyMapValue → Type 0) → P (sealed_map (first_repository cut) with_b) → HasBranch (lake cut about) quickstart main (λ x y. P (head_map x y))
+    in_head : (P : KeyMapValue → Type 0) → P (sealed_map (first_repository cut) with_b)
+        → HasBranch (lake_beside_staged cut about) quickstart main (λ x y. P (head_map x y))
     in_head P p = subst (λ (x : State). HasBranch x quickstart main (λ x y. P (head_map x y))) (sym comes)
         (on_main (λ x y. P (head_map x y))
         (counted third_state) new_repository new_branch (subst P (sym (new_map third_state (first_repository cut) with_b about)) p))
 
-    pub in_commit : HasBranch (lake cut about) quickstart main (λ x y. get (head_map x y) a ≡ Some outside)
+    pub in_commit : HasBranch (lake_beside_staged cut about) quickstart main (λ x y. get (head_map x y) a ≡ Some outside)
     in_commit = in_head (λ (m : KeyMapValue). get m a ≡ Some outside) has_a
 
-    pub not_in_commit : HasBranch (lake cut about) quickstart main (λ x y. get (head_map x y) b ≡ None)
+    pub not_in_commit : HasBranch (lake_beside_staged cut about) quickstart main (λ x y. get (head_map x y) b ≡ None)
     not_in_commit = in_head (λ (m : KeyMapValue). get m b ≡ None) lacks_b
 
-    reads : (path : List ℕ) → read_at (lake cut about) path ≡ value_after (get {R = byte_order} (insert empty b (Put outside)) path)
+    reads : (path : List ℕ) → read_at (lake_beside_staged cut about) path ≡ value_after (get {R = byte_order} (insert empty b (Put outside)) path)
         (value_after (get {R = byte_order} empty path) (get (sealed_map (first_repository cut) with_b) path))
     reads path =
         ap (λ (x : State). read_at x path) comes
@@ -112,14 +113,14 @@ module _ (cut : Cut) where
         ∙ ap (λ (m : KeyMapValue). value_after (get (insert {R = byte_order} empty b (Put outside)) path)
         (value_after (get {R = byte_order} empty path) (get m path))) (new_map third_state (first_repository cut) with_b about)
 
-    pub reads_a : read_at (lake cut about) a ≡ Some outside
+    pub reads_a : read_at (lake_beside_staged cut about) a ≡ Some outside
     reads_a = reads a ∙ simp (get_one b (Put outside) a, no_change, has_a)
 
-    pub reads_b : read_at (lake cut about) b ≡ Some outside
+    pub reads_b : read_at (lake_beside_staged cut about) b ≡ Some outside
     reads_b = reads b ∙ simp (get_one b (Put outside) b)
 
 pub second : branch_version (count_versions fresh_versions until_seal) quickstart main ≡ 2
 second = version_given fresh_versions
 
-pub third : (about : AboutValue) → branch_version (count_versions fresh_versions (entries about)) quickstart main ≡ 3
-third about = version_given (count_versions fresh_versions until_second)
+pub third : (about : AboutValue) → branch_version (count_versions fresh_versions (commit_beside_staged about)) quickstart main ≡ 3
+third about = version_given (count_versions fresh_versions until_second_put)

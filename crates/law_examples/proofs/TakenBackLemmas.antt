@@ -16,8 +16,8 @@ use Rattle.lake_model.specs.Branches.{IsUnprotected}
 use Rattle.lake_model.specs.Uncommitted.{after_ticket_drop, after_ticket_take, put_number, with_staged}
 use Rattle.lake_model.specs.Naming.{IsNamed, IsGarbage, IsPut}
 use Rattle.lake_model.specs.Soundness.{fresh}
-use Rattle.law_examples.specs.HistoryWords.{quickstart, main, own, ticket_entry, put_entry, delete_entry, seal_entry, read_at}
-use Rattle.law_examples.specs.TakenBack.{a, upload, upload_and_deletion, entries, lake_of_upload, lake_of_deletion, lake}
+use Rattle.law_examples.specs.HistoryWords.{quickstart, main, own, ticket_entry, put_entry, delete_entry, seal_entry, read_at, a}
+use Rattle.law_examples.specs.TakenBack.{upload, upload_and_deletion, sealed_deletion, lake_of_upload, lake_of_deletion, lake_of_sealed_deletion}
 use Rattle.law_examples.proofs.SceneLemmas.{scene, counted, on_main, put_again, get_one, Leads, leads_one, leads_on}
 use Rattle.law_examples.proofs.EntriesLemmas.{first_repository, first_branch, may, after_put_own, after_deletion, after_seal_of_one}
 use Rattle.law_examples.proofs.MapsLemmas.{first_map, read_scene, delete_nothing}
@@ -73,15 +73,15 @@ module _ (cut : Cut) (digest : Digest) where
   pub to_deletion : Leads (fresh cut) (upload_and_deletion digest) (scene (counted used) (first_repository cut) dropped)
   to_deletion = leads_on to_upload third_entry
 
-  pub course : Leads (fresh cut) (entries digest) (scene (counted (counted used)) (first_repository cut) emptied)
+  pub course : Leads (fresh cut) (sealed_deletion digest) (scene (counted (counted used)) (first_repository cut) emptied)
   course = leads_on to_deletion fourth_entry
 
-  pub same : HasBranch (lake cut digest) quickstart main (λ r b. sealed_map r b ≡ head_map r b)
+  pub same : HasBranch (lake_of_sealed_deletion cut digest) quickstart main (λ r b. sealed_map r b ≡ head_map r b)
   same = subst (λ (x : State). HasBranch x quickstart main (λ r b. sealed_map r b ≡ head_map r b)) (sym course.comes)
       (on_main (λ r b. sealed_map r b ≡ head_map r b) (counted (counted used)) (first_repository cut) emptied
       (ap (apply (insert empty a Delete)) (first_map cut _) ∙ delete_nothing a ∙ sym (first_map cut _)))
 
-  pub reads : read_at (lake cut digest) a ≡ None
+  pub reads : read_at (lake_of_sealed_deletion cut digest) a ≡ None
   reads =
       ap (λ (x : State). read_at x a) course.comes
       ∙ read_scene (counted (counted used)) (first_repository cut) emptied a

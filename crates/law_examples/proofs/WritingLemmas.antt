@@ -27,8 +27,8 @@ use Rattle.lake_model.specs.Uncommitted.{MaySeal, after_ticket_take, copied_map}
 use Rattle.lake_model.specs.History.{Allows, IsPossible, accepted_entry, after, faulted_entry}
 use Rattle.lake_model.specs.Soundness.{fresh}
 use Rattle.law_examples.specs.HistoryWords.{quickstart, main, outside, own, entry_of, entry_by, ticket_entry, put_entry, delete_entry, seal_entry, commit_entry}
-use Rattle.law_examples.specs.HistoryWords.{IsCommitAdmissible}
-use Rattle.law_examples.specs.RefusedLakes.{a, b, fault_of, mail, one_day, stopped_lake, lake_of_entries, ticket_lake, retaining_lake, ready_lake}
+use Rattle.law_examples.specs.HistoryWords.{IsCommitAdmissible, a, b}
+use Rattle.law_examples.specs.RefusedLakes.{fault_of, mail, one_day, stopped_lake, lake_of_entries, ticket_lake, retaining_lake, ready_lake}
 use Rattle.law_examples.specs.RefusedLakes.{protected_lake}
 use Rattle.law_examples.proofs.SceneLemmas.{scene, of_main, counted, get_one, main_there, on_main, the_main}
 use Rattle.law_examples.proofs.EntriesLemmas.{first_repository, first_branch, may}

@@ -2,8 +2,6 @@
 use Rattle.std.specs.Prelude.{◌≡◌, List, [], ◌∷◌, ◌++◌, ℕ, Some, codes}
 use Rattle.lake_base.specs.declared.digest.Digest.{Digest}
 use Rattle.lake_values.specs.Commit.{AboutValue}
-use Rattle.lake_values.specs.declared.settings.Note.{Note}
-use Rattle.lake_values.specs.declared.settings.Note.TheVariants.{Retention}
 use Rattle.lake_values.specs.declared.settings.NoteName.TheVariants as name
 use Rattle.lake_format.specs.declared.cut.Cut.{Cut}
 use Rattle.lake_model.specs.declared.history.HistoryEntry.{HistoryEntry}
@@ -13,6 +11,7 @@ use Rattle.lake_model.specs.State.{State}
 use Rattle.lake_model.specs.History.{after, replay}
 use Rattle.lake_model.specs.Soundness.{fresh}
 use Rattle.law_examples.specs.HistoryWords.{quickstart, first, own, head_of, entry_of, ticket_entry, put_entry, delete_entry, seal_entry, commit_entry}
+use Rattle.law_examples.specs.RefusedLakes.{one_day}
 
 abbrev pub x : List ℕ
 x = codes "x"
@@ -55,17 +54,13 @@ second_day digest = second_changes digest ++ commit_entry (said_at 1100000) ∷ 
 unfoldable pub lake_of_second : Cut → Digest → State
 lake_of_second cut digest = replay (lake_of_first cut digest) (second_day digest)
 
--- commits are kept for a day
-abbrev pub one_day : Note
-one_day = Retention (record { default_days = 1; branches = [] })
-
 -- the number 2 is put at `z` and sealed, the number 3 is given out for an upload, and commits are kept for a day
 abbrev pub last_changes : Digest → List HistoryEntry
 last_changes digest =
     ticket_entry 2 ∷ put_entry z (own digest 2) ∷ seal_entry ∷ ticket_entry 3 ∷ entry_of (NoteSet quickstart name.Retention (Some one_day)) ∷ []
 
-unfoldable pub lake : Cut → Digest → State
-lake cut digest = replay (lake_of_second cut digest) (last_changes digest)
+unfoldable pub lake_of_days : Cut → Digest → State
+lake_of_days cut digest = replay (lake_of_second cut digest) (last_changes digest)
 
 -- the lake of the two days with nothing sealed or given out after them: commits are kept for a day
 unfoldable pub quiet_lake : Cut → Digest → State
@@ -98,7 +93,7 @@ older_commits cut digest = commit (first_commit cut digest) ∷ commit (first cu
 
 -- the lake after that
 abbrev pub lake_after : Cut → Digest → State
-lake_after cut digest = after (lake cut digest) (expire_entry (older_commits cut digest))
+lake_after cut digest = after (lake_of_days cut digest) (expire_entry (older_commits cut digest))
 
 -- the quiet lake after that
 abbrev pub quiet_lake_after : Cut → Digest → State
@@ -109,6 +104,6 @@ abbrev pub condemn_entry : HistoryEntry
 condemn_entry = entry_of (Condemn (0 ∷ []))
 
 -- the whole history
-abbrev pub entries : Cut → Digest → List HistoryEntry
-entries cut digest =
+abbrev pub two_days : Cut → Digest → List HistoryEntry
+two_days cut digest =
     first_day digest ++ (second_day digest ++ (last_changes digest ++ expire_entry (older_commits cut digest) ∷ condemn_entry ∷ []))

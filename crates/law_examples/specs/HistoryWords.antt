@@ -1,5 +1,5 @@
 -- Words that the examples share: names, entries, and who makes them.
-use Rattle.std.specs.Prelude.{false, ℕ, List, [], Option, codes, option_and_then, option_map}
+use Rattle.std.specs.Prelude.{false, ℕ, List, [], ◌∷◌, Option, codes, option_and_then, option_map}
 use Rattle.std.specs.Option.{unwrap_or}
 use Rattle.std.specs.FinMap.{empty, get}
 use Rattle.lake_base.specs.declared.digest.Digest.{Digest}
@@ -26,6 +26,13 @@ quickstart = codes "quickstart"
 
 abbrev pub main : List ℕ
 main = codes "main"
+
+-- paths
+abbrev pub a : List ℕ
+a = codes "a"
+
+abbrev pub b : List ℕ
+b = codes "b"
 
 -- the branch as an expression
 abbrev pub at_main : RefExprValue
@@ -66,6 +73,10 @@ delete_entry path = entry_of (Stage quickstart main path Delete)
 -- what is staged on `main` is sealed for a commit
 abbrev pub seal_entry : HistoryEntry
 seal_entry = entry_of (Seal quickstart main seal.Commit)
+
+-- the outside object is put at `a`, and `main` is sealed
+abbrev pub until_seal : List HistoryEntry
+until_seal = put_entry a outside ∷ seal_entry ∷ []
 
 -- what is sealed on `main` is committed
 abbrev pub commit_entry : AboutValue → HistoryEntry

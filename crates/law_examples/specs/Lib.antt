@@ -1,3 +1,4 @@
+pub mod CallHistories
 pub mod Days
 pub mod Guard
 pub mod HistoryWords
@@ -8,3 +9,4 @@ pub mod RefusedLakes
 pub mod StaysStaged
 pub mod TakenBack
 pub mod TwoSeals
+pub mod UploadSteps

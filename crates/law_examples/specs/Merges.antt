@@ -21,8 +21,7 @@ use Rattle.lake_model.specs.Removal.{with_expired}
 use Rattle.lake_model.specs.Commits.{IsAdmissible, commit_draft, merge_draft}
 use Rattle.lake_model.specs.History.{after, replay}
 use Rattle.lake_model.specs.Soundness.{fresh}
-use Rattle.law_examples.specs.HistoryWords.{quickstart, main, first, outside, head_of, entry_of, put_entry, seal_entry}
-use Rattle.law_examples.specs.RefusedLakes.{a, b}
+use Rattle.law_examples.specs.HistoryWords.{quickstart, main, first, outside, head_of, entry_of, put_entry, seal_entry, a, b}
 use Rattle.law_examples.specs.Picks.{larger_object}
 
 -- another branch than `main`

@@ -8,9 +8,9 @@ use Rattle.lake_model.specs.Soundness.{fresh}
 use Rattle.law_examples.specs.HistoryWords.{seal_entry}
 
 -- `main` is sealed, and nothing was staged
-abbrev pub entries : List HistoryEntry
-entries = seal_entry ∷ []
+abbrev pub empty_seal : List HistoryEntry
+empty_seal = seal_entry ∷ []
 
 -- the lake after it
-abbrev pub lake : Cut → State
-lake cut = replay (fresh cut) entries
+abbrev pub lake_of_nothing : Cut → State
+lake_of_nothing cut = replay (fresh cut) empty_seal

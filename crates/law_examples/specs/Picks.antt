@@ -18,8 +18,8 @@ use Rattle.lake_model.specs.Parts.{in_repository}
 use Rattle.lake_model.specs.Removal.{with_expired}
 use Rattle.lake_model.specs.Commits.{IsAdmissible, pick_draft}
 use Rattle.lake_model.specs.History.{after, replay}
-use Rattle.law_examples.specs.HistoryWords.{quickstart, main, first, outside, head_of, entry_of, put_entry, seal_entry, commit_entry}
-use Rattle.law_examples.specs.RefusedLakes.{a, b, ready_lake}
+use Rattle.law_examples.specs.HistoryWords.{quickstart, main, first, outside, head_of, entry_of, put_entry, seal_entry, commit_entry, a, b}
+use Rattle.law_examples.specs.RefusedLakes.{ready_lake}
 
 -- a commit of `main` may change no path
 abbrev pub no_changes : Note

@@ -13,14 +13,7 @@ use Rattle.lake_model.specs.Parts.{in_repository}
 use Rattle.lake_model.specs.Removal.{with_expired}
 use Rattle.lake_model.specs.History.{after, faulted_entry, replay}
 use Rattle.lake_model.specs.Soundness.{fresh}
-use Rattle.law_examples.specs.HistoryWords.{quickstart, main, first, outside, entry_of, ticket_entry, put_entry, seal_entry}
-
--- paths
-abbrev pub a : List ℕ
-a = codes "a"
-
-abbrev pub b : List ℕ
-b = codes "b"
+use Rattle.law_examples.specs.HistoryWords.{quickstart, main, first, entry_of, ticket_entry, until_seal}
 
 -- a repository that isn't there
 abbrev pub elsewhere : List ℕ
@@ -90,7 +83,7 @@ ticket_lake cut = after (fresh cut) (ticket_entry 0)
 
 -- the outside object is put at `a`, and sealed
 abbrev pub ready_lake : Cut → State
-ready_lake cut = replay (fresh cut) (put_entry a outside ∷ seal_entry ∷ [])
+ready_lake cut = replay (fresh cut) until_seal
 
 -- so it is, and then `main` is protected
 abbrev pub protected_lake : Cut → State

@@ -15,9 +15,10 @@ ghost use Rattle.lake_model.specs.Branches.{IsUnprotected};
 ghost use Rattle.lake_model.specs.Commits.{AreKept, Draft, IsAdmissible, MayBecomeHead, StandsBefore, bare_repository};
 ghost use Rattle.lake_model.specs.Commits.{bytes_of, commit_draft, first_draft, record_of};
 ghost use Rattle.lake_model.specs.History.{Allows};
+ghost use Rattle.law_examples.specs.HistoryWords.{a, b};
 ghost use Rattle.law_examples.specs.HistoryWords.{quickstart, main, first, commit_entry, entry_of, IsCommitAdmissible};
-ghost use Rattle.law_examples.specs.Nothing as nothing;
-ghost use Rattle.law_examples.specs.RefusedLakes.{a, b, ready_lake};
+ghost use Rattle.law_examples.specs.Nothing.{lake_of_nothing};
+ghost use Rattle.law_examples.specs.RefusedLakes.{ready_lake};
 ghost use Rattle.law_examples.specs.Picks.{AreThree, IsPickAdmissible, asking_lake, barred_lake, barred_pick_lake};
 ghost use Rattle.law_examples.specs.Picks.{committed_lake, copy_entry, expired_head_lake, limited_lake, new_commit};
 ghost use Rattle.law_examples.specs.Picks.{new_pick, pick_entry, sealed_lake, twice_committed_lake, with_reason};
@@ -26,10 +27,10 @@ ghost use Rattle.law_examples.specs.Picks.{without_metadata};
 /// Nothing is sealed that changes the head's map, though all else that a commit asks holds. The premise is that no file
 /// of it shares its name with other bytes.
 pub fn nothing_to_commit()
-    ensures others { (cut : Cut) (about : AboutValue) → IsCommitAdmissible (nothing.lake cut) about
-        → HasBranch (nothing.lake cut) quickstart main
-        (λ r b. IsUnprotected r main × MayBecomeHead (nothing.lake cut) main r b (commit_draft r b about)) }
-    ensures refused { (cut : Cut) (about : AboutValue) → Allows (nothing.lake cut) (commit_entry about) → ⊥ }
+    ensures others { (cut : Cut) (about : AboutValue) → IsCommitAdmissible (lake_of_nothing cut) about
+        → HasBranch (lake_of_nothing cut) quickstart main
+        (λ r b. IsUnprotected r main × MayBecomeHead (lake_of_nothing cut) main r b (commit_draft r b about)) }
+    ensures refused { (cut : Cut) (about : AboutValue) → Allows (lake_of_nothing cut) (commit_entry about) → ⊥ }
 {}
 
 /// A hook denies the commit: it changes one path, and may change none.

@@ -16,9 +16,9 @@ ghost use Rattle.lake_model.specs.declared.fault.StepFault.TheVariants.{Expired}
 ghost use Rattle.lake_model.specs.declared.reply.Sides.TheVariants as sides;
 ghost use Rattle.lake_model.specs.declared.reply.SwapKind.TheVariants.{Pick};
 ghost use Rattle.law_examples.specs.HistoryWords.{first, main, quickstart, IsCommitAdmissible};
-ghost use Rattle.law_examples.specs.Days.{AreApart, commit, entries, expire_entry, first_commit, lake, lake_after};
+ghost use Rattle.law_examples.specs.Days.{AreApart, commit, expire_entry, first_commit, lake_after, lake_of_days};
 ghost use Rattle.law_examples.specs.Days.{lake_before_first, lake_before_second, older_commits, quiet_lake};
-ghost use Rattle.law_examples.specs.Days.{quiet_lake_after, said_at, second_commit};
+ghost use Rattle.law_examples.specs.Days.{quiet_lake_after, said_at, second_commit, two_days};
 
 /// Commits are kept for a day. At the moment 1,300,000 those expire that are no branch's head, as all are dated before
 /// the moment 1,213,600. Then the number 0, of an object that was deleted in the second commit, is garbage and is
@@ -28,8 +28,8 @@ pub fn expiry()
     ensures moment { cutoff 1300000 1 ≡ 1213600 }
     ensures legal { (cut : Cut) (digest : Digest) → IsCommitAdmissible (lake_before_first cut digest) (said_at 1000000)
         → IsCommitAdmissible (lake_before_second cut digest) (said_at 1100000) → AreApart cut digest
-        → IsLegal (fresh cut) (entries cut digest) }
-    ensures named_before { (cut : Cut) (digest : Digest) → AreApart cut digest → IsNamed (lake cut digest) 0 }
+        → IsLegal (fresh cut) (two_days cut digest) }
+    ensures named_before { (cut : Cut) (digest : Digest) → AreApart cut digest → IsNamed (lake_of_days cut digest) 0 }
     ensures garbage { (cut : Cut) (digest : Digest) → IsGarbage (lake_after cut digest) 0 }
     ensures named_by_head { (cut : Cut) (digest : Digest) → AreApart cut digest → IsNamed (lake_after cut digest) 1 }
     ensures named_by_seal { (cut : Cut) (digest : Digest) → IsNamed (lake_after cut digest) 2 }
@@ -39,19 +39,19 @@ pub fn expiry()
 /// All that can expire do, each once, and nothing else does.
 pub fn expiry_of_others()
     ensures allowed { (cut : Cut) (digest : Digest) → AreApart cut digest
-        → Allows (lake cut digest) (expire_entry (commit (first_commit cut digest) ∷ commit (first cut) ∷ [])) }
+        → Allows (lake_of_days cut digest) (expire_entry (commit (first_commit cut digest) ∷ commit (first cut) ∷ [])) }
     ensures one_left { (cut : Cut) (digest : Digest) → AreApart cut digest
-        → Allows (lake cut digest) (expire_entry (commit (first_commit cut digest) ∷ [])) → ⊥ }
+        → Allows (lake_of_days cut digest) (expire_entry (commit (first_commit cut digest) ∷ [])) → ⊥ }
     ensures twice { (cut : Cut) (digest : Digest)
-        → Allows (lake cut digest)
+        → Allows (lake_of_days cut digest)
         (expire_entry (commit (first_commit cut digest) ∷ commit (first cut) ∷ commit (first cut) ∷ [])) → ⊥ }
     ensures head { (cut : Cut) (digest : Digest)
-        → Allows (lake cut digest)
+        → Allows (lake_of_days cut digest)
         (expire_entry (commit (first_commit cut digest) ∷ commit (first cut) ∷ commit (second_commit cut digest) ∷ []))
         → ⊥ }
     ensures no_commit { (cut : Cut) (digest id : Digest)
         → (first cut ≡ id → ⊥) → (first_commit cut digest ≡ id → ⊥) → (second_commit cut digest ≡ id → ⊥)
-        → Allows (lake cut digest)
+        → Allows (lake_of_days cut digest)
         (expire_entry (commit (first_commit cut digest) ∷ commit (first cut) ∷ commit id ∷ [])) → ⊥ }
 {}
 

@@ -20,9 +20,9 @@ ghost use Rattle.lake_model.specs.Uncommitted.{MaySeal};
 ghost use Rattle.lake_model.specs.History.{Allows, accepted_entry, after, faulted_entry};
 ghost use Rattle.lake_model.specs.Soundness.{fresh};
 ghost use Rattle.law_examples.specs.HistoryWords.{quickstart, main, outside, own, entry_of, entry_by, ticket_entry};
-ghost use Rattle.law_examples.specs.HistoryWords.{put_entry, delete_entry, seal_entry, commit_entry};
+ghost use Rattle.law_examples.specs.HistoryWords.{put_entry, delete_entry, seal_entry, commit_entry, a, b};
 ghost use Rattle.law_examples.specs.HistoryWords.{IsCommitAdmissible};
-ghost use Rattle.law_examples.specs.RefusedLakes.{a, b, fault_of, mail, one_day, stopped_lake, lake_of_entries};
+ghost use Rattle.law_examples.specs.RefusedLakes.{fault_of, mail, one_day, stopped_lake, lake_of_entries};
 ghost use Rattle.law_examples.specs.RefusedLakes.{ticket_lake, retaining_lake, ready_lake, protected_lake};
 
 /// Nothing comes after a fault of the store, though it be possible, and be allowed were the lake not stopped.

@@ -1,4 +1,4 @@
-use Rattle.law_examples.specs.Nothing.{lake}
+use Rattle.law_examples.specs.Nothing.{lake_of_nothing}
 use Rattle.law_examples.proofs.MapsLemmas as maps
 use Rattle.law_examples.proofs.NothingLemmas.{same}
 use Rattle.law_examples.proofs.CommittingLemmas.{nothing_others}
@@ -8,4 +8,4 @@ pub returns-clause-others : goal.returns-clause-others
 returns-clause-others c = nothing_others
 
 pub returns-clause-refused : goal.returns-clause-refused
-returns-clause-refused c cut about may = maps.nothing_to_commit (lake cut) about (same cut) may.possible
+returns-clause-refused c cut about may = maps.nothing_to_commit (lake_of_nothing cut) about (same cut) may.possible

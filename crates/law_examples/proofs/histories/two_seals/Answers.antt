@@ -1,4 +1,4 @@
-use Rattle.law_examples.specs.TwoSeals.{lake}
+use Rattle.law_examples.specs.TwoSeals.{lake_of_their_commit}
 use Rattle.law_examples.proofs.MapsLemmas.{nothing_to_commit}
 use Rattle.law_examples.proofs.TwoSealsLemmas.{legal, second, third, fourth, late, unsealed, same}
 use Rattle.law_examples.proofs.histories.two_seals.Goals as goal
@@ -22,4 +22,4 @@ pub returns-clause-unsealed : goal.returns-clause-unsealed
 returns-clause-unsealed c = unsealed
 
 pub returns-clause-refused : goal.returns-clause-refused
-returns-clause-refused c cut about other = nothing_to_commit (lake cut about) other (same cut about)
+returns-clause-refused c cut about other = nothing_to_commit (lake_of_their_commit cut about) other (same cut about)

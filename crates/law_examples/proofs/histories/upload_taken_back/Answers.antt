@@ -1,4 +1,4 @@
-use Rattle.law_examples.specs.TakenBack.{lake}
+use Rattle.law_examples.specs.TakenBack.{lake_of_sealed_deletion}
 use Rattle.law_examples.proofs.MapsLemmas.{nothing_to_commit}
 use Rattle.law_examples.proofs.TakenBackLemmas.{course, same, reads, named, garbage}
 use Rattle.law_examples.proofs.histories.upload_taken_back.Goals as goal
@@ -13,7 +13,7 @@ pub returns-clause-same : goal.returns-clause-same
 returns-clause-same c = same
 
 pub returns-clause-refused : goal.returns-clause-refused
-returns-clause-refused c cut digest about = nothing_to_commit (lake cut digest) about (same cut digest)
+returns-clause-refused c cut digest about = nothing_to_commit (lake_of_sealed_deletion cut digest) about (same cut digest)
 
 pub returns-clause-named : goal.returns-clause-named
 returns-clause-named c = named

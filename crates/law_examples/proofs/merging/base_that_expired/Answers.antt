@@ -1,6 +1,5 @@
 use Rattle.lake_values.specs.declared.commit.Strategy.TheVariants.{Refuse}
-use Rattle.law_examples.specs.HistoryWords.{outside}
-use Rattle.law_examples.specs.RefusedLakes.{b}
+use Rattle.law_examples.specs.HistoryWords.{outside, b}
 use Rattle.law_examples.specs.Merges.{diverged_lake}
 use Rattle.law_examples.proofs.AllowedLemmas.{expired_base}
 use Rattle.law_examples.proofs.DivergedLemmas.{diverged}

@@ -1,5 +1,4 @@
-use Rattle.law_examples.specs.HistoryWords.{outside}
-use Rattle.law_examples.specs.RefusedLakes.{b}
+use Rattle.law_examples.specs.HistoryWords.{outside, b}
 use Rattle.law_examples.specs.Merges.{diverged_lake, merge_commit}
 use Rattle.law_examples.proofs.DivergedLemmas.{diverged}
 use Rattle.law_examples.proofs.RefusedLemmas.{expired_merge, inadmissible, merge_commit_is}

@@ -1,8 +1,7 @@
 use Rattle.std.proofs.Common.{Some, refl}
 use Rattle.lake_values.specs.Sameness.{same_entry}
 use Rattle.lake_values.specs.declared.commit.Strategy.TheVariants.{SourceWins, DestWins}
-use Rattle.law_examples.specs.HistoryWords.{outside}
-use Rattle.law_examples.specs.RefusedLakes.{a}
+use Rattle.law_examples.specs.HistoryWords.{outside, a}
 use Rattle.law_examples.specs.Picks.{larger_object}
 use Rattle.law_examples.specs.Merges.{rival_lake}
 use Rattle.law_examples.proofs.AllowedLemmas.{fork_allowed, fork_merged}

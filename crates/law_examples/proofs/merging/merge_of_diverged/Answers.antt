@@ -1,7 +1,6 @@
 use Rattle.std.proofs.Common.{Some, refl}
 use Rattle.lake_values.specs.declared.commit.Strategy.TheVariants.{Refuse}
-use Rattle.law_examples.specs.HistoryWords.{outside}
-use Rattle.law_examples.specs.RefusedLakes.{a, b}
+use Rattle.law_examples.specs.HistoryWords.{outside, a, b}
 use Rattle.law_examples.specs.Merges.{diverged_lake}
 use Rattle.law_examples.proofs.AllowedLemmas.{fork_allowed, fork_merged, fork_parents}
 use Rattle.law_examples.proofs.DivergedLemmas.{diverged}

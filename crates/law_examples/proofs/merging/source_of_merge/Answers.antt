@@ -1,5 +1,4 @@
-use Rattle.law_examples.specs.HistoryWords.{outside}
-use Rattle.law_examples.specs.RefusedLakes.{b}
+use Rattle.law_examples.specs.HistoryWords.{outside, b}
 use Rattle.law_examples.specs.Merges.{dev_head, diverged_lake}
 use Rattle.law_examples.proofs.DivergedLemmas.{diverged}
 use Rattle.law_examples.proofs.RefusedLemmas as refused
