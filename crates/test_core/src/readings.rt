@@ -3,7 +3,7 @@
 use crate::scripts::check_scripts;
 use std::test::Fail;
 
-static READINGS: [&str; 3] = [
+static READINGS: [&str; 4] = [
     // Repositories, names, settings and versions: those above a name, so many, and one.
     r#"["create_repo",1,1,"books","main",30]
 {"ok":1}
@@ -142,6 +142,48 @@ static READINGS: [&str; 3] = [
 {"ok":{"at":8,"commit":"a52d600cf8f59ab14da57bd6123a7d90026916379eec82cad90310c61423b7c1"}}
 ["find","quickstart",false,"main"]
 {"ok":{"at":8,"commit":"7b1f01cb10c87de91c6f7c6ed8e188913858fd3f440b743eda0e328c431e7ffb"}}
+"#,
+    // Pages over three sealed tokens and staged changes: of a path the newest change counts, a deletion too.
+    r#"["stage",1,1,"quickstart","main",1,"a","01000673333a2f2f7800000000000000000001000000000000000000000000"]
+{"ok":1}
+["stage",1,2,"quickstart","main",1,"b/1","01000673333a2f2f7800000000000000000001000000000000000000000000"]
+{"ok":2}
+["seal",1,3,"quickstart","main","other"]
+{"ok":{"at":3,"settings":0,"version":2}}
+["stage",1,4,"quickstart","main",2,"a","01000673333a2f2f7800000000000000000002000000000000000000000000"]
+{"ok":4}
+["stage",1,5,"quickstart","main",2,"b/1","delete"]
+{"ok":5}
+["stage",1,6,"quickstart","main",2,"b/2","01000673333a2f2f7800000000000000000002000000000000000000000000"]
+{"ok":6}
+["seal",1,7,"quickstart","main","other"]
+{"ok":{"at":7,"settings":0,"version":3}}
+["stage",1,8,"quickstart","main",3,"b/2","delete"]
+{"ok":8}
+["stage",1,9,"quickstart","main",3,"c","01000673333a2f2f7800000000000000000003000000000000000000000000"]
+{"ok":9}
+["seal",1,10,"quickstart","main","other"]
+{"ok":{"at":10,"settings":0,"version":4}}
+["stage",1,11,"quickstart","main",4,"b/3","01000673333a2f2f7800000000000000000004000000000000000000000000"]
+{"ok":11}
+["page","quickstart","main",{"after":"","amount":9,"delimiter":"","prefix":""}]
+{"ok":{"at":11,"has_more":false,"items":[
+  {"entry":"01000673333a2f2f7800000000000000000002000000000000000000000000","path":"a"},
+  {"entry":"01000673333a2f2f7800000000000000000004000000000000000000000000","path":"b/3"},
+  {"entry":"01000673333a2f2f7800000000000000000003000000000000000000000000","path":"c"}]}}
+["page","quickstart","main",{"after":"","amount":1,"delimiter":"","prefix":""}]
+{"ok":{"at":11,"has_more":true,"items":[
+  {"entry":"01000673333a2f2f7800000000000000000002000000000000000000000000","path":"a"}]}}
+["page","quickstart","main",{"after":"a","amount":1,"delimiter":"/","prefix":""}]
+{"ok":{"at":11,"has_more":true,"items":[{"prefix":"b/"}]}}
+["page","quickstart","main",{"after":"","amount":9,"delimiter":"","prefix":"b/"}]
+{"ok":{"at":11,"has_more":false,"items":[
+  {"entry":"01000673333a2f2f7800000000000000000004000000000000000000000000","path":"b/3"}]}}
+["page","quickstart","main",{"after":"b/3","amount":9,"delimiter":"","prefix":""}]
+{"ok":{"at":11,"has_more":false,"items":[
+  {"entry":"01000673333a2f2f7800000000000000000003000000000000000000000000","path":"c"}]}}
+["page","quickstart","main",{"after":"c","amount":9,"delimiter":"","prefix":""}]
+{"ok":{"at":11,"has_more":false,"items":[]}}
 "#,
     // A log: all, the first ones, those after a commit, and those since a moment.
     r#"["stage",1,1,"quickstart","main",1,"a",

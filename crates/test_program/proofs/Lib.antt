@@ -1,1 +1,2 @@
+pub mod SharedLakeLemmas
 pub mod SmallLakeLemmas

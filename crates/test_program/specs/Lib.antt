@@ -1,1 +1,2 @@
+pub mod SharedLake
 pub mod SmallLake

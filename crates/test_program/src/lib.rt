@@ -7,7 +7,8 @@
 //! - `adapters`: the real streams and the real clock.
 //! - `objects`: a block store.
 //! - `turns`: a turn over a log. `small_lake`: a turn over a small lake, the form to copy for a value under a turn; it
-//!   is proved without its tests too, since its definitions cite its types.
+//!   is proved without its tests too, since its definitions cite its types. `shared_lake`: a turn over the lake itself,
+//!   by a reading and a change.
 #![tactic(auto)]
 
 #[cfg(test)]
@@ -20,6 +21,7 @@ mod failures;
 mod limits;
 #[cfg(test)]
 mod objects;
+mod shared_lake;
 mod small_lake;
 #[cfg(test)]
 mod streams;
