@@ -10,6 +10,9 @@ there. Each is the least of three blocks.
 Where rustc is there, a program of it does the searches of a look and of a stage alone, over as many keys: in a `BTreeMap`
 of the staged ones, and in a sorted slice of the committed ones, with rows as long as a lake's.
 
+Then pages of 100 items of a branch with 100,000 sealed changes beside one with 1,000, under one sealed token and under
+three.
+
 Then new heads on 1,000, 100,000 and 1,000,000 keys, of one changed path each: `commit` is what the lake hands out, the
 draft and the swap. The old form drafts twice, so a swap with what is handed out is twice `commit` less the old form.
 """
@@ -232,6 +235,31 @@ def peer():
         print(f'| Rust: {name} | {big:.2f} us | {small:.2f} us | {big / small:.1f} |', flush=True)
 
 
+def sealed(changes, seals):
+    """With so many sealed changes over 1,000 committed keys, under so many tokens."""
+    lines = committed(1000)
+    for seal in range(seals):
+        part = range(1000 + changes * seal // seals, 1000 + changes * (seal + 1) // seals)
+        lines += [line('stage', 0, n, REPO, 'main', 3 + seal, path(n), entry(n)) for n in part]
+        lines += [line('seal', 0, 0, REPO, 'main', 'other')]
+    return lines
+
+
+def sealed_pages(program):
+    print('\n| `page` of 100 items | 100,000 sealed changes | 1,000 | ratio |')
+    print('|---|---|---|---|')
+    page = {'after': '', 'amount': 100, 'delimiter': '', 'prefix': ''}
+    for seals in (1, 3):
+        figures = []
+        for changes in (100000, 1000):
+            lake = Lake(program, sealed(changes, seals))
+            figures.append(cost(lake, [line('page', REPO, 'main', page)] * 200)
+                           - cost(lake, [line('page', 'nothing', 'main', page)] * 200))
+            lake.end()
+        big, small = (figure * 1e6 for figure in figures)
+        print(f'| under {seals} sealed token{"s" * (seals > 1)} | {big:.0f} us | {small:.0f} us | {big / small:.2f} |', flush=True)
+
+
 def heads(program):
     print('\n| keys | `commit` | its draft | what is handed out, and the swap | the same a key |')
     print('|---|---|---|---|---|')
@@ -256,6 +284,7 @@ def main():
     program = sys.argv[1] if len(sys.argv) > 1 else os.path.join(HERE, 'crates/run_script/out/run_script')
     calls(program)
     peer()
+    sealed_pages(program)
     heads(program)
 
 
