@@ -1,54 +1,27 @@
 -- What is read by the id of a commit.
-use Rattle.std.proofs.Common.{◌≡◌, Bool, true, false, not, ◌&&◌, List, ℕ, Some, None, Option, option_map, refl, sym, ap, ◌∙◌, subst}
+use Rattle.std.proofs.Common.{◌≡◌, Bool, true, false, not, ◌&&◌, List, ℕ, Some, None, Option, refl, sym, ap, ◌∙◌}
 use Rattle.std.specs.Prelude.{Ok, if◌then◌else◌}
-use Rattle.std.specs.Option.{IsSome, is_some, option_map_or, option_or}
+use Rattle.std.specs.Option.{is_some, option_map_or}
 use Rattle.std.specs.FinMap.{get}
 use Rattle.lake_base.specs.Digest.{encode_lower}
-use Rattle.lake_base.specs.Names.{is_like_id}
 use Rattle.lake_base.specs.declared.digest.Digest.{Digest}
 use Rattle.lake_values.specs.Ancestry.{commit_of}
 use Rattle.lake_values.specs.Commit.{CommitRecordValue}
-use Rattle.lake_format.specs.Spelling.{IsDigest, commit_spelling}
 use Rattle.lake_format.specs.declared.cut.Cut.{Cut}
-use Rattle.meta_range.proofs.RangesLemmas.{is_digest}
 use Rattle.lake_model.specs.declared.history.HistoryEntry.{HistoryEntry}
-use Rattle.lake_model.specs.State.{Branch, HasCommit, HasRepository, Repository, State, map_of, now_map}
+use Rattle.lake_model.specs.State.{HasCommit, HasRepository, Repository, State, map_of, now_map}
 use Rattle.lake_model.specs.History.{IsLegal, replay}
 use Rattle.lake_model.specs.Readings.{◌then◌, expression_map, map_at}
-use Rattle.lake_model.specs.Resolving.{by_id, commit_named, is_plain_branch, moved_target, name_target}
+use Rattle.lake_model.specs.Resolving.{by_id, is_plain_branch, moved_target}
 use Rattle.lake_model.specs.Soundness.{IsSound, IsSoundRepository}
 use Rattle.lake_laws.proofs.BasesLemmas.{stays}
 use Rattle.lake_laws.proofs.SoundnessLemmas.{IsSound-replay}
-use Rattle.core_readings.proofs.HexLemmas.{digest_reads, text_is_like_id}
-use Rattle.core_readings.proofs.NamedLemmas.{named_some}
+use Rattle.lake_laws.proofs.IdTextLemmas.{name_by_id, no_branch}
 
 module _ (cut : Cut) (r : Repository) (sound : IsSoundRepository cut r) (id : Digest) (there : HasCommit r id) where
-  digest : IsDigest id.0
-  digest = by (commit_of r.commits id) refl
-    where
-      by : (o : Option CommitRecordValue) → commit_of r.commits id ≡ o → IsDigest id.0
-      by (Some c) is = subst IsDigest (ap (λ (d : Digest). d.0) (sym (sound.ids id c is))) (is_digest (commit_spelling c))
-      by None is = let none = ap is_some is in absurd cc
-
-  -- no name of a branch and of a tag is like an id
-  none_named : {X : Type 0} (o : Option X) → (IsSome o → is_like_id (encode_lower id.0) ≡ false) → o ≡ None
-  none_named None plain = refl
-  none_named (Some x) plain = let like = text_is_like_id id.0 digest in let unlike = plain refl in absurd cc
-
-  no_branch : get r.branches (encode_lower id.0) ≡ None
-  no_branch = none_named (get r.branches (encode_lower id.0)) (sound.plain_branches (encode_lower id.0))
-
-  no_tag : get r.tags (encode_lower id.0) ≡ None
-  no_tag = none_named (get r.tags (encode_lower id.0)) (sound.plain_tags (encode_lower id.0))
-
-  named : name_target r (encode_lower id.0) ≡ Some id
-  named =
-      (λ i. option_or (option_map (λ (b : Branch). b.head) (no_branch i)) (option_or (no_tag i) (commit_named r (encode_lower id.0))))
-      ∙ sym (named_some (encode_lower id.0) id (digest_reads id.0 digest) refl r.commits there)
-
   module _ (at : Bool) where
     no_plain_branch : is_plain_branch r (by_id id at) ≡ false
-    no_plain_branch = (λ i. not at && is_some (no_branch i)) ∙ never at
+    no_plain_branch = (λ i. not at && is_some (no_branch cut r sound id there i)) ∙ never at
       where
         never : (b : Bool) → (not b && false) ≡ false
         never true = refl
@@ -59,7 +32,7 @@ module _ (cut : Cut) (r : Repository) (sound : IsSoundRepository cut r) (id : Di
 
     -- its own map
     pub map_by_id : expression_map r (by_id id at) ≡ Ok (map_of r id)
-    map_by_id = ap (λ o. moved_target r (by_id id at) o then λ to. Ok (map_at r (by_id id at) to)) named ∙ ap Ok own_map
+    map_by_id = ap (λ o. moved_target r (by_id id at) o then λ to. Ok (map_at r (by_id id at) to)) (name_by_id cut r sound id there) ∙ ap Ok own_map
 
 -- and the same one after a legal history
 module _ (state : State) (entries : List HistoryEntry) (repo : List ℕ) (r : Repository) (id : Digest) (at : Bool) (sound : IsSound state)

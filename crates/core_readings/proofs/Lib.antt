@@ -1,5 +1,4 @@
 pub mod EntryLemmas
-pub mod HexLemmas
 pub mod IdLemmas
 pub mod LogLemmas
 pub mod NamedLemmas

@@ -15,7 +15,7 @@ use Rattle.lake_model.specs.Resolving.{commit_named, is_plain_branch, is_unmoved
 use Rattle.core_state.specs.declared.branch.BranchState.{BranchState}
 use Rattle.core_state.specs.BranchStates.{branch_value}
 use Rattle.core_state.specs.RepositoryStates.{HasTargets, RepositoryStateValue, repository_of}
-use Rattle.core_readings.proofs.NamedLemmas.{find_within}
+use Rattle.lake_laws.proofs.TargetLemmas.{find_within}
 use Rattle.core_readings.proofs.PlacesLemmas.{branch_at, found_branch}
 
 -- ---- a name leads to the first of three that is there

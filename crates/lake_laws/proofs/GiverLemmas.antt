@@ -11,14 +11,14 @@ use Rattle.lake_model.specs.declared.history.EntryKind.{EntryKind}
 use Rattle.lake_model.specs.declared.history.EntryKind.TheVariants.{Accepted, Faulted}
 use Rattle.lake_model.specs.declared.history.HistoryEntry.{HistoryEntry}
 use Rattle.lake_model.specs.declared.history.Operation.{Operation}
-use Rattle.lake_model.specs.declared.history.Operation.TheVariants.{RepoCreate, BranchCreate, BranchDelete, TagCreate, TagDelete, Reset, Seal, Commit, Merge}
-use Rattle.lake_model.specs.declared.history.Operation.TheVariants.{Pick, NoteSet, Expire}
+use Rattle.lake_model.specs.declared.history.Operation.TheVariants.{RepoCreate, BranchCreate, Reset, Seal, Commit, Merge}
+use Rattle.lake_model.specs.declared.history.Operation.TheVariants.{Pick, NoteSet}
 use Rattle.lake_model.specs.Versions.{VersionsGiven, branch_version, settings_version, version_holder, moves_references}
 use Rattle.lake_model.specs.Versions.{count_versions, versions_after, versions_after_kind}
 use Rattle.lake_laws.specs.OtherSeats.{AreOfOtherSeats}
 use Rattle.lake_laws.specs.VersionGivers.{AreOthersBetween, EachFoundAnother, Try, branch_and_settings, count_of, entries_of_tries}
 use Rattle.lake_laws.specs.VersionGivers.{gives_branch, gives_branch_or_settings, gives_settings, is_accepted, is_branch_named, of_other_seat}
-use Rattle.lake_laws.specs.VersionGivers.{operation_gives_branch, operation_gives_settings, operation_raises_references, raises_references}
+use Rattle.lake_laws.specs.VersionGivers.{operation_gives_branch, operation_gives_settings, raises_references}
 use Rattle.lake_laws.proofs.PartsLemmas.{ties, names_tied}
 use Rattle.lake_laws.proofs.VersionLemmas.{branch_version_with, is_branch, is_settings, settings_version_with}
 
@@ -48,19 +48,6 @@ settings_given : (repo : List ℕ) (operation : Operation) → is_settings (vers
 settings_given repo (NoteSet a name value) is = name_equals repo a is
 settings_given repo _ is = absurd cc
 
-raises_is : (operation : Operation) → operation_raises_references operation ≡ moves_references operation
-raises_is (RepoCreate a b date) = refl
-raises_is (BranchCreate a b commit) = refl
-raises_is (BranchDelete a b) = refl
-raises_is (TagCreate a tag commit) = refl
-raises_is (TagDelete a tag) = refl
-raises_is (Commit a b about) = refl
-raises_is (Merge a b source strategy about) = refl
-raises_is (Pick a b base source strategy about) = refl
-raises_is (NoteSet a name value) = refl
-raises_is (Expire now commits) = refl
-raises_is _ = refl
-
 -- what isn't given is the old one
 not_given : (test gives : Bool) (new next old : ℕ) → (test ≡ true → gives ≡ true) → gives ≡ false → new ≡ cond test next old → new ≡ old
 not_given true gives new next old tell none is = absurd (let all = tell refl in cc)
@@ -80,10 +67,10 @@ settings_left_by repo (Accepted operation) given none =
     (settings_given repo operation) none (settings_version_with (version_holder operation) given repo)
 settings_left_by repo (Faulted operation) given none = refl
 
-references_left_by : (kind : EntryKind) (given : VersionsGiven) → is_accepted operation_raises_references kind ≡ false
+references_left_by : (kind : EntryKind) (given : VersionsGiven) → is_accepted moves_references kind ≡ false
     → (versions_after_kind kind given).references ≡ given.references
 references_left_by (Accepted operation) given none =
-    ap (λ test. cond test (given.references + 1) given.references) (sym (raises_is operation) ∙ none)
+    ap (λ test. cond test (given.references + 1) given.references) none
 references_left_by (Faulted operation) given none = refl
 
 -- an entry leaves what is read of the versions where a test fails

@@ -14,7 +14,9 @@ pub mod GiverLemmas
 pub mod GoneLemmas
 pub mod HeadRefusalLemmas
 pub mod HeadStepLemmas
+pub mod HexLemmas
 pub mod HistoryLemmas
+pub mod IdTextLemmas
 pub mod IdentityLemmas
 pub mod InMapLemmas
 pub mod KeepingLemmas
@@ -34,8 +36,13 @@ pub mod ReadingLemmas
 pub mod ReferencesLemmas
 pub mod RefusalLemmas
 pub mod RepositoryLemmas
+pub mod SealedFactLemmas
+pub mod SealedFateLemmas
+pub mod SealedPathLemmas
+pub mod SealedStepLemmas
 pub mod SealingLemmas
 pub mod SettingsLemmas
+pub mod Sha256Lemmas
 pub mod SoundnessLemmas
 pub mod SwapLemmas
 pub mod SwapRefusalLemmas

@@ -60,13 +60,13 @@ some_value None some = absurd cc
 some_value (Some x) some = (x, refl)
 
 module _ (state : State) (branch : List ℕ) (r : Repository) (b : Branch) (about : AboutValue) where
-  abbrev new_id : Digest
+  abbrev pub new_id : Digest
   new_id = commit_id (record_of state.cut r.commits (commit_draft r b about))
 
   abbrev new : Repository
   new = with_draft state.cut branch (commit_draft r b about) r
 
-  new_map : map_of new new_id ≡ sealed_map r b
+  pub new_map : map_of new new_id ≡ sealed_map r b
   new_map =
       ap (λ o. unwrap_or o empty) (
       get-insert nat_list_cmp_total r.maps new_id.0 (sealed_map r b) new_id.0

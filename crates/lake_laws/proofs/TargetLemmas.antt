@@ -33,7 +33,7 @@ map_cases f None y is = absurd cc
 map_cases f (Some x) y is = (x, refl, cc)
 
 -- what is found in a list is in it
-find_within : {X : Type 0} (test : X → Bool) (xs : List X) (x : X) → find test xs ≡ Some x → Contains xs x
+pub find_within : {X : Type 0} (test : X → Bool) (xs : List X) (x : X) → find test xs ≡ Some x → Contains xs x
 find_within test [] x is = absurd cc
 find_within test (y ∷ ys) x is =
     elim (test y) as (λ b. cond b (Some y) (find test ys) ≡ Some x → Contains (y ∷ ys) x) [

@@ -3,6 +3,7 @@ pub mod OtherSeats
 pub mod Prepared
 pub mod References
 pub mod SameCommit
+pub mod SealedPaths
 pub mod Sealing
 pub mod Tags
 pub mod Unrefused

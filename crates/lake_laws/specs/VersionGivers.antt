@@ -1,14 +1,13 @@
 -- Which entries give a version, and how many of them there are; and tries that found another version than their reading.
-use Rattle.std.specs.Prelude.{◌≢◌, ◌==◌, ◌&&◌, ◌||◌, not, true, false, ℕ, Bool, List, [], ◌∷◌, ◌++◌, All, length}
+use Rattle.std.specs.Prelude.{◌≢◌, ◌==◌, ◌&&◌, ◌||◌, not, false, ℕ, Bool, List, [], ◌∷◌, ◌++◌, All, length}
 use Rattle.std.specs.List.{filter}
 use Rattle.std.specs.Str.{bytes_eq}
 use Rattle.lake_model.specs.declared.history.HistoryEntry.{HistoryEntry}
 use Rattle.lake_model.specs.declared.history.EntryKind.{EntryKind}
 use Rattle.lake_model.specs.declared.history.EntryKind.TheVariants.{Accepted, Faulted}
 use Rattle.lake_model.specs.declared.history.Operation.{Operation}
-use Rattle.lake_model.specs.declared.history.Operation.TheVariants.{RepoCreate, BranchCreate, BranchDelete, TagCreate, TagDelete, Reset, Seal, Commit, Merge}
-use Rattle.lake_model.specs.declared.history.Operation.TheVariants.{Pick, NoteSet, Expire}
-use Rattle.lake_model.specs.Versions.{VersionsGiven, branch_version, settings_version, count_versions}
+use Rattle.lake_model.specs.declared.history.Operation.TheVariants.{RepoCreate, BranchCreate, Reset, Seal, Commit, Merge, Pick, NoteSet}
+use Rattle.lake_model.specs.Versions.{VersionsGiven, branch_version, settings_version, count_versions, moves_references}
 use Rattle.lake_laws.specs.OtherSeats.{AreOfOtherSeats}
 
 -- whether a branch that an operation names is this one
@@ -31,20 +30,6 @@ abbrev pub operation_gives_settings : List ℕ → Operation → Bool
 operation_gives_settings repo (NoteSet r name value) = bytes_eq r repo
 operation_gives_settings repo _ = false
 
--- whether it raises the version of the references
-abbrev pub operation_raises_references : Operation → Bool
-operation_raises_references (RepoCreate r b date) = true
-operation_raises_references (BranchCreate r b commit) = true
-operation_raises_references (BranchDelete r b) = true
-operation_raises_references (TagCreate r tag commit) = true
-operation_raises_references (TagDelete r tag) = true
-operation_raises_references (Commit r b about) = true
-operation_raises_references (Merge r b source strategy about) = true
-operation_raises_references (Pick r b base source strategy about) = true
-operation_raises_references (NoteSet r name value) = true
-operation_raises_references (Expire now commits) = true
-operation_raises_references _ = false
-
 -- whether an operation was accepted that passes a test
 abbrev pub is_accepted : (Operation → Bool) → EntryKind → Bool
 is_accepted test (Accepted operation) = test operation
@@ -64,7 +49,7 @@ gives_branch_or_settings repo branch entry = gives_branch repo branch entry || g
 
 -- whether it raises the version of the references
 abbrev pub raises_references : HistoryEntry → Bool
-raises_references entry = is_accepted operation_raises_references entry.kind
+raises_references entry = is_accepted moves_references entry.kind
 
 -- how many entries pass a test
 abbrev pub count_of : (HistoryEntry → Bool) → List HistoryEntry → ℕ

@@ -1,5 +1,5 @@
-//! What stays along a legal history: the ticket of a seat, and a commit.
-ghost use Rattle.std.specs.Prelude.{◌≡◌, ◌++◌, All, List, ℕ, Ok, Some, slice_get};
+//! What stays along a legal history: the ticket of a seat, a commit, and that the text of its id leads to it.
+ghost use Rattle.std.specs.Prelude.{◌≡◌, ◌++◌, All, Bool, List, ℕ, Ok, Some, slice_get};
 ghost use Rattle.std.specs.FinMap.{get};
 ghost use Rattle.lake_base.specs.declared.digest.Digest.{Digest};
 ghost use Rattle.lake_values.specs.Ancestry.{parents};
@@ -8,7 +8,7 @@ ghost use Rattle.lake_model.specs.declared.history.HistoryEntry.{HistoryEntry};
 ghost use Rattle.lake_model.specs.State.{Repository, State, HasCommit, HasRepository};
 ghost use Rattle.lake_model.specs.Uncommitted.{HasTicket};
 ghost use Rattle.lake_model.specs.History.{IsLegal, replay};
-ghost use Rattle.lake_model.specs.Resolving.{expression_target};
+ghost use Rattle.lake_model.specs.Resolving.{by_id, expression_target};
 ghost use Rattle.lake_model.specs.Soundness.{IsSound};
 ghost use Rattle.lake_laws.specs.OtherSeats.{AreOfOtherSeats};
 ghost use Rattle.lake_laws.specs.SameCommit.{HasSameCommit};
@@ -51,4 +51,18 @@ pub fn law_of_kept_commits()
         → get (replay state history).repositories repo ≡ Some r
         → slice_get (parents r.commits id) place ≡ Some parent
         → HasRepository (replay state seen) repo (HasSameCommit r parent) }
+{}
+
+/// In a sound lake the 64 lower-case hex digits of a commit's id, as an expression without moves, with `@` or without,
+/// lead to the commit. In a legal history they lead to it at each later position, where it has the same record and map.
+pub fn law_of_commit_expressions()
+    ensures leads { (state : State) (repo : List ℕ) (r : Repository) (id : Digest) (at : Bool)
+        → IsSound state → get state.repositories repo ≡ Some r → HasCommit r id
+        → expression_target r (by_id id at) ≡ Ok id }
+    ensures stays { (state : State) (seen history more : List HistoryEntry) (repo : List ℕ) (r : Repository)
+        (id : Digest) (at : Bool)
+        → IsSound state → seen ≡ history ++ more → IsLegal state seen
+        → get (replay state history).repositories repo ≡ Some r → HasCommit r id
+        → HasRepository (replay state seen) repo
+        (λ s. (expression_target s (by_id id at) ≡ Ok id) × HasSameCommit r id s) }
 {}

@@ -1,7 +1,8 @@
 use Rattle.std.proofs.Common.{sym, ap, ◌∙◌}
 use Rattle.std.specs.Option.{is_some}
 use Rattle.lake_base.specs.Names.{digest_fault}
-use Rattle.core_readings.proofs.NamedLemmas.{named_some, named_none, named_never}
+use Rattle.lake_laws.proofs.IdTextLemmas.{named_some, named_none}
+use Rattle.core_readings.proofs.NamedLemmas.{named_never}
 use Rattle.core_readings.proofs.targets.commit_named.Goals as goal
 
 pub returns-in_default : goal.returns-in_default
