@@ -2,7 +2,10 @@ pub mod EffectLemmas
 pub mod RefusedLemmas
 pub mod CourseLemmas
 pub mod RuleLemmas
+pub mod ClashLemmas
 pub mod AlikeLemmas
 pub mod DeterminedLemmas
+pub mod ShownLemmas
+pub mod OneSeatLemmas
 pub mod LineLemmas
 pub mod NothingMetLemmas

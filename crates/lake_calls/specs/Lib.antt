@@ -9,6 +9,8 @@ pub mod NothingMet
 pub mod HeldBodies
 pub mod DoneReplies
 pub mod LakeRules
+pub mod NoClashes
+pub mod ServedAlone
 pub mod StateCodes
 pub mod LineCalls
 pub mod LineCourses

@@ -1,5 +1,10 @@
 //! What clients ask of commits: new heads of a branch, logs, and single commits.
 
+ghost use Rattle.std.specs.Prelude.{◌≡◌, ◌↔◌, ◌≤◌, [], IsTrue, Some, length};
+ghost use Rattle.std.specs.Option.{unwrap_or};
+ghost use Rattle.lake_values.specs.Commit.{IsRemark};
+ghost use Rattle.lake_calls.specs.Calls.{merge_message};
+
 use crate::expression::Expression;
 use lake_base::{RefName, RepoName, Text};
 use lake_values::{CommitId, Pairs, Strategy};
@@ -30,6 +35,23 @@ impl Model for CommitCall {
     } };
 
     ghost invariant = { λ c. IsRemark c.committer c.message };
+}
+
+/// Whether a committer has 1 to 128 bytes. It takes no memory.
+fn is_committer(committer: &Text) -> bool
+    ensures { IsTrue result ↔ IsRemark committer.now [] }
+{
+    let length = committer.as_slice().len();
+    1 <= length && length <= 128
+}
+
+impl CommitCall {
+    /// Whether a call may have this committer and this message. It takes no memory.
+    pub fn fits(committer: &Text, message: &Text) -> bool
+        ensures { IsTrue result ↔ IsRemark committer.now message.now }
+    {
+        is_committer(committer) && message.as_slice().len() <= 65_536
+    }
 }
 
 /// The commit of an expression is to be merged into a branch. Without a message it has one of its own, which tells both
@@ -65,6 +87,34 @@ impl Model for MergeCall {
     ghost invariant = { λ c. IsRemark c.committer (unwrap_or c.message (merge_message c.source.text c.branch)) };
 }
 
+/// Whether the message of a merge without one has at most 65,536 bytes. It takes no memory.
+fn is_short_merge(source: &Expression, branch: &RefName) -> bool
+    ensures { IsTrue result ↔ (length (merge_message source.now.text branch.now) ≤ 65536) }
+{
+    let source = source.text().as_slice().len();
+    source <= 65_520 && branch.as_slice().len() <= 65_520 - source
+}
+
+impl MergeCall {
+    /// Whether a call may have this committer and this message: without one the call's own has to be short enough,
+    /// which tells the source and the branch. It takes no memory.
+    pub fn fits(
+        committer: &Text,
+        message: &Option<Text>,
+        source: &Expression,
+        branch: &RefName,
+    ) -> bool
+        ensures { IsTrue result
+            ↔ IsRemark committer.now (unwrap_or message.now (merge_message source.now.text branch.now)) }
+    {
+        let short = match message {
+            Some(message) => message.as_slice().len() <= 65_536,
+            None => is_short_merge(source, branch),
+        };
+        is_committer(committer) && short
+    }
+}
+
 /// What the commit of an expression has over one of its parents is to be taken into a branch, or to be undone there.
 /// The parent's number counts from 1, so it isn't 0; a commit of several parents needs one. The committer has 1 to 128
 /// bytes.
@@ -93,6 +143,15 @@ impl Model for PickCall {
     } };
 
     ghost invariant = { λ c. IsRemark c.committer [] × (c.parent ≡ Some 0 → ⊥) };
+}
+
+impl PickCall {
+    /// Whether a call may have this committer and this number of a parent. It takes no memory.
+    pub fn fits(committer: &Text, parent: Option<u32>) -> bool
+        ensures { IsTrue result ↔ (IsRemark committer.now [] × (parent ≡ Some 0 → ⊥)) }
+    {
+        is_committer(committer) && parent != Some(0)
+    }
 }
 
 /// The ancestors of the commit of an expression are asked for: at most so many, those dated at or after a moment, and

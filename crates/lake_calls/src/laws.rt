@@ -13,9 +13,11 @@ ghost use Rattle.lake_calls.specs.Courses.{CallPoint};
 ghost use Rattle.lake_calls.specs.DoneReplies.{MakesNoCommit};
 ghost use Rattle.lake_calls.specs.LakeRules.{lake_rules};
 ghost use Rattle.lake_calls.specs.LineAlone.{IsLineTold, line_read, line_request, object_request, upload_request};
+ghost use Rattle.lake_calls.specs.NoClashes.{AreOneButForClash, NothingClashes};
 ghost use Rattle.lake_calls.specs.NothingMet.{GaveFew, MeetsNothing};
 ghost use Rattle.lake_calls.specs.OutsideCounts.{AreMet, AreStill, CountedNothing, OutsideCounts};
 ghost use Rattle.lake_calls.specs.Requests.{Asks, CallRequest};
+ghost use Rattle.lake_calls.specs.ServedAlone.{IsServedAlone};
 ghost use Rattle.lake_calls.specs.declared.call.Call.{Call};
 ghost use Rattle.lake_calls.specs.declared.objects.ReadCall.{ReadCall};
 ghost use Rattle.lake_calls.specs.declared.reply.CallReply.{CallReply};
@@ -54,6 +56,30 @@ pub fn law_of_placed_calls()
 pub fn law_of_one_value()
     ensures { (call : Call) (moment : ℕ) → MakesNoCommit call
         → IsDetermined lake_rules (record { asked = Asks call; moment = moment }) }
+{}
+
+/// The one-seat course of each call, also of one that makes a commit, adds one list of entries. It has one reply where
+/// no two contents share a name, so that at no step to which the course comes anything clashes with the commit that it
+/// makes. Where some do, only which clash is told may differ. Where none do, so a call that was served while its seat
+/// was alone, and that was told none of the exceptions, was told one reply and added one list of entries.
+pub fn law_of_one_value_with_commits()
+    ensures one { (call : Call) (moment : ℕ) (opened : State) (by : Caller) (seen : List HistoryEntry)
+        (met : CallMet) (told other : CallReply) (added more : List HistoryEntry)
+        → NothingClashes opened by seen (record { asked = Asks call; moment = moment })
+        → GoesAlone lake_rules opened by seen (record { asked = Asks call; moment = moment }) met told added
+        → GoesAlone lake_rules opened by seen (record { asked = Asks call; moment = moment }) met other more
+        → (told ≡ other) × (added ≡ more) }
+    ensures but_for_clash { (call : Call) (moment : ℕ) (opened : State) (by : Caller) (seen : List HistoryEntry)
+        (met : CallMet) (told other : CallReply) (added more : List HistoryEntry)
+        → GoesAlone lake_rules opened by seen (record { asked = Asks call; moment = moment }) met told added
+        → GoesAlone lake_rules opened by seen (record { asked = Asks call; moment = moment }) met other more
+        → AreOneButForClash told other × (added ≡ more) }
+    ensures served { (call : Call) (moment : ℕ) (opened : State) (by : Caller) (before : List HistoryEntry)
+        (met : CallMet) (told other : CallReply) (added more : List HistoryEntry)
+        → NothingClashes opened by before (record { asked = Asks call; moment = moment })
+        → IsServedAlone opened by before (record { asked = Asks call; moment = moment }) met told added
+        → IsServedAlone opened by before (record { asked = Asks call; moment = moment }) met other more
+        → (told ≡ other) × (added ≡ more) }
 {}
 
 /// The one-seat course of an upload, and of a call that reads an object, is what a batch's line shows and leaves, where

@@ -1,5 +1,10 @@
 //! What clients ask of objects.
 
+ghost use Rattle.std.specs.Prelude.{◌↔◌, IsTrue};
+ghost use Rattle.lake_values.specs.Entry.{CanHold};
+ghost use Rattle.lake_values.specs.declared.entry.Place.TheVariants.{External};
+ghost use Rattle.lake_calls.specs.Calls.{IsUpload};
+
 use crate::expression::Expression;
 use lake_base::{Path, RefName, RepoName, Sequence, Text};
 use lake_pages::PageQuery;
@@ -31,6 +36,15 @@ impl Model for UploadCall {
     } };
 
     ghost invariant = { λ u. IsUpload u.content_type u.body };
+}
+
+impl UploadCall {
+    /// Whether a call may have this content type and this body. It takes no memory.
+    pub fn fits(content_type: &Text, body: &[u8]) -> bool
+        ensures { IsTrue result ↔ IsUpload content_type.now body.now }
+    {
+        content_type.as_slice().len() <= 255 && body.len() <= 67_108_864
+    }
 }
 
 /// An object outside is to stand at a path of a branch: its address, checksum and content type are within the limits
@@ -70,6 +84,21 @@ impl Model for LinkCall {
     } };
 
     ghost invariant = { λ c. CanHold (External c.address c.checksum) c.content_type };
+}
+
+impl LinkCall {
+    /// Whether a call may have this address, checksum and content type: an address of 1 to 2,048 bytes that doesn't
+    /// begin with `lake://`, a checksum of at most 128, a content type of at most 255. It takes no memory.
+    pub fn fits(address: &Text, checksum: &Text, content_type: &Text) -> bool
+        ensures { IsTrue result ↔ CanHold (External address.now checksum.now) content_type.now }
+    {
+        let at = address.as_slice();
+        1 <= at.len()
+            && at.len() <= 2_048
+            && !at.starts_with(b"lake://")
+            && checksum.as_slice().len() <= 128
+            && content_type.as_slice().len() <= 255
+    }
 }
 
 /// What stands at a path of a branch is to go.
