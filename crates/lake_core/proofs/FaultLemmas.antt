@@ -1,7 +1,7 @@
 -- Where a history has a fault of the store.
-use Rattle.std.proofs.Common.{◌≡◌, ◌≤◌, ◌<◌, ℕ, List, [], ◌∷◌, ◌++◌, refl, sym, ◌∙◌, subst, inl, inr, arith}
+use Rattle.std.proofs.Common.{◌≡◌, ◌≤◌, ◌<◌, ℕ, List, [], ◌∷◌, ◌++◌, refl, sym, ap, ◌∙◌, subst, inl, inr, arith}
 use Rattle.std.specs.Prelude.{Option, Some, None, Result, Ok, Err}
-use Rattle.std.proofs.lemmas.List.Elements.{Contains-push_cases}
+use Rattle.std.proofs.lemmas.List.Elements.{Contains-append_left, Contains-push, Contains-push_cases}
 use Rattle.lake_base.specs.Outside.{Quiet, Rose}
 use Rattle.lake_values.proofs.OrderLemmas.{Contains-nothing}
 use Rattle.lake_model.specs.declared.fault.StepFault.{StepFault}
@@ -33,6 +33,11 @@ accepted_no_fault history by operation has =
       | inl before ↦ record { by = has.by; tried = has.tried; among = before }
       | inr same ↦ absurd (subst (λ (entry : HistoryEntry). IsAccepted entry.kind) same tt)
     ]
+
+-- a fault stays, whatever entry follows
+fault_stays : (history : List HistoryEntry) (entry : HistoryEntry) → HasFault history → HasFault (history ++ entry ∷ [])
+fault_stays history entry has =
+    record { by = has.by; tried = has.tried; among = Contains-append_left history (entry ∷ []) _ has.among }
 
 -- nothing has no fault
 pub fault_none : HasFault [] → ⊥
@@ -69,6 +74,7 @@ module _ {K : Type 0} (view : KeeperView K) where
         subst (λ (k : K). IsLaterKeeper view k now) (sym same)
         (record { told = refl; later = omega arith });
     counted = λ has. absurd (fault_none (subst HasFault none has));
+    quiet = λ _. ap view.faults (sym same);
   }
 
   module _ (first : K) (by : By) (old new : Parts K) (since : IsKeptSince view first old.keeper old.history) where
@@ -79,6 +85,8 @@ module _ {K : Type 0} (view : KeeperView K) where
       counted = λ has. rose_before _ _ _
           (since.counted (accepted_no_fault old.history by made.operation (subst HasFault is.history has)))
           is.keeper.later;
+      quiet = λ none. is.quiet
+          ∙ since.quiet (λ has. none (subst HasFault (sym is.history) (fault_stays old.history _ has)));
     }
 
     -- after a fault of the store
@@ -86,6 +94,11 @@ module _ {K : Type 0} (view : KeeperView K) where
     kept_faulted made is = record {
       keeper = later_then first old.keeper new.keeper since.keeper is.keeper;
       counted = λ has. rose_after _ _ _ since.keeper.later is.rose;
+      quiet = λ none. absurd (none (subst HasFault (sym is.history) (record {
+        by = by;
+        tried = made.operation;
+        among = Contains-push old.history (faulted_entry by made.operation);
+      })));
     }
 
     -- where memory ran out
@@ -93,6 +106,7 @@ module _ {K : Type 0} (view : KeeperView K) where
     kept_before is = record {
       keeper = later_then first old.keeper new.keeper since.keeper is.keeper;
       counted = λ has. rose_before _ _ _ (since.counted (subst HasFault is.history has)) is.keeper.later;
+      quiet = λ none. is.quiet ∙ since.quiet (λ has. none (subst HasFault (sym is.history) has));
     }
 
     -- where the keeper refused it

@@ -5,6 +5,7 @@ pub mod NewNumberLemmas
 pub mod NumberLemmas
 pub mod OpeningLemmas
 pub mod PreparingLemmas
+pub mod SendLemmas
 pub mod RepositoryLemmas
 pub mod StepLemmas
 pub mod StopLemmas

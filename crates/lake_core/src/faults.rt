@@ -12,12 +12,14 @@ ghost use Rattle.lake_core.specs.Lakes.{Holds, LakeValue};
 use keeper::{Keeper, SureKeeper};
 
 /// A lake's history has a fault of the store only where the keeper's count of faults rose since the lake was opened, or
-/// stands at its last value. So it has none where nothing was counted.
+/// stands at its last value. So it has none where nothing was counted; and where it has none, nothing was counted.
 pub fn law_of_store_faults<K>()
     ensures rose { (view : KeeperView K) (lake : LakeValue K)
         → Holds view lake → HasFault lake.history → Rose (view.faults lake.first) (view.faults lake.keeper) }
     ensures quiet { (view : KeeperView K) (lake : LakeValue K)
         → Holds view lake → Quiet (view.faults lake.first) (view.faults lake.keeper) → HasFault lake.history → ⊥ }
+    ensures same { (view : KeeperView K) (lake : LakeValue K)
+        → Holds view lake → (HasFault lake.history → ⊥) → view.faults lake.keeper ≡ view.faults lake.first }
 {}
 
 /// A lake that stands for its history is stopped exactly where that has a fault of the store.

@@ -1,7 +1,7 @@
 //! The lake: one step at a time, on a value that stands for its history.
 //!
 //! - `lake`: the lake, and its keeper; `opening`: a lake that is opened, by `filling` a keeper without pairs, or else
-//!   `open_fault`. `standing`: a lake stands behind a turn.
+//!   `open_fault`. `standing`: a lake stands behind a turn. `threads`: a lake may go from thread to thread.
 //! - `repositories`, `tickets`, `paths`, `branches`, `heads`, `tags`, `notes`: the changes; `ready`: what one has ready
 //!   before it is kept.
 //! - `readings`: the readings; `preparing`: what a new head of a branch is made from.
@@ -40,6 +40,7 @@ mod ready;
 pub mod repositories;
 mod standing;
 pub mod tags;
+pub mod threads;
 pub mod tickets;
 
 pub use changes::law_of_changes;
@@ -51,3 +52,4 @@ pub use keeping_all::law_of_keeping_all;
 pub use lake::Lake;
 pub use numbers::{law_of_new_numbers, law_of_numbers};
 pub use open_fault::OpenFault;
+pub use standing::LakeOrigin;

@@ -8,14 +8,22 @@ use keeper::Keeper;
 use lake_model::HistoryEntry;
 use turn_lock::Standing;
 
-/// A lake stands for what it was opened as, which no change changes, and for its entries since. Of each lake holds what
-/// its type says of all.
+/// What a lake goes out from: what it was opened as, and how often its keeper had failed by then. No value of it is
+/// made.
+#[derive(Drop)]
+pub struct LakeOrigin {
+    pub opened: LakeState,
+    pub faults: u64,
+}
+
+/// A lake stands for what it was opened as, over a keeper that had failed so often, which no change changes; and for its
+/// entries since. Of each lake holds what its type says of all.
 impl<K: Keeper> Standing for Lake<K> {
-    type Origin = LakeState;
+    type Origin = LakeOrigin;
 
     type Entry = HistoryEntry;
 
-    ghost origin = { λ lake. lake.opened };
+    ghost origin = { λ lake. record { opened = lake.opened; faults = K.faults lake.first } };
 
     ghost list = { λ lake. lake.history };
 

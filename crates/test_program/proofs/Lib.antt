@@ -1,2 +1,1 @@
-pub mod SharedLakeLemmas
 pub mod SmallLakeLemmas

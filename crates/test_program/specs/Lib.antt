@@ -1,2 +1,1 @@
-pub mod SharedLake
 pub mod SmallLake

@@ -7,8 +7,7 @@
 //! - `adapters`: the real streams and the real clock.
 //! - `objects`: a block store.
 //! - `turns`: a turn over a log. `small_lake`: a turn over a small lake, the form to copy for a value under a turn; it
-//!   is proved without its tests too, since its definitions cite its types. `shared_lake`: a turn over the lake itself,
-//!   by a reading and a change.
+//!   is proved without its tests too, since its definitions cite its types.
 #![tactic(auto)]
 
 #[cfg(test)]
@@ -21,7 +20,6 @@ mod failures;
 mod limits;
 #[cfg(test)]
 mod objects;
-mod shared_lake;
 mod small_lake;
 #[cfg(test)]
 mod streams;
