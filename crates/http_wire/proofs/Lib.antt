@@ -1,0 +1,10 @@
+pub mod AnswerLemmas
+pub mod BodyLemmas
+pub mod FieldLemmas
+pub mod FrontLemmas
+pub mod HeadLemmas
+pub mod ParsingLemmas
+pub mod PartsLemmas
+pub mod ReadingLemmas
+pub mod ReplyLemmas
+pub mod SearchLemmas

@@ -1,0 +1,86 @@
+-- How the end of a head is searched for.
+use Rattle.std.specs.Prelude.{◌≡◌, ◌≤◌, ◌<◌, ◌+◌, ◌*◌, ℕ, zero, suc, true, false, List, [], ◌∷◌, ◌++◌, length, take, drop, Option, Some, Result, Ok, Err, ⊤}
+use Rattle.http_wire.specs.declared.fault.WireFault.{WireFault}
+use Rattle.http_wire.specs.declared.fault.WireFault.TheVariants.{Ended, Truncated, HeadTooLong, BadHead, Chunked, BadLength, BodyTooLong, ReadFault, NoMemory}
+use Rattle.http_wire.specs.declared.heads.Look.{Look}
+use Rattle.http_wire.specs.declared.heads.Look.TheVariants.{Head, Part, TooLong}
+use Rattle.http_wire.specs.declared.heads.Search.{Search}
+use Rattle.http_wire.specs.Messages.{end_fault}
+use Rattle.http_wire.specs.MessageHeads.{ends_empty, headed, too_long, unended, opening}
+
+-- none of the fronts of up to so many bytes ends with an empty line
+abbrev pub HasNoEnd : List ℕ → ℕ → Type 0
+HasNoEnd bytes n = (k : ℕ) → k ≤ n → ends_empty (take k bytes) ≡ false
+
+-- the first empty line ends here
+pub record IsHeadEnd (bytes : List ℕ) (n : ℕ) : Type 0 where
+  pub within : n ≤ length bytes
+  pub ends : ends_empty (take n bytes) ≡ true
+  pub first : (k : ℕ) → k < n → ends_empty (take k bytes) ≡ false
+
+-- so many pairs
+abbrev pub pairs : ℕ → List ℕ
+pairs zero = []
+pairs (suc n) = 13 ∷ 10 ∷ pairs n
+
+-- the search stands within the bytes that are held and within the limit, and passed no end
+pub record IsSearch (search : Search) (held : List ℕ) : Type 0 where
+  pub within : search.passed ≤ length held
+  pub limit : search.skipped + search.passed ≤ 16384
+  pub none : HasNoEnd held search.passed
+
+-- these bytes were given: the pairs that were taken out, and those that are held
+pub record IsGiven (given : List ℕ) (search : Search) (held : List ℕ) : Type 0 where
+  pub count : ℕ
+  pub skipped : search.skipped ≡ 2 * count
+  pub whole : given ≡ pairs count ++ held
+
+-- what a look at the bytes given shows of all that begin with them, or of these alone
+abbrev pub Shows : List ℕ → Search → List ℕ → Look → Type 0
+Shows given search held (Head n) =
+    (n ≤ length held) × ((more : List ℕ) → opening (given ++ more) ≡ headed (take n held) (drop n held ++ more))
+Shows given search held TooLong = (more : List ℕ) → opening (given ++ more) ≡ too_long
+Shows given search held Part = IsGiven given search held × (opening given ≡ unended held)
+
+-- after a part is held, it is within the limit, and all of it was passed
+abbrev pub PassesPart : ℕ → Search → List ℕ → Look → Type 0
+PassesPart total search held (Head n) = n ≤ length held
+PassesPart total search held TooLong = ⊤
+PassesPart total search held Part = IsSearch search held × (search.skipped + length held ≡ total) × (total < 16384)
+
+-- all bytes are a part of a head, and this is the fault
+abbrev pub EndsIn : List ℕ → WireFault → Type 0
+EndsIn bytes fault = (part : List ℕ) × (opening bytes ≡ unended part) × (fault ≡ end_fault part)
+
+-- a head of so many bytes stands at the front of what is held: so begin the bytes given, whatever follows
+pub record HeadCame (bytes held : List ℕ) (left : Option (List ℕ)) (n : ℕ) : Type 0 where
+  pub within : n ≤ length held
+  pub given : List ℕ
+  pub rest : List ℕ
+  pub left_is : left ≡ Some rest
+  pub whole : given ++ rest ≡ bytes
+  pub opens : (more : List ℕ) → opening (given ++ more) ≡ headed (take n held) (drop n held ++ more)
+
+-- What the reading of a head answers: it stands at the front of what is held; or it is too long, or ended, or the
+-- source failed where no more than a part of one was given.
+unfoldable pub IsHeadAnswer : List ℕ → List ℕ → Option (List ℕ) → Result ℕ WireFault → Type 0
+IsHeadAnswer bytes held left (Ok n) =
+    HeadCame bytes held left n
+IsHeadAnswer bytes held left (Err HeadTooLong) = opening bytes ≡ too_long
+IsHeadAnswer bytes held left (Err Ended) = EndsIn bytes Ended
+IsHeadAnswer bytes held left (Err (Truncated n)) = EndsIn bytes (Truncated n)
+IsHeadAnswer bytes held left (Err ReadFault) =
+    (given : List ℕ) × (rest : List ℕ) × (given ++ rest ≡ bytes) × (left ≡ Some rest) × ((part : List ℕ) × (opening given ≡ unended part))
+IsHeadAnswer bytes held left (Err NoMemory) = ⊤
+IsHeadAnswer bytes held left (Err BadHead) = ⊥
+IsHeadAnswer bytes held left (Err Chunked) = ⊥
+IsHeadAnswer bytes held left (Err BadLength) = ⊥
+IsHeadAnswer bytes held left (Err (BodyTooLong n)) = ⊥
+
+-- the same while it goes on: the bytes that were given, and those that are left
+pub record Reaches (bytes : List ℕ) (search : Search) (held : List ℕ) (left : Option (List ℕ)) : Type 0 where
+  pub given : List ℕ
+  pub rest : List ℕ
+  pub come : IsGiven given search held
+  pub left_is : left ≡ Some rest
+  pub whole : given ++ rest ≡ bytes

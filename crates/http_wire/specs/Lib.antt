@@ -1,0 +1,9 @@
+pub mod BodyReading
+pub mod Filling
+pub mod SinkFronts
+pub mod HeadSearch
+pub mod MessageFields
+pub mod MessageHeads
+pub mod Messages
+pub mod Parsing
+pub mod ReplyText
