@@ -1,0 +1,5 @@
+pub mod CallForms
+pub mod HeadForms
+pub mod NamingForms
+pub mod ObjectForms
+pub mod SettingCalls
