@@ -1,0 +1,4 @@
+pub mod NoFloats
+pub mod PrintedReplies
+pub mod RefusalTexts
+pub mod ReplyForms
