@@ -1,0 +1,12 @@
+//! Tests of the wire: what no clause says of messages, and of the forms of calls and replies.
+//!
+//! - `messages`: requests and their refusals, from bytes, however they are cut.
+//! - `replies`: each refusal as it is sent; `forms`: what was done, each form once.
+#![tactic(auto)]
+
+#[cfg(test)]
+mod forms;
+#[cfg(test)]
+mod messages;
+#[cfg(test)]
+mod replies;
