@@ -1,13 +1,18 @@
 #!/usr/bin/env python3
-"""What the merge gate costs: bench/gate_cost.py [--here]
+"""What the merge gate costs: bench/gate_cost.py [--here], or [--watch FILE], or [--table FILE]
 
 Clones this repository into a scratch folder, runs `rt ci` there, from nothing (`--anew` where the kit has that word), and
 watches its processes. Prints a table, a row a crate: processor minutes of its proofs, of its tests and of its
 must-fail edits, the largest memory of one process and the longest process, its lines (.rt and .antt), and processor
 minutes a thousand lines; then the whole run, and the longest chain of crates that stand on one another. With --here
 it runs in this folder and not in a clone. It needs rt and nothing else; other programs on the machine make the
-minutes of the clock longer, and those of the processor hardly.
+minutes of the clock longer, and those of the processor hardly, unless its processors share cores.
+
+Where one run from nothing takes too long, --watch FILE watches each `rt ci` of this machine, until it is ended, and keeps
+in FILE what each of its processes used; --table FILE prints the table of that. Of a crate that was proved, tested or tried
+in several runs the last one counts.
 """
+import json
 import os
 import re
 import shutil
@@ -67,23 +72,72 @@ def kind_of(words, folder):
     return crate, "proofs"
 
 
+def note(seen, pid, words, folder):
+    """Keeps what a process used so far."""
+    seconds, peak = used(pid)
+    key = f"{pid} {' '.join(words)}"
+    before = seen.get(key, [0, 0, 0, 0, time.time()])
+    crate, kind = kind_of(words, folder)
+    seen[key] = [crate, kind, max(before[2], seconds), max(before[3], peak), before[4], time.time(), folder]
+
+
 def watch(run):
     """Follows a run of the gate, and gives what each of its processes used."""
     seen = {}
     while run.poll() is None:
         for pid, words, folder in processes():
             try:
-                if run.pid not in parents(pid):
-                    continue
-                seconds, peak = used(pid)
+                if run.pid in parents(pid):
+                    note(seen, pid, words, folder)
             except OSError:
                 continue
-            key = (pid, " ".join(words))
-            before = seen.get(key, (0, 0, 0, 0, time.time()))
-            crate, kind = kind_of(words, folder)
-            seen[key] = (crate, kind, max(before[2], seconds), max(before[3], peak), before[4], time.time())
         time.sleep(0.2)
     return seen.values()
+
+
+def is_gate(pid):
+    """Whether a process is a run of the gate."""
+    try:
+        with open(f"/proc/{pid}/cmdline", "rb") as file:
+            words = file.read().decode(errors="replace").split("\0")[:4]
+    except OSError:
+        return False
+    return "ci" in words and any(word.endswith("/rt") for word in words)
+
+
+def watch_all(name):
+    """Follows each run of the gate on this machine, until it is ended, and keeps what each of its processes used."""
+    seen = {}
+    kept = time.time()
+    while True:
+        for pid, words, folder in processes():
+            try:
+                if any(is_gate(parent) for parent in parents(pid)):
+                    note(seen, pid, words, folder)
+            except OSError:
+                continue
+        if time.time() - kept > 10:
+            with open(f"{name}.new", "w") as file:
+                json.dump(list(seen.values()), file)
+            os.replace(f"{name}.new", name)
+            kept = time.time()
+        time.sleep(0.5)
+
+
+def run_of(row):
+    """In which run a process was: by the folder of the clone, or by the number of the run in that of an edit."""
+    edit = re.search(r"/rt-edit-(\d+)-", row[6])
+    return edit.group(1) if edit else row[6].split("/crates/")[0]
+
+
+def of_last_runs(rows):
+    """What was used for each crate's proofs, tests and edits in the last run in which they were made."""
+    last = {}
+    for row in rows:
+        key = (row[0], row[1])
+        if key not in last or row[5] > last[key][0]:
+            last[key] = (row[5], run_of(row))
+    return [row for row in rows if run_of(row) == last[(row[0], row[1])][1]]
 
 
 def crates(top):
@@ -125,22 +179,14 @@ def anew():
     return ["--anew"] if "--anew" in told else []
 
 
-def main():
-    top = HERE if "--here" in sys.argv else f"{tempfile.mkdtemp(prefix='gate-')}/clone"
-    if top != HERE:
-        subprocess.run(["git", "clone", "-q", HERE, top], check=True)
-    start = time.time()
-    with open(f"{top}/../gate.log" if top != HERE else os.devnull, "w") as log:
-        run = subprocess.Popen(["rt", "ci", *anew()], cwd=top, stdout=log, stderr=subprocess.STDOUT)
-        used_by = list(watch(run))
-    whole = (time.time() - start) / 60
-    below = crates(top)
+def table(top, used_by):
+    """Prints the table, and gives the minutes of the clock that each crate's proofs took, and all of the processor's."""
     total = {"proofs": 0.0, "tests": 0.0, "edits": 0.0}
     clock = {}
     count = 0
     print("| crate | proofs | tests | edits | longest process | largest memory | lines | a thousand lines |")
     print("|---|---|---|---|---|---|---|---|")
-    for crate in below:
+    for crate in crates(top):
         mine = [row for row in used_by if row[0] == crate]
         spent = {kind: sum(row[2] for row in mine if row[1] == kind) / 60 for kind in total}
         clock[crate] = sum(row[5] - row[4] for row in mine if row[1] == "proofs") / 60
@@ -156,7 +202,27 @@ def main():
     everything = sum(total.values())
     print(f"| all | {total['proofs']:.1f} | {total['tests']:.1f} | {total['edits']:.1f} | | | {count} "
           f"| {everything / count * 1000:.1f} |")
-    length, names = chain(below, clock)
+    return clock, everything
+
+
+def main():
+    if "--watch" in sys.argv:
+        watch_all(sys.argv[sys.argv.index("--watch") + 1])
+    if "--table" in sys.argv:
+        with open(sys.argv[sys.argv.index("--table") + 1]) as file:
+            _, everything = table(HERE, of_last_runs(json.load(file)))
+        print(f"\nAll: {everything:.0f} processor minutes, on {os.cpu_count()} processors.")
+        return 0
+    top = HERE if "--here" in sys.argv else f"{tempfile.mkdtemp(prefix='gate-')}/clone"
+    if top != HERE:
+        subprocess.run(["git", "clone", "-q", HERE, top], check=True)
+    start = time.time()
+    with open(f"{top}/../gate.log" if top != HERE else os.devnull, "w") as log:
+        run = subprocess.Popen(["rt", "ci", *anew()], cwd=top, stdout=log, stderr=subprocess.STDOUT)
+        used_by = list(watch(run))
+    whole = (time.time() - start) / 60
+    clock, everything = table(top, used_by)
+    length, names = chain(crates(top), clock)
     print(f"\nThe whole run: {whole:.1f} minutes by the clock, {everything:.0f} processor minutes, on {os.cpu_count()} processors.")
     print(f"The longest chain: {' - '.join(names)}, {length:.1f} minutes by the clock.")
     if top != HERE:
