@@ -6,7 +6,6 @@ use Rattle.std.specs.FinMap as map
 use Rattle.std.specs.Option.{option_or}
 use Rattle.lake_base.specs.Memory.{next_count}
 use Rattle.lake_base.specs.declared.outside.Trouble.{Trouble}
-use Rattle.lake_base.specs.declared.outside.Trouble.TheVariants.{Failed, NoMemory}
 use Rattle.block_store.specs.declared.memory.BlockFail.{BlockFail}
 use Rattle.block_store.specs.declared.memory.BlockFail.TheVariants.{Put, Get, Remove, List as ListCall}
 use Rattle.block_store.specs.Blocks.{HeldObjects}
@@ -98,12 +97,6 @@ first_landing_remove number (fail ∷ fails) = option_or (landing_remove number 
 -- where the remove after so many is to fail, whether it is made all the same
 abbrev pub remove_landing : List BlockFail → ℕ → Option Bool
 remove_landing fails removes = first_landing_remove (next_count removes) fails
-
--- a count of faults after a call with this answer: a failure counts one, out of memory none
-abbrev pub faults_after : {T : Type 0} → Result T Trouble → ℕ → ℕ
-faults_after (Ok x) faults = faults
-faults_after (Err Failed) faults = next_count faults
-faults_after (Err NoMemory) faults = faults
 
 -- a count of misses after a get with this answer: None counts one
 abbrev pub misses_after : {T : Type 0} → Result (Option T) Trouble → ℕ → ℕ

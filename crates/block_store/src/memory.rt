@@ -5,6 +5,7 @@ ghost use Rattle.std.specs.List.{list_any};
 ghost use Rattle.std.specs.List.Sorted.{IsStrictlyIncreasing};
 ghost use Rattle.std.specs.FinMap as map;
 ghost use Rattle.lake_base.specs.Memory.{next_count};
+ghost use Rattle.lake_base.specs.Troubles.{failures_after};
 ghost use Rattle.lake_base.specs.declared.outside.Trouble.TheVariants.{Failed as trouble_failed};
 ghost use Rattle.lake_base.specs.declared.outside.Trouble.TheVariants.{NoMemory as trouble_no_memory};
 ghost use Rattle.block_store.specs.Blocks.{FailsByFault, Misses, NoMiss, MayHavePut, MayHaveRemoved};
@@ -12,7 +13,7 @@ ghost use Rattle.block_store.specs.FailingBlocks.{is_get, is_get_to_fail, is_lis
 ghost use Rattle.block_store.specs.FailingBlocks.{landing_put, landing_remove};
 ghost use Rattle.block_store.specs.FailingBlocks.{first_landing_put, first_landing_remove};
 ghost use Rattle.block_store.specs.FailingBlocks.{put_landing, remove_landing};
-ghost use Rattle.block_store.specs.FailingBlocks.{faults_after, misses_after, missed_after};
+ghost use Rattle.block_store.specs.FailingBlocks.{misses_after, missed_after};
 
 use crate::blocks::Blocks;
 use crate::sure::SureBlocks;
@@ -201,7 +202,7 @@ impl Blocks for MemoryBlocks {
         ensures counted { self.new ≡ record self.old {
           held = self.new.held;
           puts = next_count self.old.puts;
-          faults = faults_after result self.old.faults;
+          faults = failures_after result self.old.faults;
         } }
     {
         self.puts = self.puts.saturating_add(1);
@@ -235,7 +236,7 @@ impl Blocks for MemoryBlocks {
 
         ensures counted { self.new ≡ record self.old {
           gets = next_count self.old.gets;
-          faults = faults_after result self.old.faults;
+          faults = failures_after result self.old.faults;
           misses = misses_after result self.old.misses;
           missed = missed_after number result self.old.missed;
         } }
@@ -265,7 +266,7 @@ impl Blocks for MemoryBlocks {
         ensures counted { self.new ≡ record self.old {
           held = self.new.held;
           removes = next_count self.old.removes;
-          faults = faults_after result self.old.faults;
+          faults = failures_after result self.old.faults;
         } }
     {
         self.removes = self.removes.saturating_add(1);
@@ -294,7 +295,7 @@ impl Blocks for MemoryBlocks {
 
         ensures counted { self.new ≡ record self.old {
           lists = next_count self.old.lists;
-          faults = faults_after result self.old.faults;
+          faults = failures_after result self.old.faults;
         } }
     {
         self.lists = self.lists.saturating_add(1);

@@ -6,7 +6,6 @@ use Rattle.std.specs.FinMap as map
 use Rattle.std.specs.Option.{option_or}
 use Rattle.lake_base.specs.Memory.{next_count}
 use Rattle.lake_base.specs.declared.outside.Trouble.{Trouble}
-use Rattle.lake_base.specs.declared.outside.Trouble.TheVariants.{Failed, NoMemory}
 use Rattle.keeper.specs.declared.memory.KeeperFail.{KeeperFail}
 use Rattle.keeper.specs.declared.memory.KeeperFail.TheVariants.{Load, Put}
 use Rattle.keeper.specs.Keepers.{KeptPairs}
@@ -53,12 +52,6 @@ first_landing number (fail ∷ fails) = option_or (landing number fail) (first_l
 -- where the puts after so many are to fail, whether they are made all the same
 abbrev pub put_landing : List KeeperFail → ℕ → Option Bool
 put_landing fails puts = first_landing (next_count puts) fails
-
--- a count of faults after a call with this answer: a failure counts one, out of memory none
-abbrev pub faults_after : {T : Type 0} → Result T Trouble → ℕ → ℕ
-faults_after (Ok x) faults = faults
-faults_after (Err Failed) faults = next_count faults
-faults_after (Err NoMemory) faults = faults
 
 -- a count of puts that came to Ok after a call with this answer
 abbrev pub successes_after : {T : Type 0} → Result T Trouble → ℕ → ℕ

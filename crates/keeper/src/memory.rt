@@ -4,11 +4,12 @@ ghost use Rattle.std.specs.Prelude.{IsErrOf, IsErr, IsOk};
 ghost use Rattle.std.specs.FinMap as map;
 ghost use Rattle.lake_base.specs.Maps.{HasAscendingKeys};
 ghost use Rattle.lake_base.specs.Memory.{next_count};
+ghost use Rattle.lake_base.specs.Troubles.{failures_after};
 ghost use Rattle.lake_base.specs.declared.outside.Trouble.TheVariants.{Failed as trouble_failed};
 ghost use Rattle.lake_base.specs.declared.outside.Trouble.TheVariants.{NoMemory as trouble_no_memory};
 ghost use Rattle.keeper.specs.Keepers.{FailsByFault, MayHaveMade, entries_of, pairs_after};
 ghost use Rattle.keeper.specs.FailingKeepers.{is_load, is_load_to_fail, landing, first_landing, put_landing};
-ghost use Rattle.keeper.specs.FailingKeepers.{faults_after, successes_after};
+ghost use Rattle.keeper.specs.FailingKeepers.{successes_after};
 ghost use Rattle.std.specs.List.{list_any};
 
 use crate::keeper::Keeper;
@@ -142,7 +143,7 @@ impl Keeper for MemoryKeeper {
             → IfErr result (λ trouble. trouble ≡ trouble_no_memory) }
         ensures counted { self.new ≡ record self.old {
           loads = next_count self.old.loads;
-          faults = faults_after result self.old.faults;
+          faults = failures_after result self.old.faults;
         } }
     {
         self.loads = self.loads.saturating_add(1);
@@ -175,7 +176,7 @@ impl Keeper for MemoryKeeper {
           pairs = self.new.pairs;
           puts = next_count self.old.puts;
           successes = successes_after result self.old.successes;
-          faults = faults_after result self.old.faults;
+          faults = failures_after result self.old.faults;
         } }
     {
         self.puts = self.puts.saturating_add(1);

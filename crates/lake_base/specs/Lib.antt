@@ -4,3 +4,4 @@ pub mod Maps
 pub mod Memory
 pub mod Names
 pub mod Outside
+pub mod Troubles
