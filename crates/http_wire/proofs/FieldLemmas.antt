@@ -1,7 +1,9 @@
 -- What fields and their values say.
-use Rattle.std.proofs.Common.{◌≡◌, ◌≤◌, ◌<◌, ◌+◌, ◌*◌, ◌^◌, ◌||◌, ℕ, Bool, true, false, List, [], ◌∷◌, length, take, drop, get_or, filter, Some, None, refl, sym, ap, ◌∙◌, arith, rules, map, true≢false, inl, inr}
+use Rattle.std.proofs.Common.{◌≡◌, ◌≤◌, ◌<◌, ◌+◌, ◌*◌, ◌^◌, ◌||◌, ℕ, Bool, true, false, List, [], ◌∷◌, length, take, drop, get_or, filter, Some, None}
+use Rattle.std.proofs.Common.{refl, sym, ap, ◌∙◌, arith, rules, map, true≢false, inl, inr, if◌then◌else◌}
 use Rattle.std.specs.Char.{is_ascii_digit, digit_value}
 use Rattle.std.specs.List.{list_any, list_all}
+use Rattle.std.specs.Str.{is_utf8}
 use Rattle.std.specs.Str.Parse.{digits_value}
 use Rattle.std.proofs.lemmas.Bool.{cases_Bool}
 use Rattle.std.proofs.lemmas.List.{drop_more, drop_all}
@@ -11,6 +13,7 @@ use Rattle.std.proofs.lemmas.List.Folds.{list_all_at}
 use Rattle.std.proofs.lemmas.Int.Digits.{digits_value_more}
 use Rattle.std.proofs.lemmas.Str.Parse.{IsNumeralModel, numerals_by_value, digits_value_short, digits_value-take-le}
 use Rattle.http_wire.specs.MessageFields.{is_length, is_named, values_of, stated_number, stated_length}
+use Rattle.http_wire.specs.Messages.{first_text}
 
 pub own : IsNumeralModel (λ (ds : List ℕ). list_all is_ascii_digit ds ≡ true) (digits_value 10)
 own = numerals_by_value _ (search rules)
@@ -101,6 +104,15 @@ module _ (fields : List Field) (at : ℕ) (field : Field) (name : List ℕ) (h :
   stated_once none =
       ap (λ (l : List Field). stated_length (map (λ (f : Field). f.value) l))
       (found ∙ ap (λ (l : List Field). field ∷ l) (filter_none (is_named name) (drop (at + 1) fields) none))
+
+  pub first_here : first_text (values_of name fields) ≡ (if is_utf8 field.value then field.value else [])
+  first_here = ap (λ (l : List Field). first_text (map (λ (f : Field). f.value) l)) found
+
+-- no field has the name
+pub first_none : (name : List ℕ) (fields : List Field) (at : ℕ) → length fields ≤ at
+    → filter (is_named name) fields ≡ filter (is_named name) (drop at fields) → first_text (values_of name fields) ≡ []
+first_none name fields at h was =
+    ap (λ (l : List Field). first_text (map (λ (f : Field). f.value) l)) (was ∙ ap (filter (is_named name)) (drop_all at fields h))
 
 pub stated_none : (name : List ℕ) (fields : List Field) (at : ℕ) → length fields ≤ at
     → filter (is_named name) fields ≡ filter (is_named name) (drop at fields) → stated_length (values_of name fields) ≡ Some 0

@@ -1,22 +1,25 @@
 -- What httparse finds is one whole head.
-use Rattle.std.proofs.Common.{◌≡◌, ◌≤◌, ◌<◌, ℕ, Bool, true, false, List, [], ◌∷◌, length, take, drop, get_or, map, Option, Some, None, Result, Ok, Err, refl, sym, ap, subst, ◌∙◌, arith, All, true≢false, nat_le, if◌then◌else◌}
+use Rattle.std.proofs.Common.{◌≡◌, ◌≤◌, ◌<◌, ℕ, Bool, true, false, List, [], ◌∷◌, length, take, drop, get_or, map, codes, Option, Some, None, Result}
+use Rattle.std.proofs.Common.{Ok, Err, refl, sym, ap, subst, ◌∙◌, arith, All, true≢false, nat_le, if◌then◌else◌}
 use Rattle.std.specs.Str.{is_utf8}
-use Rattle.std.proofs.lemmas.List.{append-nil, length-drop, length-map, length-take-le, drop_all, get_or-map}
+use Rattle.std.proofs.lemmas.List.{length-map, length-take-le, drop_all, get_or-map}
 use Rattle.std.proofs.lemmas.Bool.Decides.{nat_tests}
 use Rattle.std.proofs.lemmas.Str.{IsUtf8-from_ascii, is_utf8-from_IsUtf8}
 use Rattle.std.proofs.lemmas.Str.Ascii.{IsAscii-from_all}
 use Rattle.httparse.specs.declared.spans.HeaderSpan.{HeaderSpan}
 use Rattle.httparse.specs.declared.spans.RequestSpans.{RequestSpans}
-use Rattle.httparse.specs.Grammar.{lf, HasNoRequest, is_token_byte, IsToken, Field, IsField, RequestHead, ReadsRequest}
-use Rattle.httparse.specs.Spans.{span_bytes, header_bytes, name_and_value, IsWithin, IsHeaderWithin, IsRequestWithin, IsRequestOf, RequestOverflows}
-use Rattle.httparse.proofs.GrammarLemmas.{request_unique}
+use Rattle.httparse.specs.declared.spans.ResponseSpans.{ResponseSpans}
+use Rattle.httparse.specs.Grammar.{lf, is_token_byte, IsToken, Field, IsField, RequestHead, ReadsRequest, ResponseHead, ReadsResponse, status_code}
+use Rattle.httparse.specs.Spans.{span_bytes, header_bytes, name_and_value, AreFieldsAt, IsWithin, IsHeaderWithin}
+use Rattle.httparse.specs.Spans.{IsRequestWithin, IsRequestOf, IsResponseWithin, IsResponseOf}
 use Rattle.http_wire.specs.declared.message.Field as Wire
 use Rattle.http_wire.specs.declared.message.Request.{Request}
+use Rattle.http_wire.specs.declared.message.Reply.{Reply}
 use Rattle.http_wire.specs.declared.fault.WireFault.{WireFault}
 use Rattle.http_wire.specs.declared.fault.WireFault.TheVariants.{Ended, Truncated, HeadTooLong, BadHead, Chunked, BadLength, BodyTooLong, ReadFault, NoMemory}
-use Rattle.http_wire.specs.MessageFields.{closes, body_length, length_within}
-use Rattle.http_wire.specs.Messages.{IsRequestHeadOf, request_of, fields_of}
-use Rattle.http_wire.specs.Parsing.{field_of_bytes, HasTextName, IsFoundRequest, IsParse}
+use Rattle.http_wire.specs.MessageFields.{values_of, closes, body_length, length_within}
+use Rattle.http_wire.specs.Messages.{request_of, fields_of, first_text, reply_of}
+use Rattle.http_wire.specs.Parsing.{field_of_bytes, HasTextName, IsFoundRequest, IsFoundReply, IsParse}
 
 token_is_ascii : (b : ℕ) → is_token_byte b ≡ true → b < 128
 unfolding is_token_byte
@@ -48,57 +51,62 @@ module _ (bytes : List ℕ) where
       ∙ get_or-map name_and_value fields k none ([], []) within in
       ap (λ (p : List ℕ × List ℕ). is_utf8 p.0) at ∙ token_text (get_or fields k none).name (all k none within).name
 
-  module _ (headers : List HeaderSpan) (found : RequestSpans) (within : IsRequestWithin bytes headers found) (of : IsRequestOf bytes headers found) where
-    -- a head that is all of the bytes
-    pub request_found : found.len ≡ length bytes → length headers ≡ 64
-        → (found.headers ≤ 64) × ((h : RequestHead) × IsFoundRequest bytes (take found.headers headers) found h)
-    request_found len room =
-        let at = of.1 in
-        let fits : found.headers ≤ 64 = omega (arith, within.section.count_fits, room) in
-        let count : length (take found.headers headers) ≡ found.headers = length-take-le found.headers headers within.section.count_fits in
-        let few : length of.0.fields ≤ 64 =
-        omega (
-          arith,
-          fits,
-          count,
-          length-map (take found.headers headers)
-              (header_bytes bytes),
-          length-map of.0.fields name_and_value,
-          ap length at.fields,
-        ) in
-        let rest : drop found.len bytes ≡ [] = drop_all found.len bytes (omega (arith, len)) in (
-          fits,
-          (
-            of.0,
-            record {
-              whole = record { reads = subst (λ (l : List ℕ). ReadsRequest bytes of.0 l) rest at.reads; few = few };
-              method = at.method;
-              method_within = subst (λ (n : ℕ). IsWithin n found.method) len within.method;
-              path = at.path;
-              path_within = subst (λ (n : ℕ). IsWithin n found.path) len within.path;
-              version = at.version;
-              fields = at.fields;
-              within = subst (λ (n : ℕ). All (IsHeaderWithin n) (take found.headers headers)) len within.section.headers_fit;
-              names = names_text (take found.headers headers) of.0.fields at.fields at.reads.0.fields;
-              method_text = ap is_utf8 at.method ∙ token_text of.0.method at.reads.0.method;
-            },
-          ),
-        )
+  -- there are no more fields than places
+  fields_few : (headers : List HeaderSpan) (count : ℕ) (fields : List Field) → count ≤ length headers → length headers ≡ 64
+      → AreFieldsAt bytes headers count fields → (count ≤ 64) × (length fields ≤ 64)
+  fields_few headers count fields fits room at =
+      let taken : length (take count headers) ≡ count = length-take-le count headers fits in (
+        omega arith,
+        omega (arith, length-map (take count headers) (header_bytes bytes), length-map fields name_and_value, ap length at),
+      )
 
-    -- a head that is only a part of them
-    pub request_parted : (found.len ≡ length bytes → ⊥) → (h : RequestHead) → ¬ (IsRequestHeadOf bytes h)
-    request_parted other h whole =
-        let same = request_unique bytes of.0 h (drop found.len bytes) [] of.1.reads whole.reads in
-        let short : length (drop found.len bytes) ≡ 0 = ap length same.1 in
-        other (omega (arith, short, length-drop found.len bytes, within.section.len_fits))
+  -- a request's head that is all of the bytes
+  pub request_found : (headers : List HeaderSpan) (found : RequestSpans) → IsRequestWithin bytes headers found → IsRequestOf bytes headers found
+      → found.len ≡ length bytes → length headers ≡ 64
+      → (found.headers ≤ 64) × ((h : RequestHead) × IsFoundRequest bytes (take found.headers headers) found h)
+  request_found headers found within of len room =
+      let at = of.1 in
+      let few = fields_few headers found.headers of.0.fields within.section.count_fits room at.fields in
+      let rest : drop found.len bytes ≡ [] = drop_all found.len bytes (omega (arith, len)) in (
+        few.0,
+        (
+          of.0,
+          record {
+            whole = record { reads = subst (λ (l : List ℕ). ReadsRequest bytes of.0 l) rest at.reads; few = few.1 };
+            method = at.method;
+            method_within = subst (λ (n : ℕ). IsWithin n found.method) len within.method;
+            path = at.path;
+            path_within = subst (λ (n : ℕ). IsWithin n found.path) len within.path;
+            version = at.version;
+            fields = at.fields;
+            within = subst (λ (n : ℕ). All (IsHeaderWithin n) (take found.headers headers)) len within.section.headers_fit;
+            names = names_text (take found.headers headers) of.0.fields at.fields at.reads.0.fields;
+            method_text = ap is_utf8 at.method ∙ token_text of.0.method at.reads.0.method;
+          },
+        ),
+      )
 
-  pub request_none : HasNoRequest bytes → (h : RequestHead) → ¬ (IsRequestHeadOf bytes h)
-  request_none none h whole = none h [] whole.reads
-
-  pub request_overflows : RequestOverflows 64 bytes → (h : RequestHead) → ¬ (IsRequestHeadOf bytes h)
-  request_overflows over h whole =
-      let more = over [] h [] (subst (λ (l : List ℕ). ReadsRequest l h []) (sym (append-nil bytes)) whole.reads) in
-      omega (arith, more, whole.few)
+  -- the same of a reply's
+  pub reply_found : (headers : List HeaderSpan) (found : ResponseSpans) → IsResponseWithin bytes headers found → IsResponseOf bytes headers found
+      → found.len ≡ length bytes → length headers ≡ 64
+      → (found.headers ≤ 64) × ((h : ResponseHead) × IsFoundReply bytes (take found.headers headers) found h)
+  reply_found headers found within of len room =
+      let at = of.1 in
+      let few = fields_few headers found.headers of.0.fields within.section.count_fits room at.fields in
+      let rest : drop found.len bytes ≡ [] = drop_all found.len bytes (omega (arith, len)) in (
+        few.0,
+        (
+          of.0,
+          record {
+            whole = record { reads = subst (λ (l : List ℕ). ReadsResponse bytes of.0 l) rest at.reads; few = few.1 };
+            version = at.version;
+            code = at.code;
+            fields = at.fields;
+            within = subst (λ (n : ℕ). All (IsHeaderWithin n) (take found.headers headers)) len within.section.headers_fit;
+            names = names_text (take found.headers headers) of.0.fields at.fields at.reads.0.fields;
+          },
+        ),
+      )
 
 -- what fields say is a length, or one of their three faults
 abbrev is_of_fields : Result ℕ WireFault → Bool
@@ -149,6 +157,22 @@ request_made bytes headers found h fields method target body close is fields_is 
   where
     make : List ℕ → List ℕ → List Wire.Field → List ℕ → Bool → Request
     make m t f b c = record { method = m; target = t; fields = f; body = b; close = c }
+
+-- the parts make the reply
+pub reply_made : (h : ResponseHead) (fields : List Wire.Field) (version status : ℕ) (kind body : List ℕ) (close : Bool)
+    → fields ≡ fields_of h.fields → version ≡ h.minor → status ≡ status_code h → kind ≡ first_text (values_of (codes "content-type") fields)
+    → body ≡ [] → close ≡ closes version fields
+    → record { status = status; content_type = kind; body = body; close = close } ≡ reply_of h []
+reply_made h fields version status kind body close all version_is status_is kind_is body_is close_is =
+    ap (λ (x : ℕ). make x kind body close) status_is
+    ∙ ap (λ (x : List ℕ). make (status_code h) x body close)
+    (kind_is ∙ ap (λ (l : List Wire.Field). first_text (values_of (codes "content-type") l)) all)
+    ∙ ap (λ (x : List ℕ). make (status_code h) (first_text (values_of (codes "content-type") (fields_of h.fields))) x close) body_is
+    ∙ ap (λ (x : Bool). make (status_code h) (first_text (values_of (codes "content-type") (fields_of h.fields))) [] x)
+    (close_is ∙ ap (λ (n : ℕ). closes n fields) version_is ∙ ap (closes h.minor) all)
+  where
+    make : ℕ → List ℕ → List ℕ → Bool → Reply
+    make s k b c = record { status = s; content_type = k; body = b; close = c }
 
 module _ {Head Message : Type 0} (IsHeadOf : List ℕ → Head → Type 0) (fields : Head → List Wire.Field) (message : Head → List ℕ → Message)
     (limit : Option ℕ) (bytes : List ℕ) where

@@ -32,7 +32,8 @@ module _ (parts : List (Bor (List ℕ))) (i : ℕ) (d : Bor (List ℕ)) (inside 
     -- the next is shown
     pub part_shown : (last : List ℕ) → Shows b c pending (get_or parts i d).now last → Shows a c [] (joined (take (i + 1) parts)) last
     part_shown last next =
-        subst (λ (l : List ℕ). Shows a c [] l last) (sym joined_more) (shows_then a b c [] (joined (take i parts)) pending (get_or parts i d).now shown last next)
+        subst (λ (l : List ℕ). Shows a c [] l last) (sym joined_more)
+        (shows_then a b c [] (joined (take i parts)) pending (get_or parts i d).now shown last next)
 
     -- the next was written in part
     pub part_cut : WroteFront b c (pending ++ (get_or parts i d).now) → WroteFront a c (joined parts)

@@ -2,8 +2,9 @@
 use Rattle.std.specs.Prelude.{◌≡◌, ℕ, All, true, length, map, List, [], Option, Some, None, Result, Ok, Err, ⊤}
 use Rattle.std.specs.Str.{is_utf8}
 use Rattle.httparse.specs.declared.spans.HeaderSpan.{HeaderSpan}
-use Rattle.httparse.specs.Grammar.{RequestHead, ResponseHead}
+use Rattle.httparse.specs.Grammar.{RequestHead, ResponseHead, status_code}
 use Rattle.httparse.specs.declared.spans.RequestSpans.{RequestSpans}
+use Rattle.httparse.specs.declared.spans.ResponseSpans.{ResponseSpans}
 use Rattle.httparse.specs.Spans.{span_bytes, header_bytes, name_and_value, IsWithin, IsHeaderWithin}
 use Rattle.http_wire.specs.declared.message.Field.{Field}
 use Rattle.http_wire.specs.declared.message.Request.{Request}
@@ -33,6 +34,15 @@ pub record IsFoundRequest (bytes : List ℕ) (headers : List HeaderSpan) (found 
   pub within : All (IsHeaderWithin (length bytes)) headers
   pub names : All (HasTextName bytes) headers
   pub method_text : is_utf8 (span_bytes bytes found.method) ≡ true
+
+-- the same of a reply's head
+pub record IsFoundReply (bytes : List ℕ) (headers : List HeaderSpan) (found : ResponseSpans) (head : ResponseHead) : Type 0 where
+  pub whole : IsReplyHeadOf bytes head
+  pub version : found.version ≡ head.minor
+  pub code : found.code ≡ status_code head
+  pub fields : map (header_bytes bytes) headers ≡ map name_and_value head.fields
+  pub within : All (IsHeaderWithin (length bytes)) headers
+  pub names : All (HasTextName bytes) headers
 
 module _ {Head Message : Type 0} (IsHeadOf : List ℕ → Head → Type 0) (fields : Head → List Field) (message : Head → List ℕ → Message) (limit : Option ℕ) where
   -- the message of a head, without a body, with the body's length; or why there is none

@@ -1,17 +1,20 @@
 //! What the fields of a head say of the message.
-ghost use Rattle.std.specs.Prelude.{◌≡◌, codes, reverse, true};
+ghost use Rattle.std.specs.Prelude.{◌≡◌, [], if◌then◌else◌, codes, reverse, true};
 ghost use Rattle.httparse.specs.Grammar.{skip_ows, trim_ows};
 ghost use Rattle.std.specs.Char.{is_ascii_digit};
 ghost use Rattle.std.specs.List.{list_any, list_all};
+ghost use Rattle.std.specs.Str.{is_utf8};
 ghost use Rattle.std.specs.Str.Parse.{digits_value};
 ghost use Rattle.http_wire.specs.MessageFields.{is_named, is_close, asks_close, is_closing, closes};
 ghost use Rattle.http_wire.specs.MessageFields.{stated_number, stated_length};
 ghost use Rattle.http_wire.specs.MessageFields.{is_length, length_within};
 ghost use Rattle.http_wire.specs.MessageFields.{values_of, body_length};
+ghost use Rattle.http_wire.specs.Messages.{first_text};
 
 use crate::fault::WireFault;
 use crate::message::Field;
 use httparse::is_space_or_tab;
+use lake_base::is_utf8;
 
 impl Field {
     /// Whether the field has the name, its letters in any case.
@@ -140,6 +143,28 @@ fn stated_length(fields: &[Field]) -> Option<u64>
         }
     }
     Some(0)
+}
+
+/// The value of the first field of this name, where there is one and it is UTF-8; else it is empty.
+pub(crate) fn first_text<'a>(name: &[u8], fields: &'a [Field]) -> &'a [u8]
+    ensures first { result.now ≡ first_text (values_of name.now fields.now) }
+    ensures text { is_utf8 result.now ≡ true }
+{
+    for at in 0..fields.len() {
+        let field = &fields[at];
+        if field.is_named(name) {
+            return text_or_empty(field.value.as_slice());
+        }
+    }
+    b""
+}
+
+// The bytes where they are UTF-8, else none.
+fn text_or_empty(bytes: &[u8]) -> &[u8]
+    ensures same { result.now ≡ (if is_utf8 bytes.now then bytes.now else []) }
+    ensures text { is_utf8 result.now ≡ true }
+{
+    if is_utf8(bytes) { bytes } else { b"" }
 }
 
 // Whether the body comes in a coding.

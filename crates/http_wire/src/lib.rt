@@ -1,7 +1,8 @@
-//! HTTP messages: bytes become a request, and a reply becomes bytes.
+//! HTTP messages: bytes become a request or a reply, and a reply becomes bytes.
 //!
 //! - `message`, `fault`: requests and replies, and why a message isn't read. `buffer`: bytes that were read ahead.
-//! - `request`: requests are read. `heads`, `fields`, `body`: where a head ends, what its fields say, and its body.
+//! - `request`, `response`: requests and replies are read. `heads`, `fields`, `body`: where a head ends, what its
+//!   fields say, and its body.
 //! - `reply`, `parts`, `write`: replies are written, and the one of want of memory; parts by few writes; all of some
 //!   bytes.
 //!
@@ -18,6 +19,7 @@ pub mod message;
 mod parts;
 pub mod reply;
 pub mod request;
+pub mod response;
 pub mod write;
 
 pub use buffer::Buffer;
@@ -25,3 +27,4 @@ pub use fault::WireFault;
 pub use message::{Field, Reply, Request};
 pub use reply::{write_no_memory, write_reply};
 pub use request::read_request;
+pub use response::read_reply;

@@ -18,8 +18,8 @@ use httparse::spans::{EMPTY_HEADER_SPAN, HeaderSpan, RequestSpans, parse_request
 use lake_base::{NoMemory, Sequence, Source, Text};
 use std::alloc::Global;
 
-// How many fields a head has at most.
-const FIELD_LIMIT: usize = 64;
+/// How many fields a head has at most.
+pub(crate) const FIELD_LIMIT: usize = 64;
 
 // How many bytes the body of a request has at most.
 const BODY_LIMIT: u64 = 67_108_864;

@@ -1,5 +1,6 @@
 use Rattle.std.proofs.Common.{◌++◌, ◌<◌, arith}
-use Rattle.http_wire.proofs.ReadingLemmas.{told, reached_start, head_answer, long_answer, part_more, part_end, part_fault, end_answer, answer_as, search_more, grown_length}
+use Rattle.http_wire.proofs.ReadingLemmas.{told, reached_start, head_answer, long_answer, part_more, part_end, part_fault, end_answer, answer_as}
+use Rattle.http_wire.proofs.ReadingLemmas.{search_more, grown_length}
 use Rattle.http_wire.proofs.SearchLemmas.{none_at_start}
 use Rattle.http_wire.proofs.heads.read_head.Goals as goal
 
