@@ -1,5 +1,6 @@
 -- A head, what it says and its body make the answer.
-use Rattle.std.proofs.Common.{◌≡◌, ◌≤◌, ◌<◌, ◌+◌, ◌==◌, inl, inr, ℕ, suc, Bool, true, false, List, [], ◌∷◌, ◌++◌, length, take, drop, Option, Result, Ok, Err, IfSome, refl, sym, ap, subst, ◌∙◌, arith, append_assoc, true≢false, nat_le, if◌then◌else◌}
+use Rattle.std.proofs.Common.{◌≡◌, ◌≤◌, ◌<◌, ◌+◌, ◌==◌, inl, inr, ℕ, suc, Bool, true, false, List, [], ◌∷◌, ◌++◌, length, take, drop, Option, Result}
+use Rattle.std.proofs.Common.{Ok, Err, IfSome, refl, sym, ap, subst, ◌∙◌, arith, append_assoc, true≢false, nat_le, if◌then◌else◌}
 use Rattle.std.proofs.lemmas.List.{append_cancel_left, length-append, length-take-le, take_at, drop_at}
 use Rattle.std.proofs.lemmas.Bool.Decides.{nat_tests}
 use Rattle.http_wire.specs.declared.message.Field.{Field}
@@ -25,7 +26,7 @@ is_read (Err (BodyTooLong n)) = false
 is_read (Err ReadFault) = true
 is_read (Err NoMemory) = false
 
-le_true : (a b : ℕ) → a ≤ b → nat_le a b ≡ true
+pub le_true : (a b : ℕ) → a ≤ b → nat_le a b ≡ true
 le_true a b h = grind (arith, nat_tests)
 
 le_false : (a b : ℕ) → b < a → nat_le a b ≡ false
@@ -35,7 +36,7 @@ some_length : (n : ℕ) → (suc n == 0) ≡ false
 some_length n = grind (arith, nat_tests)
 
 module _ {Head Message : Type 0} (IsHeadOf : List ℕ → Head → Type 0) (fields : Head → List Field) (message : Head → List ℕ → Message) (limit : Option ℕ) where
-  gives_as : (a b : Opening) (answer : Result (Message × List ℕ) WireFault) → a ≡ b → Gives IsHeadOf fields message limit b answer
+  pub gives_as : (a b : Opening) (answer : Result (Message × List ℕ) WireFault) → a ≡ b → Gives IsHeadOf fields message limit b answer
       → Gives IsHeadOf fields message limit a answer
   gives_as a b answer same gives = subst (λ (o : Opening). Gives IsHeadOf fields message limit o answer) (sym same) gives
 

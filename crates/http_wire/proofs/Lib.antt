@@ -3,8 +3,11 @@ pub mod BodyLemmas
 pub mod FieldLemmas
 pub mod FrontLemmas
 pub mod HeadLemmas
+pub mod LineLemmas
 pub mod ParsingLemmas
 pub mod PartsLemmas
+pub mod ReadBackLemmas
 pub mod ReadingLemmas
 pub mod ReplyLemmas
 pub mod SearchLemmas
+pub mod UniqueLemmas

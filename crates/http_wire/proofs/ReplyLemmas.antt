@@ -18,7 +18,7 @@ decimal_204 : decimal 204 ≡ codes "204"
 decimal_204 = decimal-digits_value own (codes "204") refl (omega arith) (λ e. absurd (omega (arith, e))) (omega arith)
 
 -- the parts one behind the other, bracketed from the right
-abbrev pile : List (List ℕ) → List ℕ
+abbrev pub pile : List (List ℕ) → List ℕ
 pile [] = []
 pile (part ∷ parts) = part ++ pile parts
 
@@ -60,7 +60,7 @@ other_status : (n : ℕ) → (n ≡ 204 → ⊥) → (n == 204) ≡ false
 other_status n other = grind (arith, nat_tests)
 
 -- a reply with a body
-whole_is : (reply : Reply) → (reply.status == 204) ≡ false
+pub whole_is : (reply : Reply) → (reply.status == 204) ≡ false
     → whole_text (decimal reply.status) (phrase reply.status) (sent_type reply.content_type) (decimal (length reply.body))
     (if reply.close then codes "Connection: close\r\n" else []) reply.body
     ≡ reply_text reply

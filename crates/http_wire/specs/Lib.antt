@@ -6,4 +6,5 @@ pub mod MessageFields
 pub mod MessageHeads
 pub mod Messages
 pub mod Parsing
+pub mod ReadBack
 pub mod ReplyText

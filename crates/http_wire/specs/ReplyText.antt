@@ -1,31 +1,40 @@
 -- The bytes of a reply.
-use Rattle.std.specs.Prelude.{ℕ, ◌==◌, ◌&&◌, Bool, not, nat_le, if◌then◌else◌, codes, List, [], ◌++◌, length}
+use Rattle.std.specs.Prelude.{ℕ, ◌==◌, ◌&&◌, Bool, not, nat_le, if◌then◌else◌, codes, List, [], ◌∷◌, ◌++◌, length}
 use Rattle.std.specs.List.{list_all}
 use Rattle.std.specs.Fmt.{decimal}
 use Rattle.http_wire.specs.declared.message.Reply.{Reply}
 
+-- the phrases of statuses
+abbrev pub phrases : List (ℕ × List ℕ)
+phrases =
+    (200, codes "OK")
+    ∷ (201, codes "Created")
+    ∷ (204, codes "No Content")
+    ∷ (400, codes "Bad Request")
+    ∷ (403, codes "Forbidden")
+    ∷ (404, codes "Not Found")
+    ∷ (405, codes "Method Not Allowed")
+    ∷ (409, codes "Conflict")
+    ∷ (410, codes "Gone")
+    ∷ (412, codes "Precondition Failed")
+    ∷ (413, codes "Content Too Large")
+    ∷ (422, codes "Unprocessable Content")
+    ∷ (423, codes "Locked")
+    ∷ (431, codes "Request Header Fields Too Large")
+    ∷ (500, codes "Internal Server Error")
+    ∷ (501, codes "Not Implemented")
+    ∷ (503, codes "Service Unavailable")
+    ∷ (507, codes "Insufficient Storage")
+    ∷ []
+
+-- the text beside a number in such a table, empty where the number isn't in it
+abbrev pub text_beside : List (ℕ × List ℕ) → ℕ → List ℕ
+text_beside [] n = []
+text_beside (row ∷ rows) n = if n == row.0 then row.1 else text_beside rows n
+
 -- the phrase of a status; a status outside the table has none
 abbrev pub phrase : ℕ → List ℕ
-phrase status =
-    if status == 200 then codes "OK"
-    else if status == 201 then codes "Created"
-    else if status == 204 then codes "No Content"
-    else if status == 400 then codes "Bad Request"
-    else if status == 403 then codes "Forbidden"
-    else if status == 404 then codes "Not Found"
-    else if status == 405 then codes "Method Not Allowed"
-    else if status == 409 then codes "Conflict"
-    else if status == 410 then codes "Gone"
-    else if status == 412 then codes "Precondition Failed"
-    else if status == 413 then codes "Content Too Large"
-    else if status == 422 then codes "Unprocessable Content"
-    else if status == 423 then codes "Locked"
-    else if status == 431 then codes "Request Header Fields Too Large"
-    else if status == 500 then codes "Internal Server Error"
-    else if status == 501 then codes "Not Implemented"
-    else if status == 503 then codes "Service Unavailable"
-    else if status == 507 then codes "Insufficient Storage"
-    else []
+phrase status = text_beside phrases status
 
 -- visible ASCII, or a space
 abbrev pub is_visible : ℕ → Bool

@@ -15,6 +15,7 @@ pub mod buffer;
 pub mod fault;
 mod fields;
 mod heads;
+pub mod laws;
 pub mod message;
 mod parts;
 pub mod reply;
