@@ -2,7 +2,7 @@
 use Rattle.std.proofs.Common.{◌≡◌, ℕ, Bool, true, false, cond, List, [], ◌∷◌, Some, None, Option, option_map, refl, sym, ap, subst, ◌∙◌, inl, inr}
 use Rattle.std.proofs.Common.{◌++◌}
 use Rattle.std.specs.Prelude.{Ok}
-use Rattle.std.specs.Option.{IsSome, is_some, option_or}
+use Rattle.std.specs.Option.{IsSome, is_some, option_map_or, option_or}
 use Rattle.std.specs.List.{Contains, find}
 use Rattle.std.specs.Str.{bytes_eq}
 use Rattle.std.specs.FinMap.{get}
@@ -18,12 +18,14 @@ use Rattle.lake_values.proofs.OrderLemmas.{Contains-first, Contains-later, Conta
 use Rattle.lake_format.specs.Spelling.{IsDigest, commit_spelling}
 use Rattle.lake_format.specs.declared.cut.Cut.{Cut}
 use Rattle.lake_model.specs.declared.history.HistoryEntry.{HistoryEntry}
-use Rattle.lake_model.specs.State.{Branch, HasCommit, HasRepository, Repository, State}
+use Rattle.lake_model.specs.State.{Branch, HasCommit, HasRepository, Repository, State, map_of, now_map}
 use Rattle.lake_model.specs.History.{IsLegal, replay}
-use Rattle.lake_model.specs.Resolving.{by_id, commit_named, expression_target, moved_target, name_target}
+use Rattle.lake_model.specs.Resolving.{by_id, commit_named, expression_target, is_plain_branch, moved_target, name_target}
+use Rattle.lake_model.specs.Readings.{◌then◌, expression_map, map_at}
 use Rattle.lake_model.specs.Soundness.{IsSound, IsSoundRepository}
 use Rattle.lake_laws.specs.SameCommit.{HasSameCommit}
 use Rattle.lake_laws.proofs.HexLemmas.{digest_reads, read_once, text_is_like_id}
+use Rattle.lake_laws.proofs.HistoryLemmas.{legal_before}
 use Rattle.lake_laws.proofs.KeptCommitLemmas.{commit_stays}
 use Rattle.lake_laws.proofs.Sha256Lemmas.{is_digest}
 use Rattle.lake_laws.proofs.SoundnessLemmas.{IsSound-replay}
@@ -107,6 +109,17 @@ module _ (cut : Cut) (r : Repository) (sound : IsSoundRepository cut r) (id : Di
   pub target_by_id : (at : Bool) → expression_target r (by_id id at) ≡ Ok id
   target_by_id at = ap (moved_target r (by_id id at)) name_by_id
 
+  -- it isn't read as a branch
+  not_plain : (at : Bool) → is_plain_branch r (by_id id at) ≡ false
+  not_plain true = refl
+  not_plain false = ap is_some no_branch
+
+  -- its map is what is read there
+  pub map_by_id : (at : Bool) → expression_map r (by_id id at) ≡ Ok (map_of r id)
+  map_by_id at =
+      ap (λ target. target then λ i. Ok (map_at r (by_id id at) i)) (target_by_id at)
+      ∙ ap (λ test. Ok (cond test (option_map_or (now_map r) (get r.branches (encode_lower id.0)) (map_of r id)) (map_of r id))) (not_plain at)
+
 -- a commit is led to at each later position, and is the same one
 pub target_stays : (state : State) (seen history more : List HistoryEntry) (repo : List ℕ) (r : Repository) (id : Digest) (at : Bool)
     → IsSound state → seen ≡ history ++ more → IsLegal state seen → get (replay state history).repositories repo ≡ Some r → HasCommit r id
@@ -115,3 +128,18 @@ target_stays state seen history more repo r id at sound is legal stands there =
     let last = commit_stays state seen history more is legal repo r stands id there in
     let then_sound = (IsSound-replay state seen sound legal).repositories repo last.0 last.1 in
     (last.0, last.1, (target_by_id (replay state seen).cut last.0 then_sound id last.2.there at, last.2))
+
+-- so its map is what is read at each later position
+pub map_stays : (state : State) (seen history more : List HistoryEntry) (repo : List ℕ) (r : Repository) (id : Digest) (at : Bool)
+    → IsSound state → seen ≡ history ++ more → IsLegal state seen → get (replay state history).repositories repo ≡ Some r → HasCommit r id
+    → HasRepository (replay state seen) repo (λ s. expression_map s (by_id id at) ≡ expression_map r (by_id id at))
+map_stays state seen history more repo r id at sound is legal stands there =
+    let last = commit_stays state seen history more is legal repo r stands id there in
+    let first_sound = (IsSound-replay state history sound (legal_before state seen history more is legal)).repositories repo r stands in
+    let last_sound = (IsSound-replay state seen sound legal).repositories repo last.0 last.1 in (
+      last.0,
+      last.1,
+      map_by_id (replay state seen).cut last.0 last_sound id last.2.there at
+          ∙ ap Ok last.2.map
+          ∙ sym (map_by_id (replay state history).cut r first_sound id there at),
+    )

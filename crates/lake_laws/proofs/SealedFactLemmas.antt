@@ -75,7 +75,7 @@ module _ (repo branch path : List ℕ) (P : Change → Type 0) (Spares : Operati
         has.2,
       );
       sealed = λ operation b spares seals has. (has.0, resealed b path ∙ has.1, has.2);
-      commit = λ b id has. commit_uncommitted b (get b.staged path) refl has;
+      head = λ b id has. commit_uncommitted b (get b.staged path) refl has;
     }
 
   module _ (seals : (operation : Operation) → Spares operation → SealsBranch repo branch operation → (change : Change) → P change) where
@@ -92,7 +92,7 @@ module _ (repo branch path : List ℕ) (P : Change → Type 0) (Spares : Operati
       staged = λ operation b q change spares at has. has;
       reset = λ b what leaves has. (has.0, left what path leaves b.sealed ∙ has.1, has.2);
       sealed = λ operation b spares by has. sealed_again operation b (get b.staged path) refl spares by has;
-      commit = λ b id has. inr has;
+      head = λ b id has. inr has;
     }
 
 module _ (repo branch path : List ℕ) (change : Change) where
@@ -122,5 +122,31 @@ module _ (repo branch path : List ℕ) (change : Change) where
         (left what path leaves b.sealed ∙ has.0, this _ (alone.reset b what leaves (change, has.1, refl)));
     sealed = λ operation b spares by has.
         (has.1, this _ (alone.sealed operation b spares by (change, has.1, refl)));
-    commit = λ b id has. inr (change, has.0, refl);
+    head = λ b id has. inr (change, has.0, refl);
+  }
+
+module _ (repo branch path : List ℕ) where
+  -- an operation neither stages anything at the path nor seals the branch
+  abbrev pub WritesNorSeals : Operation → Type 0
+  WritesNorSeals operation = (WritesPath repo branch path operation → ⊥) × (SealsBranch repo branch operation → ⊥)
+
+module _ (repo branch path : List ℕ) (change : Change) where
+  -- the change is staged at the path
+  abbrev pub IsStaged : Branch → Type 0
+  IsStaged b = get b.staged path ≡ Some change
+
+  staged_at : (operation : Operation) (b : Branch) (q : List ℕ) (put : Change) → WritesNorSeals repo branch path operation
+      → (q ≡ path → WritesPath repo branch path operation) → IsStaged b → get (insert b.staged q put) path ≡ Some change
+  staged_at operation b q put spares at has = elim (insert_either b.staged q put path) [
+    | inl same ↦ absurd (spares.0 (at (sym same.0)))
+    | inr stood ↦ stood ∙ has
+  ]
+
+  -- it is carried along, and no new head takes it
+  pub staged_carried : IsCarried repo branch path (WritesNorSeals repo branch path) IsStaged (IsSealedWith repo branch path (λ c. ⊥))
+  staged_carried = record {
+    staged = staged_at;
+    reset = λ b what leaves has. left what path leaves b.staged ∙ has;
+    sealed = λ operation b spares seals has. absurd (spares.1 seals);
+    head = λ b id has. inl has;
   }

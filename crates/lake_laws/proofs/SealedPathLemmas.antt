@@ -15,19 +15,20 @@ use Rattle.lake_model.specs.declared.history.EntryKind.{EntryKind}
 use Rattle.lake_model.specs.declared.history.EntryKind.TheVariants.{Accepted, Faulted}
 use Rattle.lake_model.specs.declared.history.HistoryEntry.{HistoryEntry}
 use Rattle.lake_model.specs.declared.history.Operation.{Operation}
-use Rattle.lake_model.specs.declared.history.Operation.TheVariants.{Commit, Seal}
+use Rattle.lake_model.specs.declared.history.Operation.TheVariants.{Commit, Merge, Pick, Seal}
 use Rattle.lake_model.specs.declared.history.SealFor.{SealFor}
 use Rattle.lake_model.specs.State.{Branch, Repository, State, HasBranch, head_map, sealed_map}
 use Rattle.lake_model.specs.Uncommitted.{sealed_branch}
 use Rattle.lake_model.specs.Parts.{changed_at}
 use Rattle.lake_model.specs.Commits.{commit_draft, draft_on, with_head, with_draft}
 use Rattle.lake_model.specs.History.{Allows, IsLegal, IsPossible, after, after_kind, after_operation, operation_of, replay}
-use Rattle.lake_laws.specs.SealedPaths.{uncommitted_change, CommitsBranch, DropsPath, IsAccepted, TakesChange, IsMet, IsTakenOrDropped}
-use Rattle.lake_laws.proofs.LookupLemmas.{itself}
+use Rattle.lake_laws.specs.SealedPaths.{uncommitted_change, CommitsBranch, MergesBranch, DropsPath, IsAccepted}
+use Rattle.lake_laws.specs.SealedPaths.{TakesChange, CommitsChange, FindsChange, IsMet, IsTakenOrDropped}
+use Rattle.lake_laws.proofs.LookupLemmas.{itself, one_value}
 use Rattle.lake_laws.proofs.PartsLemmas.{ties, changed_if, get_changed_at}
 use Rattle.lake_laws.proofs.OperationLemmas.{changed_by, get_after, stays_after, with_branches}
 use Rattle.lake_laws.proofs.ReadingLemmas.{new_id, new_map}
-use Rattle.lake_laws.proofs.SealedStepLemmas.{IsCarried, step_by_kind}
+use Rattle.lake_laws.proofs.SealedStepLemmas.{IsCarried, HeadsBranch, step_by_kind}
 
 -- ---- a commit of the branch, and a seal
 
@@ -126,11 +127,11 @@ said_anyway Delete had = refl
 
 module _ (repo branch path : List ℕ) where
   -- a commit of the branch takes the change that is sealed at the path
-  pub taken_by : (state : State) (seat : ℕ) (kind : EntryKind) (r : Repository) (b : Branch) (change : Change)
+  committed_by : (state : State) (seat : ℕ) (kind : EntryKind) (r : Repository) (b : Branch) (change : Change)
       → get state.repositories repo ≡ Some r → get r.branches branch ≡ Some b → IsPossible state seat (operation_of kind)
       → IsAccepted (CommitsBranch repo branch) kind → get b.sealed path ≡ Some change
       → HasBranch (after_kind seat kind state) repo branch (λ s c. get (head_map s c) path ≡ value_after (Some change) None)
-  taken_by state seat (Accepted (Commit a name about)) r b change stands is may commits sealed =
+  committed_by state seat (Accepted (Commit a name about)) r b change stands is may commits sealed =
       let possible : IsPossible state seat (Commit repo branch about) = subst (λ n. IsPossible state seat (Commit repo n about)) commits.1
       (subst (λ n. IsPossible state seat (Commit n name about)) commits.0 may) in
       let made = commit_map state seat repo branch r b stands is about possible in
@@ -151,10 +152,68 @@ module _ (repo branch path : List ℕ) where
       (sym commits.1)
       (subst (λ n. HasBranch (after_operation seat (Commit n branch about) state) repo branch
       (λ s c. get (head_map s c) path ≡ value_after (Some change) None)) (sym commits.0) at_path)
-  taken_by state seat (Accepted _) r b change stands is may commits sealed = absurd commits
-  taken_by state seat (Faulted operation) r b change stands is may commits sealed = absurd commits
+  committed_by state seat (Accepted _) r b change stands is may commits sealed = absurd commits
+  committed_by state seat (Faulted operation) r b change stands is may commits sealed = absurd commits
 
-  -- a commit takes a change that has P
+  -- where the sealed changes leave the head's map as it is, it has at the path what the one there says
+  made_already : (r : Repository) (b : Branch) (change : Change) → sealed_map r b ≡ head_map r b → get b.sealed path ≡ Some change
+      → get (head_map r b) path ≡ value_after (Some change) None
+  made_already r b change clean sealed =
+      ap (λ map. get map path) (sym clean)
+      ∙ get_apply b.sealed (head_map r b) path
+      ∙ ap (λ says. value_after says (get (head_map r b) path)) sealed
+      ∙ said_anyway change (get (head_map r b) path)
+
+  -- they leave it so on the branch that is there
+  clean_here : (state : State) (a name : List ℕ) (r : Repository) (b : Branch)
+      → get state.repositories repo ≡ Some r → get r.branches branch ≡ Some b → a ≡ repo → name ≡ branch
+      → HasBranch state a name (λ s c. sealed_map s c ≡ head_map s c) → sealed_map r b ≡ head_map r b
+  clean_here state a name r b stands is same named has =
+      let Clean : Repository → Branch → Type 0 = λ s c. sealed_map s c ≡ head_map s c in
+      let there : HasBranch state repo branch Clean =
+      subst (λ n. HasBranch state repo n Clean) named (subst (λ n. HasBranch state n name Clean) same has) in
+      let found = subst (λ s. (c : Branch) × (get s.branches branch ≡ Some c) × Clean s c)
+      (one_value (get state.repositories repo) there.0 r there.1 stands) there.2 in
+      subst (Clean r) (one_value (get r.branches branch) found.0 b found.1 is) found.2
+
+  -- a merge and a pick of the branch find made what the change that is sealed at the path says
+  found_by : (state : State) (seat : ℕ) (kind : EntryKind) (r : Repository) (b : Branch) (change : Change)
+      → get state.repositories repo ≡ Some r → get r.branches branch ≡ Some b → IsPossible state seat (operation_of kind)
+      → IsAccepted (MergesBranch repo branch) kind → get b.sealed path ≡ Some change
+      → get (head_map r b) path ≡ value_after (Some change) None
+  found_by state seat (Accepted (Merge a name source strategy about)) r b change stands is may merges sealed =
+      made_already r b change (clean_here state a name r b stands is merges.0 merges.1
+      (may.0, may.1, (may.2.0, may.2.1, may.2.2.sides.clean))) sealed
+  found_by state seat (Accepted (Pick a name base source strategy about)) r b change stands is may merges sealed =
+      made_already r b change (clean_here state a name r b stands is merges.0 merges.1
+      (may.0, may.1, (may.2.0, may.2.1, may.2.2.sides.clean))) sealed
+  found_by state seat (Accepted _) r b change stands is may merges sealed = absurd merges
+  found_by state seat (Faulted operation) r b change stands is may merges sealed = absurd merges
+
+  -- a new head is of a commit, or of a merge or a pick
+  kind_of_head : (kind : EntryKind) → IsAccepted (HeadsBranch repo branch) kind
+      → IsAccepted (CommitsBranch repo branch) kind ⊎ IsAccepted (MergesBranch repo branch) kind
+  kind_of_head (Accepted operation) heads = heads
+  kind_of_head (Faulted operation) heads = absurd heads
+
+  -- a new head of the branch takes the change that is sealed at the path
+  pub taken_by : (state : State) (entry : HistoryEntry) (r : Repository) (b : Branch) (change : Change)
+      → get state.repositories repo ≡ Some r → get r.branches branch ≡ Some b → IsPossible state entry.by.seat (operation_of entry.kind)
+      → IsAccepted (HeadsBranch repo branch) entry.kind → get b.sealed path ≡ Some change → TakesChange repo branch path change state entry
+  taken_by state entry r b change stands is may heads sealed =
+      elim (kind_of_head entry.kind heads) [
+        | inl commits ↦ inl record {
+          commits = commits;
+          sealed = (r, stands, (b, is, sealed));
+          made = committed_by state entry.by.seat entry.kind r b change stands is may commits sealed;
+        }
+        | inr merges ↦ inr record {
+          merges = merges;
+          made = (r, stands, (b, is, (sealed, found_by state entry.by.seat entry.kind r b change stands is may merges sealed)));
+        }
+      ]
+
+  -- a new head takes a change that has P
   abbrev pub TakesOne : (Change → Type 0) → State → HistoryEntry → Type 0
   TakesOne P state entry = (change : Change) × P change × TakesChange repo branch path change state entry
 
@@ -197,15 +256,8 @@ module _ (repo branch path : List ℕ) where
         let b = has.2.0 in
         elim (step_by_kind repo branch path Spares Fact (IsSealedWith P) carried r b has.2.1 has.2.2 state entry.by.seat entry.kind spares may.possible has.1) [
           | inl fact ↦ inl fact
-          | inr (inl taken) ↦ inr (inl (met_first (TakesOne P) state entry [] (
-            taken.1.0,
-            taken.1.2,
-            record {
-              commits = taken.0;
-              sealed = (r, has.1, (b, has.2.1, taken.1.1));
-              made = taken_by state entry.by.seat entry.kind r b taken.1.0 has.1 has.2.1 may.possible taken.0 taken.1.1;
-            },
-          )))
+          | inr (inl taken) ↦ inr (inl (met_first (TakesOne P) state entry []
+              (taken.1.0, taken.1.2, taken_by state entry r b taken.1.0 has.1 has.2.1 may.possible taken.0 taken.1.1)))
           | inr (inr dropped) ↦ inr (inr (met_first (λ s e. IsAccepted (DropsPath repo branch path) e.kind) state entry [] dropped))
         ]
 

@@ -22,19 +22,23 @@ use Rattle.lake_model.specs.Branches.{clean_branch, MayBegin}
 use Rattle.lake_model.specs.Uncommitted.{with_staged, reset_branch, sealed_branch}
 use Rattle.lake_model.specs.Commits.{Draft, record_of, with_head, draft_on, commit_draft, merge_draft, pick_draft}
 use Rattle.lake_model.specs.History.{IsPossible, after_kind, operation_of}
-use Rattle.lake_laws.specs.SealedPaths.{WritesPath, SealsBranch, CommitsBranch, DropsPath, IsAccepted}
+use Rattle.lake_laws.specs.SealedPaths.{WritesPath, SealsBranch, CommitsBranch, MergesBranch, DropsPath, IsAccepted}
 use Rattle.lake_laws.proofs.PartsLemmas.{ties, names_tied, changed_if, get_changed_at, get_changed_elsewhere, get_inserted_elsewhere}
 use Rattle.lake_laws.proofs.OperationLemmas.{with_branches, touches, change_of, changed_by, stays_after}
 use Rattle.lake_laws.proofs.KeepingLemmas.{kept_expired, kept_draft, held_there}
 use Rattle.lake_laws.proofs.LookupLemmas.{remove_other, itself}
 
--- a fact of a branch's changes that operations keep which spare it, unless a commit takes what is sealed
+-- an operation makes a new head of the branch
+abbrev pub HeadsBranch : (repo branch : List ℕ) → Operation → Type 0
+HeadsBranch repo branch operation = CommitsBranch repo branch operation ⊎ MergesBranch repo branch operation
+
+-- a fact of a branch's changes that operations keep which spare it, unless a new head takes what is sealed
 pub record IsCarried (repo branch path : List ℕ) (Spares : Operation → Type 0) (Fact Taken : Branch → Type 0) : Type 0 where
   pub staged : (operation : Operation) (b : Branch) (q : List ℕ) (change : Change) → Spares operation
       → (q ≡ path → WritesPath repo branch path operation) → Fact b → Fact (with_staged q change b)
   pub reset : (b : Branch) (what : ResetWhat) → drops_path what path ≡ false → Fact b → Fact (reset_branch what b)
   pub sealed : (operation : Operation) (b : Branch) → Spares operation → SealsBranch repo branch operation → Fact b → Fact (sealed_branch b)
-  pub commit : (b : Branch) (id : Digest) → Fact b → Fact (with_head id b) ⊎ Taken b
+  pub head : (b : Branch) (id : Digest) → Fact b → Fact (with_head id b) ⊎ Taken b
 
 module _ (repo branch path : List ℕ) (Spares : Operation → Type 0) (Fact Taken : Branch → Type 0)
     (carried : IsCarried repo branch path Spares Fact Taken) where
@@ -44,7 +48,7 @@ module _ (repo branch path : List ℕ) (Spares : Operation → Type 0) (Fact Tak
 
   -- or an operation takes what is sealed, or drops the path
   abbrev pub TakesOrDrops : Operation → Branch → Type 0
-  TakesOrDrops operation b = (CommitsBranch repo branch operation × Taken b) ⊎ DropsPath repo branch path operation
+  TakesOrDrops operation b = (HeadsBranch repo branch operation × Taken b) ⊎ DropsPath repo branch path operation
 
   module _ (r : Repository) (b : Branch) (is : get r.branches branch ≡ Some b) (holds : Fact b) where
     abbrev Comes : Operation → Repository → Type 0
@@ -90,6 +94,9 @@ module _ (repo branch path : List ℕ) (Spares : Operation → Type 0) (Fact Tak
     named : (a name : List ℕ) → ties repo a ≡ true → ties branch name ≡ true → (a ≡ repo) × (name ≡ branch)
     named a name tie same = (sym (names_tied repo a tie), sym (names_tied branch name same))
 
+    headed : (operation : Operation) → HeadsBranch repo branch operation → (id : Digest) → Fact (with_head id b) ⊎ TakesOrDrops operation b
+    headed operation heads id = elim (carried.head b id holds) [ inl fact ↦ inl fact | inr taken ↦ inr (inl (heads, taken)) ]
+
     by_change : (state : State) (seat : ℕ) (operation : Operation) → Spares operation → IsPossible state seat operation
         → touches operation repo ≡ true → get state.repositories repo ≡ Some r → Comes operation (change_of state.cut operation repo r)
     by_change state seat (BranchCreate a name commit) spares may tie stands =
@@ -126,13 +133,14 @@ module _ (repo branch path : List ℕ) (Spares : Operation → Type 0) (Fact Tak
     by_change state seat (Seal a name why) spares may tie stands =
         inl (changed name sealed_branch (λ same. carried.sealed (Seal a name why) b spares (named a name tie same) holds))
     by_change state seat (Commit a name about) spares may tie stands =
-        drafted state.cut (Commit a name about) name (λ s y. commit_draft s y about) (λ same id.
-        elim (carried.commit b id holds) [ inl fact ↦ inl fact | inr taken ↦ inr (inl (named a name tie same, taken)) ])
+        drafted state.cut (Commit a name about) name (λ s y. commit_draft s y about)
+        (λ same id. headed (Commit a name about) (inl (named a name tie same)) id)
     by_change state seat (Merge a name source strategy about) spares may tie stands =
-        drafted state.cut (Merge a name source strategy about) name (merge_draft source strategy about) (λ same id. inr (inr (named a name tie same)))
+        drafted state.cut (Merge a name source strategy about) name (merge_draft source strategy about)
+        (λ same id. headed (Merge a name source strategy about) (inr (named a name tie same)) id)
     by_change state seat (Pick a name base source strategy about) spares may tie stands =
         drafted state.cut (Pick a name base source strategy about) name (pick_draft base source strategy about)
-        (λ same id. inr (inr (named a name tie same)))
+        (λ same id. headed (Pick a name base source strategy about) (inr (named a name tie same)) id)
     by_change state seat (NoteSet a name setting) spares may tie stands = inl here
     by_change state seat (Expire now commits) spares may tie stands = inl (kept_expired HasFact (λ s one fact. fact) repo commits r here)
     by_change state seat _ spares may tie stands = absurd cc
@@ -147,7 +155,7 @@ module _ (repo branch path : List ℕ) (Spares : Operation → Type 0) (Fact Tak
     pub step_by_kind : (state : State) (seat : ℕ) (kind : EntryKind) → ((operation : Operation) → kind ≡ Accepted operation → Spares operation)
         → IsPossible state seat (operation_of kind) → get state.repositories repo ≡ Some r
         → HasBranch (after_kind seat kind state) repo branch (λ s x. Fact x)
-        ⊎ ((IsAccepted (CommitsBranch repo branch) kind × Taken b) ⊎ IsAccepted (DropsPath repo branch path) kind)
+        ⊎ ((IsAccepted (HeadsBranch repo branch) kind × Taken b) ⊎ IsAccepted (DropsPath repo branch path) kind)
     step_by_kind state seat (Accepted operation) spares may stands =
         elim (changed_or_not state operation (touches operation repo)
         (λ tie. by_change state seat operation (spares operation refl) may tie stands)) [

@@ -32,13 +32,16 @@ abbrev pub CommitsBranch : (repo branch : List ℕ) → Operation → Type 0
 CommitsBranch repo branch (Commit r b about) = (r ≡ repo) × (b ≡ branch)
 CommitsBranch repo branch _ = ⊥
 
--- An operation may drop what the branch has at the path: it deletes the branch, resets the path, or makes a merge or a
--- pick the head of the branch.
+-- an operation makes a merge or a pick the head of the branch
+abbrev pub MergesBranch : (repo branch : List ℕ) → Operation → Type 0
+MergesBranch repo branch (Merge r b source strategy about) = (r ≡ repo) × (b ≡ branch)
+MergesBranch repo branch (Pick r b base source strategy about) = (r ≡ repo) × (b ≡ branch)
+MergesBranch repo branch _ = ⊥
+
+-- an operation drops what isn't committed of the branch at the path: it deletes the branch, or resets the path
 abbrev pub DropsPath : (repo branch path : List ℕ) → Operation → Type 0
 DropsPath repo branch path (BranchDelete r b) = (r ≡ repo) × (b ≡ branch)
 DropsPath repo branch path (Reset r b what) = (r ≡ repo) × (b ≡ branch) × (drops_path what path ≡ true)
-DropsPath repo branch path (Merge r b source strategy about) = (r ≡ repo) × (b ≡ branch)
-DropsPath repo branch path (Pick r b base source strategy about) = (r ≡ repo) × (b ≡ branch)
 DropsPath repo branch path _ = ⊥
 
 -- an operation was accepted that has P
@@ -52,10 +55,22 @@ NoneIsAccepted P entries = All (λ entry. IsAccepted P entry.kind → ⊥) entri
 
 -- A commit of the branch takes the change at the path: just before it the change is sealed there, and just after it the
 -- head's map has there what the change says.
-pub record TakesChange (repo branch path : List ℕ) (change : Change) (state : State) (entry : HistoryEntry) : Type 0 where
+pub record CommitsChange (repo branch path : List ℕ) (change : Change) (state : State) (entry : HistoryEntry) : Type 0 where
   pub commits : IsAccepted (CommitsBranch repo branch) entry.kind
   pub sealed : HasBranch state repo branch (λ r b. get b.sealed path ≡ Some change)
   pub made : HasBranch (after state entry) repo branch (λ r b. get (head_map r b) path ≡ value_after (Some change) None)
+
+-- A merge or a pick of the branch finds the change made: just before it the change is sealed at the path, and the head's
+-- map has there already what the change says.
+pub record FindsChange (repo branch path : List ℕ) (change : Change) (state : State) (entry : HistoryEntry) : Type 0 where
+  pub merges : IsAccepted (MergesBranch repo branch) entry.kind
+  pub made : HasBranch state repo branch
+      (λ r b. (get b.sealed path ≡ Some change) × (get (head_map r b) path ≡ value_after (Some change) None))
+
+-- a new head of the branch takes the change: a commit, or a merge or a pick that finds it made
+abbrev pub TakesChange : (repo branch path : List ℕ) → Change → State → HistoryEntry → Type 0
+TakesChange repo branch path change state entry =
+    CommitsChange repo branch path change state entry ⊎ FindsChange repo branch path change state entry
 
 -- it takes some change there
 abbrev pub TakesPath : (repo branch path : List ℕ) → State → HistoryEntry → Type 0
@@ -69,7 +84,11 @@ pub record IsMet (P : State → HistoryEntry → Type 0) (state : State) (entrie
   pub parts : entries ≡ before ++ entry ∷ later
   pub has : P (replay state before) entry
 
--- among the entries a commit took what was there, or one dropped the path
+-- among the entries one dropped the path
+abbrev pub IsDropped : (repo branch path : List ℕ) → State → List HistoryEntry → Type 0
+IsDropped repo branch path state entries = IsMet (λ s entry. IsAccepted (DropsPath repo branch path) entry.kind) state entries
+
+-- among the entries a new head took what was there, or one dropped the path
 abbrev pub IsTakenOrDropped : (repo branch path : List ℕ) → (State → HistoryEntry → Type 0) → State → List HistoryEntry → Type 0
 IsTakenOrDropped repo branch path Takes state entries =
-    IsMet Takes state entries ⊎ IsMet (λ s entry. IsAccepted (DropsPath repo branch path) entry.kind) state entries
+    IsMet Takes state entries ⊎ IsDropped repo branch path state entries

@@ -5,9 +5,10 @@ ghost use Rattle.lake_base.specs.declared.digest.Digest.{Digest};
 ghost use Rattle.lake_values.specs.Ancestry.{parents};
 ghost use Rattle.commit_graph.specs.Expressions.{RefExprValue};
 ghost use Rattle.lake_model.specs.declared.history.HistoryEntry.{HistoryEntry};
-ghost use Rattle.lake_model.specs.State.{Repository, State, HasCommit, HasRepository};
+ghost use Rattle.lake_model.specs.State.{Repository, State, HasCommit, HasRepository, map_of};
 ghost use Rattle.lake_model.specs.Uncommitted.{HasTicket};
 ghost use Rattle.lake_model.specs.History.{IsLegal, replay};
+ghost use Rattle.lake_model.specs.Readings.{expression_map};
 ghost use Rattle.lake_model.specs.Resolving.{by_id, expression_target};
 ghost use Rattle.lake_model.specs.Soundness.{IsSound};
 ghost use Rattle.lake_laws.specs.OtherSeats.{AreOfOtherSeats};
@@ -54,7 +55,8 @@ pub fn law_of_kept_commits()
 {}
 
 /// In a sound lake the 64 lower-case hex digits of a commit's id, as an expression without moves, with `@` or without,
-/// lead to the commit. In a legal history they lead to it at each later position, where it has the same record and map.
+/// lead to the commit, and what is read there is its map. In a legal history they lead to it at each later position,
+/// where it has the same record and map; so at any two positions the same map is read by an id.
 pub fn law_of_commit_expressions()
     ensures leads { (state : State) (repo : List ℕ) (r : Repository) (id : Digest) (at : Bool)
         → IsSound state → get state.repositories repo ≡ Some r → HasCommit r id
@@ -65,4 +67,13 @@ pub fn law_of_commit_expressions()
         → get (replay state history).repositories repo ≡ Some r → HasCommit r id
         → HasRepository (replay state seen) repo
         (λ s. (expression_target s (by_id id at) ≡ Ok id) × HasSameCommit r id s) }
+    ensures reads { (state : State) (repo : List ℕ) (r : Repository) (id : Digest) (at : Bool)
+        → IsSound state → get state.repositories repo ≡ Some r → HasCommit r id
+        → expression_map r (by_id id at) ≡ Ok (map_of r id) }
+    ensures reads_same { (state : State) (seen history more : List HistoryEntry) (repo : List ℕ) (r : Repository)
+        (id : Digest) (at : Bool)
+        → IsSound state → seen ≡ history ++ more → IsLegal state seen
+        → get (replay state history).repositories repo ≡ Some r → HasCommit r id
+        → HasRepository (replay state seen) repo
+        (λ s. expression_map s (by_id id at) ≡ expression_map r (by_id id at)) }
 {}

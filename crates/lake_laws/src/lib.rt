@@ -6,11 +6,11 @@
 //! - `gone`: what is gone stays gone, and isn't read on a branch, nor of a commit that isn't expired.
 //! - `reading`: a seal and a commit leave what is read on branches as it is; `sealing`: a seal leaves the answers of
 //!   readings.
-//! - `sealed_paths`: what isn't committed stays until a commit takes it, or an entry drops it.
+//! - `sealed_paths`: what isn't committed stays until a new head takes it, or an entry drops it.
 //! - `versions`: what has the same version is the same; `version_entries`: where a version differs, an entry between
 //!   gave it, and as many as tries found another.
 //! - `positions`: a legal history in two parts; `kept`: a ticket stays until an entry of its seat ends it, and a commit
-//!   stays, to which the text of its id leads.
+//!   stays, to which the text of its id leads, and whose map is read there.
 //! - `numbers`: how a number becomes live, and what is condemned is named neither then nor later; `expiry`: the same
 //!   commits can expire where the version of the references is the same.
 //! - `tickets`, `writes`, `step_names`, `step_notes`, `swaps`: where no cause of a step holds, its entry may come next;
