@@ -16,8 +16,8 @@ pub struct LakeOrigin {
     pub faults: u64,
 }
 
-/// A lake stands for what it was opened as, over a keeper that had failed so often, which no change changes; and for its
-/// entries since. Of each lake holds what its type says of all.
+/// A lake stands for what it was opened as, over a keeper that had failed so often, which no change changes; and for
+/// its entries since. Of each lake holds what its type says of all.
 impl<K: Keeper> Standing for Lake<K> {
     type Origin = LakeOrigin;
 

@@ -9,7 +9,8 @@ ghost use Rattle.lake_model.specs.declared.history.Operation.TheVariants.{Commit
 ghost use Rattle.lake_model.specs.declared.history.SealFor.{SealFor};
 ghost use Rattle.lake_model.specs.State.{Branch, Repository, State, HasBranch, head_map, sealed_map};
 ghost use Rattle.lake_model.specs.History.{Allows, IsLegal, accepted_entry, after, replay};
-ghost use Rattle.lake_laws.specs.SealedPaths.{IsDropped, IsTakenOrDropped, NoneIsAccepted, SealsBranch, TakesChange, TakesPath};
+ghost use Rattle.lake_laws.specs.SealedPaths.{IsDropped, IsTakenOrDropped, NoneIsAccepted, SealsBranch};
+ghost use Rattle.lake_laws.specs.SealedPaths.{TakesChange, TakesPath};
 ghost use Rattle.lake_laws.specs.SealedPaths.{WritesPath, uncommitted_change};
 
 /// After a Seal each change of the branch that isn't committed is sealed, and nothing is staged. A legal Commit's map
@@ -31,10 +32,10 @@ pub fn law_of_sealed_branches()
 /// pick come only where the head's map has already what the sealed changes say, so they find it made (`TakesChange`).
 /// It is the same change where none of the entries stages another at the path (`uncommitted`), and else some change
 /// (`uncommitted_written`). A staged change stays staged where no seal comes, whatever commits, merges and picks do
-/// (`staged`). A sealed change stays sealed: the same one where no other seal comes (`sealed`), or where nothing else is
-/// staged at the path (`sealed_over`), and else some change (`sealed_written`). So what was seen before a seal goes into
-/// the next commit behind it, or into a head that was made in between, unless an entry drops it: where nothing is staged
-/// at the path meanwhile (`goes_in`), where nothing is before the seal and no other seal comes behind it
+/// (`staged`). A sealed change stays sealed: the same one where no other seal comes (`sealed`), or where nothing else
+/// is staged at the path (`sealed_over`), and else some change (`sealed_written`). So what was seen before a seal goes
+/// into the next commit behind it, or into a head that was made in between, unless an entry drops it: where nothing is
+/// staged at the path meanwhile (`goes_in`), where nothing is before the seal and no other seal comes behind it
 /// (`goes_in_sealed`), and else some change (`goes_in_written`).
 pub fn law_of_sealed_paths()
     ensures uncommitted { (state : State) (entries : List HistoryEntry) (repo branch path : List ℕ) (change : Change)

@@ -1,5 +1,5 @@
-//! A shared lake may be shared by threads where its keeper may go from one to another. The function is proved only where
-//! its bound holds.
+//! A shared lake may be shared by threads where its keeper may go from one to another. The function is proved only
+//! where its bound holds.
 use crate::shared::Shared;
 use keeper::Keeper;
 
