@@ -9,7 +9,7 @@ use Rattle.lake_base.specs.declared.outside.Failed.{Failed}
 use Rattle.batch_session.specs.Batch.{IsLineServed, LineEffect}
 use Rattle.batch_session.specs.Text.{too_long_text}
 use Rattle.lake_program.specs.Feeding.{line_room, HasShown, ShowsLines, HasServed}
-use Rattle.lake_program.specs.Front.{WroteFront, Shows}
+use Rattle.http_wire.specs.SinkFronts.{WroteFront, Shows}
 use Rattle.lake_program.specs.Lines.{ended_lines, last_part, batch_lines, end_text}
 use Rattle.lake_program.specs.Progress.{ServerState}
 use Rattle.lake_program.specs.Serving.{Serves}

@@ -13,7 +13,7 @@ use Rattle.batch_session.specs.Moments.{AreMoments}
 use Rattle.batch_session.proofs.MomentsLemmas.{moments_none, moments_then, moments_as}
 use Rattle.lake_program.specs.ServedLines.{text_of, moments_of}
 use Rattle.lake_program.specs.Feeding.{line_room, HasShown, IsBrokenOff, ShowsLines, HasServed, Feeds}
-use Rattle.lake_program.specs.Front.{Shows}
+use Rattle.http_wire.specs.SinkFronts.{Shows}
 use Rattle.lake_program.specs.Lines.{ended_lines, last_part}
 use Rattle.lake_program.specs.Progress.{Progress, start, ServerState}
 use Rattle.lake_program.specs.Serving.{Serves}
@@ -21,8 +21,8 @@ use Rattle.lake_program.specs.Streams.{Trace}
 use Rattle.lake_program.proofs.BatchLemmas.{served_same}
 use Rattle.lake_program.proofs.EffectsLemmas.{served_more, text_of-more, moments_of-more, all_done-more}
 use Rattle.lake_program.proofs.EffectsLemmas.{any_starved-more, lake_left-more}
-use Rattle.lake_program.proofs.FrontLemmas.{front_of_self, front_trans, front_after, wrote_none, front_as}
-use Rattle.lake_program.proofs.FrontLemmas.{first_then, shows_then, shows_cut}
+use Rattle.http_wire.proofs.FrontLemmas.{front_of_self, front_trans, front_after, wrote_none, front_as}
+use Rattle.http_wire.proofs.FrontLemmas.{first_then, shows_then, shows_cut}
 use Rattle.lake_program.proofs.LineBufferLemmas.{value_ended, take-push}
 use Rattle.lake_program.proofs.LinesLemmas.{ended_in_line, last_in_line, ended_by_feed, last_by_feed}
 

@@ -2,7 +2,6 @@ pub mod BatchLemmas
 pub mod ClosingLemmas
 pub mod EffectsLemmas
 pub mod FeedingLemmas
-pub mod FrontLemmas
 pub mod LineBufferLemmas
 pub mod LinesLemmas
 pub mod OutcomeLemmas

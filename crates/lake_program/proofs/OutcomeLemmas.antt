@@ -9,7 +9,7 @@ use Rattle.batch_session.specs.Batch.{LineEffect, any_starved}
 use Rattle.lake_program.specs.declared.status.ExitStatus.{ExitStatus}
 use Rattle.lake_program.specs.declared.status.ExitStatus.TheVariants.{SourceFailed, SinkFailed}
 use Rattle.lake_program.specs.ServedLines.{text_of, all_done}
-use Rattle.lake_program.specs.Front.{IsPrefix, Wrote}
+use Rattle.http_wire.specs.SinkFronts.{IsPrefix, Wrote}
 use Rattle.lake_program.specs.Lines.{ended_lines, batch_lines, end_text}
 use Rattle.lake_program.specs.Progress.{ServerState}
 use Rattle.lake_program.specs.Feeding.{HasShown, IsBrokenOff}
@@ -18,7 +18,7 @@ use Rattle.lake_program.specs.Status.{status_of}
 use Rattle.lake_program.specs.Outcome.{Extent, batch_status, IsReadOut, IsReadTo, IsWhole, EndsWith, Outcome}
 use Rattle.lake_program.specs.Streams.{Trace}
 use Rattle.lake_program.proofs.ClosingLemmas.{tested_within}
-use Rattle.lake_program.proofs.FrontLemmas.{front_of_self, front_of_append, front_more, wrote_as, shows_all}
+use Rattle.http_wire.proofs.FrontLemmas.{front_of_self, front_of_append, front_more, wrote_as, shows_all}
 use Rattle.lake_program.proofs.LinesLemmas.{lines_of_part, ended_of_part}
 use Rattle.lake_program.proofs.ReadingLemmas.{front_within}
 

@@ -5,10 +5,10 @@ use Rattle.lake_base.specs.declared.outside.Failed.{Failed}
 use Rattle.batch_session.specs.Batch.{LineEffect}
 use Rattle.lake_program.specs.ServedLines.{text_of}
 use Rattle.lake_program.specs.Feeding.{HasShown, IsBrokenOff, ShowsLines}
-use Rattle.lake_program.specs.Front.{Wrote, WroteFront, Shows}
+use Rattle.http_wire.specs.SinkFronts.{Wrote, WroteFront, Shows}
 use Rattle.lake_program.specs.Progress.{ServerState}
 use Rattle.lake_program.specs.Streams.{Trace}
-use Rattle.lake_program.proofs.FrontLemmas.{wrote_none, first_then, front_as, shows_all, shows_then, shows_cut, shows_written, shows_flushed}
+use Rattle.http_wire.proofs.FrontLemmas.{wrote_none, first_then, front_as, shows_all, shows_then, shows_cut, shows_written, shows_flushed}
 
 -- the same state, but for what the sink got and what is pending
 abbrev pub with_output : ServerState → Option (List ℕ) → List ℕ → ServerState

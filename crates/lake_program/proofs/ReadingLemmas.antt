@@ -6,14 +6,14 @@ use Rattle.std.proofs.lemmas.List.{append-nil, length-take, nil_from_length}
 use Rattle.std.proofs.Math.Seq.{take-append-add, take-append_seam}
 use Rattle.lake_base.specs.Outside.{Reads}
 use Rattle.lake_program.specs.declared.batch.End.TheVariants.{Source, TooLong, SourceFailed, SinkFailed}
-use Rattle.lake_program.specs.Front.{IsPrefix, Wrote, WroteFront}
+use Rattle.http_wire.specs.SinkFronts.{IsPrefix, Wrote, WroteFront}
 use Rattle.lake_program.specs.Lines.{ended_lines}
 use Rattle.lake_program.specs.Progress.{start, ServerState}
 use Rattle.lake_program.specs.Feeding.{HasShown, IsBrokenOff, HasServed}
 use Rattle.lake_program.specs.SourceReading.{Reaches, IsCutAt, Ends}
 use Rattle.lake_program.specs.Streams.{Trace}
 use Rattle.lake_program.proofs.FeedingLemmas.{served_none}
-use Rattle.lake_program.proofs.FrontLemmas.{front_after, front_trans}
+use Rattle.http_wire.proofs.FrontLemmas.{front_after, front_trans}
 use Rattle.lake_program.proofs.OutputLemmas.{with_output, shown_flushed, shown_first, cut_flush}
 
 pub told_then : (told : Option (List ℕ)) (P Q : List ℕ → Type 0) → ((bytes : List ℕ) → P bytes → Q bytes)

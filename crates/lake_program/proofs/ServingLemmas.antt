@@ -4,7 +4,7 @@ use Rattle.std.proofs.Common.{sym, ◌∙◌, ap, subst}
 use Rattle.lake_base.specs.declared.outside.Failed.{Failed}
 use Rattle.batch_session.specs.Batch.{LineEffect, IsLineServed}
 use Rattle.batch_session.specs.Moments.{AreMoments}
-use Rattle.lake_program.specs.Front.{WroteFront, Shows}
+use Rattle.http_wire.specs.SinkFronts.{WroteFront, Shows}
 use Rattle.lake_program.specs.Progress.{ServerState}
 use Rattle.lake_program.specs.Serving.{Serves}
 

@@ -4,7 +4,7 @@ use Rattle.lake_base.specs.declared.outside.Failed.{Failed}
 use Rattle.batch_session.specs.Batch.{LineEffect, first_lake, AreServed, lake_left, any_starved}
 use Rattle.batch_session.specs.Moments.{AreMoments}
 use Rattle.lake_program.specs.ServedLines.{text_of, moments_of, all_done}
-use Rattle.lake_program.specs.Front.{IsPrefix, WroteFirst, WroteFront, Shows}
+use Rattle.http_wire.specs.SinkFronts.{IsPrefix, WroteFirst, WroteFront, Shows}
 use Rattle.lake_program.specs.Lines.{ended_lines, last_part}
 use Rattle.lake_program.specs.Progress.{ServerState}
 use Rattle.lake_program.specs.Streams.{Trace}

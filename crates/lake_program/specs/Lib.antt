@@ -1,5 +1,4 @@
 pub mod Feeding
-pub mod Front
 pub mod ServedLines
 pub mod Lines
 pub mod Outcome

@@ -6,7 +6,7 @@ use Rattle.lake_program.specs.declared.status.ExitStatus.TheVariants.{Done, Refu
 use Rattle.lake_program.specs.declared.status.ExitStatus.TheVariants.{SourceFailed, SinkFailed, OutOfMemory}
 use Rattle.batch_session.specs.Batch.{LineEffect, first_lake, AreServed, any_starved}
 use Rattle.lake_program.specs.ServedLines.{text_of, moments_of, all_done}
-use Rattle.lake_program.specs.Front.{IsPrefix, Wrote, WroteFirst}
+use Rattle.http_wire.specs.SinkFronts.{IsPrefix, Wrote, WroteFirst}
 use Rattle.lake_program.specs.Lines.{ended_lines, batch_lines, end_text}
 use Rattle.batch_session.specs.Moments.{AreMoments}
 use Rattle.lake_program.specs.Status.{status_of}

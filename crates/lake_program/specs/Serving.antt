@@ -3,7 +3,7 @@ use Rattle.std.specs.Prelude.{◌≡◌, ◌&&◌, ◌||◌, List, ℕ, ◌++◌
 use Rattle.lake_base.specs.declared.outside.Failed.{Failed}
 use Rattle.batch_session.specs.Batch.{LineEffect, IsLineServed}
 use Rattle.batch_session.specs.Moments.{AreMoments}
-use Rattle.lake_program.specs.Front.{WroteFront, Shows}
+use Rattle.http_wire.specs.SinkFronts.{WroteFront, Shows}
 use Rattle.lake_program.specs.Progress.{ServerState}
 
 -- The line was served, and what it shows is written or pending; where writing failed, a front of that was written.

@@ -3,7 +3,7 @@ use Rattle.std.specs.Prelude.{◌≡◌, ◌≤◌, ◌<◌, ℕ, List, [], ◌+
 use Rattle.batch_session.specs.Batch.{LineEffect}
 use Rattle.lake_program.specs.declared.batch.End.{End}
 use Rattle.lake_program.specs.declared.batch.End.TheVariants.{Source, TooLong, SourceFailed, SinkFailed}
-use Rattle.lake_program.specs.Front.{IsPrefix}
+use Rattle.http_wire.specs.SinkFronts.{IsPrefix}
 use Rattle.lake_program.specs.Feeding.{HasShown, IsBrokenOff, HasServed}
 use Rattle.lake_program.specs.Lines.{ended_lines}
 use Rattle.lake_program.specs.Outcome.{IsReadOut, IsReadTo}

@@ -3,7 +3,7 @@ use Rattle.std.specs.Prelude.{◌≡◌, ◌⊎◌, ℕ, Bool, List, Option, if�
 use Rattle.lake_program.specs.declared.status.ExitStatus.{ExitStatus}
 use Rattle.lake_program.specs.declared.status.ExitStatus.TheVariants.{Done, Refused, Usage}
 use Rattle.lake_program.specs.declared.status.ExitStatus.TheVariants.{SourceFailed, SinkFailed, OutOfMemory}
-use Rattle.lake_program.specs.Front.{Wrote, WroteFront}
+use Rattle.http_wire.specs.SinkFronts.{Wrote, WroteFront}
 use Rattle.batch_session.specs.Text.{usage_text}
 
 -- the number by which the system knows a status

@@ -4,7 +4,7 @@
 //! - `words`: the words that the program was started with. `limits`: how long a batch may be.
 //! - `line_buffer`, `batch`: the source read piece by piece and cut into lines. `serving`: the lines, served one
 //!   after the other.
-//! - `output`, `write`: what is shown is held back, and written.
+//! - `output`: what is shown is held back, and written.
 //! - `adapters`, `host`: the real streams, clock and machine.
 //!
 //! The promise to the layer above: what `run` prints is the fold of the lines over the one-thread lake,
@@ -21,4 +21,3 @@ pub mod run;
 pub mod serving;
 pub mod status;
 pub mod words;
-pub mod write;

@@ -1,9 +1,9 @@
 //! What was shown and isn't written yet.
 ghost use Rattle.std.specs.Prelude.{◌≡◌, ◌+◌, ◌≤◌, ◌++◌, [], length, IfOk, OnOk, OnErr};
 ghost use Rattle.lake_base.specs.Outside.{HasCause};
-ghost use Rattle.lake_program.specs.Front.{Wrote, WroteFront, Shows};
+ghost use Rattle.http_wire.specs.SinkFronts.{Wrote, WroteFront, Shows};
 
-use crate::write::write_all;
+use http_wire::write::write_all;
 use lake_base::{Failed, NoMemory, Sink};
 use std::alloc::Global;
 use std::marker::Model;

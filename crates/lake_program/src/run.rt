@@ -14,9 +14,9 @@ use crate::host::Host;
 use crate::limits::BATCH_LIMIT;
 use crate::status::ExitStatus;
 use crate::words::batch_timing;
-use crate::write::write_all;
 use batch_session::text::USAGE;
 use batch_session::timing::Timing;
+use http_wire::write::write_all;
 use lake_base::{Clock, NoMemory, Sink, Source, Text};
 use std::alloc::Global;
 

@@ -1,5 +1,5 @@
 use Rattle.std.proofs.lemmas.Result.{on_ok_weaker, on_err_weaker}
-use Rattle.lake_program.proofs.FrontLemmas.{shows_written, front_then}
+use Rattle.http_wire.proofs.FrontLemmas.{shows_written, front_then}
 use Rattle.lake_program.proofs.output.PendingOutput.show.Goals as goal
 
 pub returns-clause-shown : goal.returns-clause-shown
