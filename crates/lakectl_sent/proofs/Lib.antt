@@ -1,0 +1,4 @@
+mod BodyLemmas
+mod DigitLemmas
+mod LoopLemmas
+mod MetadataLemmas

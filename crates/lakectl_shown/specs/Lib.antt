@@ -1,0 +1,3 @@
+pub mod FormTables
+pub mod ShownForms
+pub mod ShownReplies

@@ -1,0 +1,5 @@
+mod CutLemmas
+mod LineLemmas
+mod ReadLemmas
+mod RestLemmas
+mod ClapLemmas
