@@ -1,26 +1,10 @@
 -- The limits of calls, from the tests of their parts.
-use Rattle.std.proofs.Common.{◌≡◌, ◌+◌, ◌≤◌, ℕ, Bool, true, false, eqb, ltb, List, ◌++◌, length, Ok, refl, arith, length-append}
-use Rattle.std.specs.Prelude.{codes, is_none, not, nat_eq}
-use Rattle.std.specs.List.{starts_with}
-use Rattle.std.proofs.lemmas.Bool.{ltb-false, not-true}
+use Rattle.std.proofs.Common.{◌≡◌, ◌+◌, ℕ, Bool, true, false, List, ◌++◌, length, Ok, refl, arith, length-append}
+use Rattle.std.specs.Prelude.{codes, is_none, not}
 use Rattle.lake_base.specs.Names.{is_like_id, ref_fault}
-use Rattle.lake_values.specs.Entry.{IsOutside}
 use Rattle.lake_calls.specs.Calls.{merge_message}
 use Rattle.api_routes.specs.FormNames.{checked, new_ref_name_of}
 use Rattle.api_routes.specs.FormSteps.{in_turn}
-use Rattle.api_bodies.proofs.LimitLemmas.{parts, some_of}
-use Rattle.api_forms.specs.ObjectForms.{is_address}
-
--- an address outside and a checksum are within the limits
-pub is_outside : (address checksum : List ℕ) → is_address address ≡ true → length checksum ≤ 128 → IsOutside address checksum
-is_outside address checksum test short_checksum =
-    let p = parts (eqb (length address) 0) (ltb 2048 (length address)) (not (starts_with nat_eq address (codes "lake://"))) test in
-    record {
-      some = some_of (length address) p.0;
-      short = ltb-false 2048 (length address) p.1;
-      foreign = not-true (starts_with nat_eq address (codes "lake://")) p.2;
-      short_checksum = short_checksum;
-    }
 
 -- how long the message of a merge without one is
 pub merge_message_length : (source branch : List ℕ) → length (merge_message source branch) ≡ 16 + (length source + length branch)

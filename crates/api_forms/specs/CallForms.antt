@@ -13,9 +13,10 @@ use Rattle.api_routes.specs.declared.routes.Route.{Route}
 use Rattle.api_routes.specs.declared.routes.Route.TheVariants as route
 use Rattle.api_routes.specs.FormSteps.{in_turn}
 use Rattle.api_routes.specs.RouteTable.{FoundValue, found_route}
+use Rattle.api_objects.specs.CallSteps.{made}
+use Rattle.api_objects.specs.ObjectForms.{object_call}
 use Rattle.api_forms.specs.HeadForms.{head_call}
-use Rattle.api_forms.specs.NamingForms.{naming_call, made}
-use Rattle.api_forms.specs.ObjectForms.{object_call}
+use Rattle.api_forms.specs.NamingForms.{naming_call}
 use Rattle.api_forms.specs.SettingCalls.{setting_call}
 
 -- the call of a route of each kind

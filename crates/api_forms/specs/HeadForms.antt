@@ -22,7 +22,8 @@ use Rattle.api_routes.specs.RouteTable.{FoundValue}
 use Rattle.api_bodies.specs.Bodies.{object_of_body, text_field, short_text, whole_field}
 use Rattle.api_bodies.specs.HeadFields.{committer_of}
 use Rattle.api_bodies.specs.MetadataFields.{metadata_of}
-use Rattle.api_forms.specs.NamingForms.{expression_field, made}
+use Rattle.api_objects.specs.CallSteps.{made}
+use Rattle.api_forms.specs.NamingForms.{expression_field}
 
 -- the field `message` of at most 65,536 bytes, empty where it isn't there
 abbrev pub commit_message : Data → Result (List ℕ) FormRefusal

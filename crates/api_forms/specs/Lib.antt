@@ -1,5 +1,4 @@
 pub mod CallForms
 pub mod HeadForms
 pub mod NamingForms
-pub mod ObjectForms
 pub mod SettingCalls

@@ -22,6 +22,7 @@ use Rattle.api_routes.specs.PathSegments.{repo_segment, ref_name_segment}
 use Rattle.api_routes.specs.Queries.{text_or_empty, amount_of}
 use Rattle.api_routes.specs.RouteTable.{FoundValue}
 use Rattle.api_bodies.specs.Bodies.{object_of_body, text_field, needed_text}
+use Rattle.api_objects.specs.CallSteps.{made}
 
 -- query: `after`, `amount`
 abbrev pub list_repositories : (query : List ℕ) → Result NamingCall FormRefusal
@@ -94,10 +95,6 @@ reset_call repo branch body =
     in_turn (object_of_body body) (λ given.
     in_turn (reset_what given) (λ what.
     Ok (record { repo = r; branch = b; what = what })))))
-
--- a call in its variant
-abbrev pub made : {X Y : Type 0} → (X → Y) → Result X FormRefusal → Result Y FormRefusal
-made variant call = in_turn call (λ x. Ok (variant x))
 
 -- the call of a route
 abbrev pub naming_call : NamesRoute → FoundValue → (query body : List ℕ) → Result NamingCall FormRefusal

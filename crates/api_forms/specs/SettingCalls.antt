@@ -14,7 +14,7 @@ use Rattle.api_routes.specs.FormSteps.{in_turn}
 use Rattle.api_routes.specs.PathSegments.{repo_segment}
 use Rattle.api_routes.specs.RouteTable.{FoundValue}
 use Rattle.api_bodies.specs.Bodies.{json_of}
-use Rattle.api_forms.specs.NamingForms.{made}
+use Rattle.api_objects.specs.CallSteps.{made}
 
 -- the refusal of rules: of a field with its rule's number, and of anything else as a whole
 abbrev pub refusal_of : RuleFault → FormRefusal

@@ -6,8 +6,8 @@ ghost use Rattle.api_forms.specs.CallForms.{routed_call, form_of_request, asked,
 
 use crate::heads::head_call;
 use crate::naming::naming_call;
-use crate::objects::object_call;
 use crate::settings::setting_call;
+use api_objects::object_call;
 use api_routes::{FormFault, Found, Route, find_route, split_target};
 use http_wire::{Field, Request};
 use lake_base::Sequence;

@@ -26,7 +26,7 @@ use Rattle.api_routes.specs.RouteTable.{FoundValue}
 use Rattle.api_bodies.specs.Bodies.{object_of_body, text_field, needed_text, short_text, whole_field, needed_whole, where_given}
 use Rattle.api_bodies.specs.HeadFields.{content_type_of}
 use Rattle.api_bodies.specs.MetadataFields.{metadata_of}
-use Rattle.api_forms.specs.NamingForms.{made}
+use Rattle.api_objects.specs.CallSteps.{made}
 
 -- the body of an upload: at most 67,108,864 bytes, as they are
 abbrev pub upload_body : (body : List ℕ) → Result (List ℕ) FormRefusal

@@ -3,9 +3,9 @@ ghost use Rattle.std.specs.Prelude.{◌≡◌, ◌≤◌, length, true, IfOk};
 ghost use Rattle.serde_json.specs.View.{view};
 ghost use Rattle.api_routes.specs.FormSteps.{IsRead};
 ghost use Rattle.api_routes.specs.RouteTable.{seen_found};
-ghost use Rattle.api_forms.specs.ObjectForms.{is_address, address_of, checksum_of, linked_type_of, source_of};
-ghost use Rattle.api_forms.specs.ObjectForms.{upload_body, upload_call, link_call, delete_call, copy_call, look_call};
-ghost use Rattle.api_forms.specs.ObjectForms.{page_query, list_call, object_call};
+ghost use Rattle.api_objects.specs.ObjectForms.{is_address, address_of, checksum_of, linked_type_of, source_of};
+ghost use Rattle.api_objects.specs.ObjectForms.{upload_body, upload_call, link_call, delete_call, copy_call, look_call};
+ghost use Rattle.api_objects.specs.ObjectForms.{page_query, list_call, object_call};
 
 use api_bodies::body::{
     needed_text, needed_whole, object_body, short_text, text_field, text_of, whole_field,
@@ -111,7 +111,7 @@ fn linked_type_of(alloc: Global, object: &Value) -> Result<Text, FormFault>
 }
 
 // An object outside is to stand at a path.
-#[tactic(auto, using(crate::proofs::LimitLemmas::is_outside))]
+#[tactic(auto, using(crate::proofs::OutsideLemmas::is_outside))]
 fn link_call(
     alloc: Global,
     found: &Found<'_>,
@@ -227,8 +227,9 @@ fn list_call(alloc: Global, found: &Found<'_>, query: &[u8]) -> Result<ListCall,
     Ok(ListCall { repo, at, query })
 }
 
-// The call of a route of objects.
-pub(crate) fn object_call(
+/// The call of a route of objects, or the first refusal of its form: of its segments, its query, its fields and its
+/// body, in this order. The body of an upload is moved.
+pub fn object_call(
     alloc: Global,
     route: ObjectRoute,
     found: &Found<'_>,
