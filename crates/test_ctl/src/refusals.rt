@@ -153,7 +153,7 @@ fn each_fault_comes_in_its_order(rt: HostRuntime) -> Result<(), Fail> {
 fn long(alloc: std::alloc::Global, front: &[u8], size: usize) -> Result<Vec<u8>, Fail> {
     let mut line = Vec::new(alloc);
     line.extend_from_slice(front)?;
-    while line.len() < size {
+    for _ in front.len()..size {
         line.push(b'x')?;
     }
     Ok(line)
