@@ -1,5 +1,6 @@
 -- Steps of the loops over bytes, segments and values.
-use Rattle.std.proofs.Common.{◌≡◌, ◌<◌, ◌≤◌, ◌+◌, ℕ, zero, suc, Bool, true, false, not, List, [], ◌∷◌, ◌++◌, length, drop, map, get_or, Option, Some, None, refl, sym, ap, ◌∙◌, append_assoc, drop-cons, add-one, arith, Bor}
+use Rattle.std.proofs.Common.{◌≡◌, ◌<◌, ◌≤◌, ◌+◌, ℕ, zero, suc, Bool, true, false, not, List, [], ◌∷◌, ◌++◌}
+use Rattle.std.proofs.Common.{length, drop, map, get_or, Option, Some, None, refl, sym, ap, ◌∙◌, append_assoc, drop-cons, add-one, arith, Bor}
 use Rattle.std.specs.List.{flat_map, find}
 use Rattle.std.specs.Option.{option_map, option_and_then}
 use Rattle.std.proofs.lemmas.List.{append-nil, map-append}
@@ -63,7 +64,8 @@ module _ (values : List Value) where
   pub places_done : (i : ℕ) (places : List Place) (all : Option (List PlaceValue)) → length values ≤ i
       → joined places (places_of (map value_seen (drop i values))) ≡ all → Some (map place_seen places) ≡ all
   places_done i places all end left =
-      sym (ap (λ (l : List Value). joined places (places_of (map value_seen l))) (behind_none values i end) ∙ ap (λ (l : List PlaceValue). Some l) (append-nil (map place_seen places)))
+      sym (ap (λ (l : List Value). joined places (places_of (map value_seen l))) (behind_none values i end)
+      ∙ ap (λ (l : List PlaceValue). Some l) (append-nil (map place_seen places)))
       ∙ left
 
   -- the value at this place is of its kind
@@ -90,7 +92,8 @@ pub one_place : (places : List Place) (place : Place) (more : Option (List Place
 one_place places place None = refl
 one_place places place (Some more) =
     ap (λ (l : List PlaceValue). Some l)
-    (sym (append_assoc (map place_seen places) (place_seen place ∷ []) more) ∙ ap (λ (l : List PlaceValue). l ++ more) (sym (map-append place_seen places (place ∷ []))))
+    (sym (append_assoc (map place_seen places) (place_seen place ∷ []) more)
+    ∙ ap (λ (l : List PlaceValue). l ++ more) (sym (map-append place_seen places (place ∷ []))))
 
 other_kind : (kind : Kind) (text : List ℕ) (more : Option (List PlaceValue)) → ((parts : UriParts) → kind ≡ UriOf parts → ⊥) → before kind text more ≡ more
 other_kind Any text more other = refl

@@ -43,7 +43,8 @@ fn reset_type(values: &[Value<'_>]) -> &'static str
 
 fn repository(alloc: Global, at: Place<'_>, values: &[Value<'_>]) -> Result<Object, NoMemory>
     ensures { IfOk result (λ object. map_seen object
-        ≡ object_of (fields_of Verb.RepoCreate (place_seen at.entry) (place_seen at.entry) (map value_seen values.now))) }
+        ≡ object_of (fields_of Verb.RepoCreate (place_seen at.entry) (place_seen at.entry)
+        (map value_seen values.now))) }
 {
     let mut object = Map::new(alloc);
     put_text(&mut object, alloc, "name", Some(at.repo))?;
@@ -63,7 +64,8 @@ fn branch(alloc: Global, at: Place<'_>, other: Place<'_>) -> Result<Object, NoMe
 
 fn reset(alloc: Global, at: Place<'_>, values: &[Value<'_>]) -> Result<Object, NoMemory>
     ensures { IfOk result (λ object. map_seen object
-        ≡ object_of (fields_of Verb.BranchReset (place_seen at.entry) (place_seen at.entry) (map value_seen values.now))) }
+        ≡ object_of (fields_of Verb.BranchReset (place_seen at.entry) (place_seen at.entry)
+        (map value_seen values.now))) }
 {
     let mut object = Map::new(alloc);
     put_text(&mut object, alloc, "path", reset_path(values))?;
@@ -73,7 +75,8 @@ fn reset(alloc: Global, at: Place<'_>, values: &[Value<'_>]) -> Result<Object, N
 
 fn revert(alloc: Global, at: Place<'_>, values: &[Value<'_>]) -> Result<Object, NoMemory>
     ensures { IfOk result (λ object. map_seen object
-        ≡ object_of (fields_of Verb.BranchRevert (place_seen at.entry) (place_seen at.entry) (map value_seen values.now))) }
+        ≡ object_of (fields_of Verb.BranchRevert (place_seen at.entry) (place_seen at.entry)
+        (map value_seen values.now))) }
 {
     let mut object = Map::new(alloc);
     put_number(&mut object, alloc, "parent_number", values, "parent-number")?;
@@ -114,7 +117,8 @@ fn merge(alloc: Global, at: Place<'_>, values: &[Value<'_>]) -> Result<Object, N
 
 fn cherry_pick(alloc: Global, at: Place<'_>, values: &[Value<'_>]) -> Result<Object, NoMemory>
     ensures { IfOk result (λ object. map_seen object
-        ≡ object_of (fields_of Verb.CherryPick (place_seen at.entry) (place_seen at.entry) (map value_seen values.now))) }
+        ≡ object_of (fields_of Verb.CherryPick (place_seen at.entry) (place_seen at.entry)
+        (map value_seen values.now))) }
 {
     let mut object = Map::new(alloc);
     put_number(&mut object, alloc, "parent_number", values, "parent-number")?;

@@ -1,5 +1,6 @@
 -- Steps of the loops over keys, pieces and items.
-use Rattle.std.proofs.Common.{◌≡◌, ◌<◌, ◌≤◌, ◌+◌, ◌&&◌, ℕ, Bool, true, false, List, [], ◌∷◌, ◌++◌, length, drop, map, get_or, Option, Some, None, refl, sym, ap, ◌∙◌, append_assoc, arith}
+use Rattle.std.proofs.Common.{◌≡◌, ◌<◌, ◌≤◌, ◌+◌, ◌&&◌, ℕ, Bool, true, false, List, [], ◌∷◌, ◌++◌}
+use Rattle.std.proofs.Common.{length, drop, map, get_or, Option, Some, None, refl, sym, ap, ◌∙◌, append_assoc, arith}
 use Rattle.std.specs.List.{list_all, flat_map}
 use Rattle.std.specs.Option.{option_map, option_and_then}
 use Rattle.std.proofs.lemmas.List.{append-nil}
@@ -93,5 +94,6 @@ module _ (lines : Lines) (items : List Value) where
   pub lines_done : (i : ℕ) (out : List ℕ) (all : Option (List ℕ)) → length items ≤ i
       → option_map (λ rest. out ++ rest) (lines_of lines (items_view (drop i items))) ≡ all → Some out ≡ all
   lines_done i out all end left =
-      sym (ap (λ (l : List Value). option_map (λ rest. out ++ rest) (lines_of lines (items_view l))) (left_none items i end) ∙ ap (λ (l : List ℕ). Some l) (append-nil out))
+      sym (ap (λ (l : List Value). option_map (λ rest. out ++ rest) (lines_of lines (items_view l))) (left_none items i end)
+      ∙ ap (λ (l : List ℕ). Some l) (append-nil out))
       ∙ left

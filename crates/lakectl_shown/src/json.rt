@@ -5,7 +5,8 @@ ghost use Rattle.std.specs.Fmt.{decimal};
 ghost use Rattle.serde_json.specs.Data.{Data};
 ghost use Rattle.serde_json.specs.Read.{read};
 ghost use Rattle.serde_json.specs.View.{view};
-ghost use Rattle.lakectl_shown.specs.ShownForms.{json_of, is_word, is_content, has_key, piece_bytes, key_seen, piece_seen};
+ghost use Rattle.lakectl_shown.specs.ShownForms.{json_of, is_word, is_content};
+ghost use Rattle.lakectl_shown.specs.ShownForms.{has_key, piece_bytes, key_seen, piece_seen};
 ghost use Rattle.lakectl_shown.specs.ShownReplies.{is_of, text_as, shown_as, object_text};
 
 use crate::form::{Content, Form, Key, Piece};

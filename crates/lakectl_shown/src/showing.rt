@@ -1,7 +1,8 @@
 //! Replies as they are shown.
 ghost use Rattle.std.specs.Prelude.{◌≡◌, IfOk, option_map};
 ghost use Rattle.std.specs.List.{list_all};
-ghost use Rattle.lakectl_shown.specs.ShownReplies.{is_hex, is_id, branch_text, nothing_of, out_of, no_reply, shown_text};
+ghost use Rattle.lakectl_shown.specs.ShownReplies.{is_hex, is_id, branch_text};
+ghost use Rattle.lakectl_shown.specs.ShownReplies.{nothing_of, out_of, no_reply, shown_text};
 ghost use Rattle.lakectl_shown.specs.ShownReplies.{fault_status, fault_shown, shown_of};
 
 use crate::form::Form;

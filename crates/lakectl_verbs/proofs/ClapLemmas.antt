@@ -1,7 +1,9 @@
 -- What `clap` says of the table's commands.
-use Rattle.std.proofs.Common.{◌≡◌, ◌⊎◌, ℕ, Bool, true, false, List, [], ◌∷◌, map, length, ◌==◌, Option, Some, None, refl, sym, ap, subst, ◌∙◌, inl, inr, Bor, arith}
+use Rattle.std.proofs.Common.{◌≡◌, ◌⊎◌, ℕ, Bool, true, false, List, [], ◌∷◌, map, length, ◌==◌}
+use Rattle.std.proofs.Common.{Option, Some, None, refl, sym, ap, subst, ◌∙◌, inl, inr, Bor, arith}
 use Rattle.std.proofs.lemmas.Bool.Decides.{nat_tests}
-use Rattle.clap.specs.Words.{App, Row, first_value, first_of, found_of, rows_of, fault_of, is_simple, is_simple_and_free, HasMatchesOf, FailsBy, HasKind, Kinds, kind_of, IsAmong, matches_of}
+use Rattle.clap.specs.Words.{App, Row, first_value, first_of, found_of, rows_of, fault_of, is_simple}
+use Rattle.clap.specs.Words.{is_simple_and_free, HasMatchesOf, FailsBy, HasKind, Kinds, kind_of, IsAmong, matches_of}
 use Rattle.clap.proofs.WalkLemmas.{first_value-rows}
 use Rattle.clap.specs.declared.parser.matches.ArgMatches.{ArgMatches}
 use Rattle.clap.specs.declared.error.Error.{Error}

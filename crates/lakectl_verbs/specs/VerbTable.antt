@@ -4,7 +4,8 @@ use Rattle.lakectl_verbs.specs.declared.verb.Verb.{Verb}
 use Rattle.lakectl_verbs.specs.declared.verb.Verb.TheVariants as verb
 use Rattle.lakectl_verbs.specs.declared.argument.Kind.TheVariants.{Any, Number, Meta}
 use Rattle.lakectl_verbs.specs.declared.argument.UriParts.TheVariants as uri
-use Rattle.lakectl_verbs.specs.ArgumentForms.{ArgumentForm, positional, uri_of, uri_named, source_uri, long, needed_long, short, needed_short, long_or_short, flag}
+use Rattle.lakectl_verbs.specs.ArgumentForms.{ArgumentForm, positional, uri_of, uri_named, source_uri}
+use Rattle.lakectl_verbs.specs.ArgumentForms.{long, needed_long, short, needed_short, long_or_short, flag}
 
 -- the arguments of a verb
 abbrev pub arguments_of : Verb → List ArgumentForm

@@ -5,7 +5,8 @@ ghost use Rattle.clap.specs.Words.{first_value, found_of};
 ghost use Rattle.lakectl_verbs.specs.ArgumentForms.{form_of};
 ghost use Rattle.lakectl_verbs.specs.UsageSteps.{IsUsed};
 ghost use Rattle.lakectl_verbs.specs.VerbCommands.{words_seen, value_found};
-ghost use Rattle.lakectl_verbs.specs.ReadWords.{is_visible, is_user, user_of, user_seen, verb_of, verb_seen, exclude, value_seen};
+ghost use Rattle.lakectl_verbs.specs.ReadWords.{is_visible, is_user, user_of, user_seen};
+ghost use Rattle.lakectl_verbs.specs.ReadWords.{verb_of, verb_seen, exclude, value_seen};
 ghost use Rattle.lakectl_verbs.specs.ReadWords.{values_of, text_in, given_seen, read_of};
 
 use crate::argument::Argument;

@@ -6,4 +6,5 @@ use Rattle.lakectl_sent.proofs.path.path_text.Given as goal
 
 abbrev pub invariant-loop-segment : goal.invariant-loop-segment
 invariant-loop-segment l =
-    l.out.items ++ flat_map behind_slash (map (λ (s : Bor (List ℕ)). s.now) (drop l.segment-index l.segments)) ≡ path_text (map (λ (s : Bor (List ℕ)). s.now) l.fn.segments)
+    l.out.items ++ flat_map behind_slash (map (λ (s : Bor (List ℕ)). s.now) (drop l.segment-index l.segments))
+    ≡ path_text (map (λ (s : Bor (List ℕ)). s.now) l.fn.segments)

@@ -15,4 +15,5 @@ pub returns-in-Err : goal.returns-in-Err
 returns-in-Err c =
     let same : app_of c.in_ok-command.command ≡ command_for c.args.verb = c.in_ok-command.ensures ∙ ap simple_command c.arguments.ensures in
     refused c.args.verb (words_seen c.args.words.now) (app_of c.in_ok-command.command) c.in-Err.error c.fault_of.result same
-    (c.in-Err.ensures.kinds (ap is_simple_and_free same ∙ is_defined c.args.verb)) (λ e. c.fault_of.ensures.memory (c.kind.ensures ∙ e)) c.fault_of.ensures.words
+    (c.in-Err.ensures.kinds (ap is_simple_and_free same ∙ is_defined c.args.verb)) (λ e. c.fault_of.ensures.memory (c.kind.ensures
+    ∙ e)) c.fault_of.ensures.words
