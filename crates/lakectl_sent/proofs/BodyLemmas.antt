@@ -87,7 +87,8 @@ pieces_then (Some ms) f absent next = next ms absent
 pieces_no_float : (ms : Members) (pieces : List (List ℕ)) → members_have_float ms ≡ false → NoFloatIn (with_pieces ms pieces)
 pieces_no_float ms [] rest = rest
 pieces_no_float ms (piece ∷ pieces) rest =
-    pieces_then (with_piece ms piece) (λ next. with_pieces next pieces) (piece_no_float ms (cut 61 piece) rest) (λ next absent. pieces_no_float next pieces absent)
+    pieces_then (with_piece ms piece) (λ next. with_pieces next pieces) (piece_no_float ms (cut 61 piece) rest)
+    (λ next absent. pieces_no_float next pieces absent)
 
 object_no_float : (o : Option Members) → NoFloatIn o → NoFloat (option_map object o)
 object_no_float None absent = tt

@@ -11,7 +11,8 @@ loop-segment-init c =
 
 pub loop-segment-preserved : goal.loop-segment-preserved
 loop-segment-preserved c =
-    seen_step (λ (s : Bor (List ℕ)). s.now) behind_slash c.args.segments.now c.loop-segment.segment-index _ c.loop-segment.out.items _ _ c.loop-segment-test.true
+    seen_step (λ (s : Bor (List ℕ)). s.now) behind_slash c.args.segments.now c.loop-segment.segment-index _ c.loop-segment.out.items _ _
+    c.loop-segment-test.true
     c.in_ok-push_segment.ensures c.loop-segment.invariant
 
 pub returns : goal.returns

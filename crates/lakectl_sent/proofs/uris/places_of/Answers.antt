@@ -14,7 +14,8 @@ loop-value-preserved c =
           w.in-Uri.is (sym w.place_of.ensures ∙ ap (option_map place_seen) w.in-Some.is) w.in_ok-push.ensures.items)
       | in_default w ↦
           rw w.places-is
-          (other_step c.args.values.now c.loop-value.value-index _ c.loop-value.places.items _ c.loop-value-test.true c.loop-value.invariant w.in_default.not-Uri)
+          (other_step c.args.values.now c.loop-value.value-index _ c.loop-value.places.items _ c.loop-value-test.true
+          c.loop-value.invariant w.in_default.not-Uri)
     ]
 
 pub returns-in_default-place_of : goal.returns-in_default-place_of

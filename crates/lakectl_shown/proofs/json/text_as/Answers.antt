@@ -18,4 +18,5 @@ loop-piece-preserved c =
 
 pub returns : goal.returns
 returns c =
-    pieces_done (view c.args.value.now) c.pieces-piece-items.result.now c.loop-piece.piece-index c.loop-piece.out.items _ c.loop-piece-test.false c.loop-piece.invariant
+    pieces_done (view c.args.value.now) c.pieces-piece-items.result.now c.loop-piece.piece-index c.loop-piece.out.items _ c.loop-piece-test.false
+    c.loop-piece.invariant

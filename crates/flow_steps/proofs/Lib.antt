@@ -1,0 +1,4 @@
+pub mod SeatFlowLemmas
+pub mod VersionCauseLemmas
+pub mod TryLemmas
+pub mod FlowEndLemmas

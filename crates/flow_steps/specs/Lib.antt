@@ -1,0 +1,3 @@
+pub mod FlowSeats
+pub mod FlowTries
+pub mod Flows

@@ -1,0 +1,12 @@
+pub mod LoopLemmas
+pub mod ServingLemmas
+pub mod StepLemmas
+pub mod PauseLemmas
+pub mod AnswerLemmas
+pub mod InstanceLemmas
+pub mod TicketFlowLemmas
+pub mod UploadLemmas
+pub mod TakenLemmas
+pub mod UploadEndLemmas
+pub mod EarlyLemmas
+pub mod ResetLemmas

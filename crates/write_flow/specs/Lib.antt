@@ -1,0 +1,4 @@
+pub mod FlowFaults
+pub mod WriteTries
+pub mod WriteFlows
+pub mod Uploads
