@@ -1,0 +1,9 @@
+pub mod NewestLemmas
+pub mod NewestStepLemmas
+pub mod NewestFateLemmas
+pub mod PointLemmas
+pub mod EndingLemmas
+pub mod BehindLemmas
+pub mod ServedHeadLemmas
+pub mod OwnSealLemmas
+pub mod UncommittedLemmas

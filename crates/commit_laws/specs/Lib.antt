@@ -1,0 +1,2 @@
+pub mod NewestChanges
+pub mod OwnSeals
