@@ -15,7 +15,8 @@ repo create lakefs://demo s3://b\n\
 0 Repository 'demo' created|\n\
 repo list\n\
 200\n\
-{\"pagination\":{\"has_more\":false,\"max_per_page\":1000,\"next_offset\":\"\",\"results\":1},\"results\":[{\"creation_date\":7,\"default_branch\":\"main\",\"id\":\"demo\"}]}\n\
+{\"pagination\":{\"has_more\":false,\"max_per_page\":1000,\"next_offset\":\"\",\"results\":1},\"results\":[{\"cr\
+eation_date\":7,\"default_branch\":\"main\",\"id\":\"demo\"}]}\n\
 0 demo\t7\tmain|\n\
 repo list\n\
 200\n\
@@ -35,7 +36,8 @@ branch create lakefs://quickstart/dev --source lakefs://quickstart/main\n\
 8 \n\
 branch list lakefs://quickstart\n\
 200\n\
-{\"pagination\":{\"has_more\":false,\"max_per_page\":1000,\"next_offset\":\"\",\"results\":2},\"results\":[{\"commit_id\":\"I\",\"id\":\"main\"},{\"commit_id\":\"I\",\"id\":\"main\"}]}\n\
+{\"pagination\":{\"has_more\":false,\"max_per_page\":1000,\"next_offset\":\"\",\"results\":2},\"results\":[{\"co\
+mmit_id\":\"I\",\"id\":\"main\"},{\"commit_id\":\"I\",\"id\":\"main\"}]}\n\
 0 main\tI|main\tI|\n\
 branch show lakefs://quickstart/main\n\
 200\n\
@@ -59,7 +61,8 @@ branch reset lakefs://quickstart/main\n\
 0 \n\
 branch revert lakefs://quickstart/main main\n\
 201\n\
-{\"committer\":\"me\",\"creation_date\":7,\"generation\":2,\"id\":\"I\",\"message\":\"M\",\"meta_range_id\":\"R\",\"metadata\":{\"k\":\"v\"},\"parents\":[\"Q\"]}\n\
+{\"committer\":\"me\",\"creation_date\":7,\"generation\":2,\"id\":\"I\",\"message\":\"M\",\"meta_range_id\":\"\
+R\",\"metadata\":{\"k\":\"v\"},\"parents\":[\"Q\"]}\n\
 0 Commit: I|\n\
 tag create lakefs://quickstart/v1 lakefs://quickstart/main\n\
 201\n\
@@ -67,7 +70,8 @@ tag create lakefs://quickstart/v1 lakefs://quickstart/main\n\
 0 Created tag 'v1' I|\n\
 tag list lakefs://quickstart\n\
 200\n\
-{\"pagination\":{\"has_more\":false,\"max_per_page\":1000,\"next_offset\":\"\",\"results\":1},\"results\":[{\"commit_id\":\"I\",\"id\":\"main\"}]}\n\
+{\"pagination\":{\"has_more\":false,\"max_per_page\":1000,\"next_offset\":\"\",\"results\":1},\"results\":[{\"co\
+mmit_id\":\"I\",\"id\":\"main\"}]}\n\
 0 main\tI|\n\
 tag show lakefs://quickstart/v1\n\
 200\n\
@@ -79,7 +83,8 @@ tag delete lakefs://quickstart/v1\n\
 0 \n\
 commit lakefs://quickstart/main -m m\n\
 201\n\
-{\"committer\":\"me\",\"creation_date\":7,\"generation\":2,\"id\":\"I\",\"message\":\"M\",\"meta_range_id\":\"R\",\"metadata\":{\"k\":\"v\"},\"parents\":[\"Q\"]}\n\
+{\"committer\":\"me\",\"creation_date\":7,\"generation\":2,\"id\":\"I\",\"message\":\"M\",\"meta_range_id\":\"\
+R\",\"metadata\":{\"k\":\"v\"},\"parents\":[\"Q\"]}\n\
 0 Commit: I|\n\
 commit lakefs://quickstart/main -m m\n\
 201\n\
@@ -87,11 +92,14 @@ commit lakefs://quickstart/main -m m\n\
 8 \n\
 log lakefs://quickstart/main\n\
 200\n\
-{\"pagination\":{\"has_more\":true,\"max_per_page\":1000,\"next_offset\":\"I\",\"results\":1},\"results\":[{\"committer\":\"me\",\"creation_date\":7,\"generation\":2,\"id\":\"I\",\"message\":\"M\",\"meta_range_id\":\"R\",\"metadata\":{\"k\":\"v\"},\"parents\":[\"Q\"]}]}\n\
+{\"pagination\":{\"has_more\":true,\"max_per_page\":1000,\"next_offset\":\"I\",\"results\":1},\"results\":[{\"co\
+mmitter\":\"me\",\"creation_date\":7,\"generation\":2,\"id\":\"I\",\"message\":\"M\",\"meta_range_id\":\"R\",\"m\
+etadata\":{\"k\":\"v\"},\"parents\":[\"Q\"]}]}\n\
 0 ID: I|Author: me|Date: 7|Message: M||More after: I|\n\
 log lakefs://quickstart/main\n\
 200\n\
-{\"pagination\":{\"has_more\":false,\"max_per_page\":1000,\"next_offset\":\"\",\"results\":1},\"results\":[{\"commit_id\":\"I\",\"id\":\"main\"}]}\n\
+{\"pagination\":{\"has_more\":false,\"max_per_page\":1000,\"next_offset\":\"\",\"results\":1},\"results\":[{\"co\
+mmit_id\":\"I\",\"id\":\"main\"}]}\n\
 8 \n\
 merge lakefs://quickstart/main lakefs://quickstart/main\n\
 200\n\
@@ -99,15 +107,19 @@ merge lakefs://quickstart/main lakefs://quickstart/main\n\
 0 Merged: I|\n\
 cherry-pick lakefs://quickstart/main lakefs://quickstart/main\n\
 201\n\
-{\"committer\":\"me\",\"creation_date\":7,\"generation\":2,\"id\":\"I\",\"message\":\"M\",\"meta_range_id\":\"R\",\"metadata\":{\"k\":\"v\"},\"parents\":[\"Q\"]}\n\
+{\"committer\":\"me\",\"creation_date\":7,\"generation\":2,\"id\":\"I\",\"message\":\"M\",\"meta_range_id\":\"\
+R\",\"metadata\":{\"k\":\"v\"},\"parents\":[\"Q\"]}\n\
 0 Commit: I|\n\
 fs ls lakefs://quickstart/main\n\
 200\n\
-{\"pagination\":{\"has_more\":true,\"max_per_page\":1000,\"next_offset\":\"d/\",\"results\":2},\"results\":[{\"checksum\":\"C\",\"content_type\":\"T\",\"metadata\":{},\"mtime\":7,\"path\":\"a\",\"path_type\":\"object\",\"physical_address\":\"P\",\"size_bytes\":5},{\"path\":\"d/\",\"path_type\":\"common_prefix\"}]}\n\
+{\"pagination\":{\"has_more\":true,\"max_per_page\":1000,\"next_offset\":\"d/\",\"results\":2},\"results\":[{\"c\
+hecksum\":\"C\",\"content_type\":\"T\",\"metadata\":{},\"mtime\":7,\"path\":\"a\",\"path_type\":\"object\",\"phy\
+sical_address\":\"P\",\"size_bytes\":5},{\"path\":\"d/\",\"path_type\":\"common_prefix\"}]}\n\
 0 object\t5\ta|prefix\td/|More after: d/|\n\
 fs stat lakefs://quickstart/main/a\n\
 200\n\
-{\"checksum\":\"C\",\"content_type\":\"T\",\"metadata\":{},\"mtime\":7,\"path\":\"a\",\"path_type\":\"object\",\"physical_address\":\"P\",\"size_bytes\":5}\n\
+{\"checksum\":\"C\",\"content_type\":\"T\",\"metadata\":{},\"mtime\":7,\"path\":\"a\",\"path_type\":\"object\"\
+,\"physical_address\":\"P\",\"size_bytes\":5}\n\
 0 Path: a|Modified Time: 7|Size: 5|Checksum: C|Physical Address: P|Content-Type: T|\n\
 fs cat lakefs://quickstart/main/a\n\
 200\n\
@@ -115,27 +127,33 @@ any\n\
 0 any\n\
 fs upload lakefs://quickstart/main/a --text x\n\
 201\n\
-{\"checksum\":\"C\",\"content_type\":\"T\",\"metadata\":{},\"mtime\":7,\"path\":\"a\",\"path_type\":\"object\",\"physical_address\":\"P\",\"size_bytes\":5}\n\
+{\"checksum\":\"C\",\"content_type\":\"T\",\"metadata\":{},\"mtime\":7,\"path\":\"a\",\"path_type\":\"object\"\
+,\"physical_address\":\"P\",\"size_bytes\":5}\n\
 0 Path: a|Size: 5|Checksum: C|\n\
 fs upload lakefs://quickstart/main/a --text x\n\
 200\n\
-{\"checksum\":\"C\",\"content_type\":\"T\",\"metadata\":{},\"mtime\":7,\"path\":\"a\",\"path_type\":\"object\",\"physical_address\":\"P\",\"size_bytes\":5}\n\
+{\"checksum\":\"C\",\"content_type\":\"T\",\"metadata\":{},\"mtime\":7,\"path\":\"a\",\"path_type\":\"object\"\
+,\"physical_address\":\"P\",\"size_bytes\":5}\n\
 8 \n\
 fs upload lakefs://quickstart/main/a --text x\n\
 201\n\
-{\"checksum\":\"C\",\"content_type\":\"T\",\"metadata\":{},\"mtime\":7.0,\"path\":\"a\",\"path_type\":\"object\",\"physical_address\":\"P\",\"size_bytes\":5}\n\
+{\"checksum\":\"C\",\"content_type\":\"T\",\"metadata\":{},\"mtime\":7.0,\"path\":\"a\",\"path_type\":\"object\"\
+,\"physical_address\":\"P\",\"size_bytes\":5}\n\
 8 \n\
 fs upload lakefs://quickstart/main/a --text x\n\
 201\n\
-{\"checksum\":\"C\",\"content_type\":\"T\",\"metadata\":{},\"mtime\":null,\"path\":\"a\",\"path_type\":\"object\",\"physical_address\":\"P\",\"size_bytes\":5}\n\
+{\"checksum\":\"C\",\"content_type\":\"T\",\"metadata\":{},\"mtime\":null,\"path\":\"a\",\"path_type\":\"objec\
+t\",\"physical_address\":\"P\",\"size_bytes\":5}\n\
 8 \n\
 fs upload lakefs://quickstart/main/a --text x\n\
 201\n\
-{\"checksum\":\"C\",\"content_type\":\"T\",\"mtime\":7,\"path\":\"a\",\"path_type\":\"object\",\"physical_address\":\"P\",\"size_bytes\":5}\n\
+{\"checksum\":\"C\",\"content_type\":\"T\",\"mtime\":7,\"path\":\"a\",\"path_type\":\"object\",\"physical_addres\
+s\":\"P\",\"size_bytes\":5}\n\
 8 \n\
 fs upload lakefs://quickstart/main/a --text x\n\
 201\n\
-{\"more\":1,\"checksum\":\"C\",\"content_type\":\"T\",\"metadata\":{},\"mtime\":7,\"path\":\"a\",\"path_type\":\"object\",\"physical_address\":\"P\",\"size_bytes\":5}\n\
+{\"more\":1,\"checksum\":\"C\",\"content_type\":\"T\",\"metadata\":{},\"mtime\":7,\"path\":\"a\",\"path_type\"\
+:\"object\",\"physical_address\":\"P\",\"size_bytes\":5}\n\
 0 Path: a|Size: 5|Checksum: C|\n\
 fs download lakefs://quickstart/main/a f\n\
 200\n\
@@ -147,7 +165,8 @@ fs rm lakefs://quickstart/main/a\n\
 0 \n\
 fs stage lakefs://quickstart/main/a --location x --size 1 --checksum c\n\
 201\n\
-{\"checksum\":\"C\",\"content_type\":\"T\",\"metadata\":{},\"mtime\":7,\"path\":\"a\",\"path_type\":\"object\",\"physical_address\":\"P\",\"size_bytes\":5}\n\
+{\"checksum\":\"C\",\"content_type\":\"T\",\"metadata\":{},\"mtime\":7,\"path\":\"a\",\"path_type\":\"object\"\
+,\"physical_address\":\"P\",\"size_bytes\":5}\n\
 0 Path: a|Size: 5|Checksum: C|\n\
 repo list\n\
 404\n\
