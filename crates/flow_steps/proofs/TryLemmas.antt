@@ -26,7 +26,7 @@ use Rattle.call_placement.specs.Points.{Came}
 use Rattle.call_placement.proofs.WalkLemmas.{came_on}
 use Rattle.lake_calls.specs.LakeRules.{by_caller, lake_rules}
 use Rattle.flow_steps.specs.FlowSeats.{given_at, state_at}
-use Rattle.flow_steps.specs.FlowTries.{FoundVersion, Guarded, IsRefused, Steps, TryEnds}
+use Rattle.flow_steps.specs.FlowTries.{FoundVersion, Guarded, IsRefused, Steps, TryEnds, first_before_versions}
 use Rattle.flow_steps.proofs.VersionCauseLemmas.{AsksNone, Decides, IsUnversioned, refused_for}
 
 -- ---- the reading
@@ -87,41 +87,48 @@ module _ (origin : LakeOrigin) (by : Caller) (guarded : Guarded) (from read : Li
   refused fault next u r came is = inr (read, to_reading, early, came, is)
 
   module _ (found : List HistoryEntry) (to_step : Came lake_rules by read found) where
+    abbrev IsSame : Type 0
+    IsSame = guarded.version (given_at origin found) ≡ guarded.version (given_at origin read)
+
     made : (told : Option EntryValue) (operation : Operation) → guarded.late (state_at origin found) ≡ None
-        → guarded.Makes (state_at origin found) told operation → Steps origin by guarded told operation from found
-    made told operation late makes = record {
+        → guarded.Makes (state_at origin found) told operation → IsSame → Steps origin by guarded told operation from found
+    made told operation late makes same = record {
       read = read;
       to_reading = to_reading;
       early = early;
       to_step = to_step;
       late = late;
       makes = makes;
+      same = same;
     }
 
     pub accepted : (told : Option EntryValue) (operation : Operation) (next : List HistoryEntry) → guarded.late (state_at origin found) ≡ None
-        → guarded.Makes (state_at origin found) told operation → next ≡ found ++ accepted_entry (by_caller by) operation ∷ []
+        → guarded.Makes (state_at origin found) told operation → IsSame → next ≡ found ++ accepted_entry (by_caller by) operation ∷ []
         → Ends (Ok told) next
-    accepted told operation next late makes is = (operation, found, made told operation late makes, is)
+    accepted told operation next late makes same is = (operation, found, made told operation late makes same, is)
 
     pub faulted : (told : Option EntryValue) (operation : Operation) (next : List HistoryEntry) → guarded.late (state_at origin found) ≡ None
-        → guarded.Makes (state_at origin found) told operation → next ≡ found ++ faulted_entry (by_caller by) operation ∷ []
+        → guarded.Makes (state_at origin found) told operation → IsSame → next ≡ found ++ faulted_entry (by_caller by) operation ∷ []
         → Ends (Err StoreFault) next
-    faulted told operation next late makes is = (told, operation, found, made told operation late makes, is)
+    faulted told operation next late makes same is = (told, operation, found, made told operation late makes same, is)
 
     -- a refusal of a step by a version that was read: by the first cause, without versions, or for the version
     pub not_made : (c : Causes) (repo branch : List ℕ) (version : ℕ) (fault : StepFault) → IsRefusal fault → AsksNone c
-        → first_cause c ≡ guarded.late (state_at origin found) → ((given : VersionsGiven) → guarded.version given ≡ branch_version given repo branch)
+        → first_cause c ≡ guarded.late (state_at origin found) → first_before_versions c ≡ guarded.ahead (state_at origin found)
+        → ((given : VersionsGiven) → guarded.version given ≡ branch_version given repo branch)
         → version ≡ guarded.version (given_at origin read)
         → first_cause (with_current_branch (given_at origin found) repo branch version c) ≡ Some fault → Ends (Err fault) found
-    not_made c repo branch version fault is_refusal asks late guards was first =
+    not_made c repo branch version fault is_refusal asks late ahead guards was first =
         let now = branch_version (given_at origin found) repo branch in
         elim (refused_for c (version == now) now (settings_version (given_at origin found) repo) fault asks first) [
-          | inl other ↦ subst (λ f. Ends (Err f) found) (sym other.1) (
+          | inl other ↦ subst (λ f. Ends (Err f) found) (sym other.2) (
             read,
             to_reading,
             to_step,
             (λ same. absurd (not_false version now other.0 (was ∙ sym same ∙ guards (given_at origin found)))),
             sym (guards (given_at origin found)),
+            early,
+            sym ahead ∙ other.1,
           )
           | inr plain ↦ refused fault found plain.1 is_refusal to_step (sym late ∙ plain.0)
         ]

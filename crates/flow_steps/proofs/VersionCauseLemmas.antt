@@ -16,6 +16,8 @@ use Rattle.lake_model.specs.Branches.{protected_by}
 use Rattle.lake_model.specs.Refusals.{Causes, GivesOrFails, cause_if, first_cause, first_of, protection_of, unless_refused, with_current_version}
 use Rattle.lake_model.specs.Resolving.{expression_target, is_plain_branch, name_target}
 use Rattle.lake_model.specs.Steps.{IsReplyOf, copied_entry, copy_causes_of, expired_fault, holds_in, in_it, move_fault, source_fault, target_in, write_causes}
+use Rattle.lake_laws.proofs.CauseLemmas.{no_cause, test_holds}
+use Rattle.flow_steps.specs.FlowTries.{first_before_versions}
 
 -- WHAT AN ANSWER DECIDES of the causes: none holds where the change was accepted, or the store failed; and a refusal is the first
 abbrev pub Decides : {X : Type 0} → Causes → Result X StepFault → Type 0
@@ -33,8 +35,8 @@ first_append (Some one ∷ front) rest fault is = is
 
 -- the first cause stands before one that holds, or is it
 before_or_it : (front rest : List (Option StepFault)) (one fault : StepFault) → first_of (front ++ Some one ∷ rest) ≡ Some fault
-    → (first_of front ≡ Some fault) ⊎ (fault ≡ one)
-before_or_it [] rest one fault is = inr (let same : Some one ≡ Some fault = is in cc)
+    → (first_of front ≡ Some fault) ⊎ ((first_of front ≡ None) × (fault ≡ one))
+before_or_it [] rest one fault is = inr (refl, let same : Some one ≡ Some fault = is in cc)
 before_or_it (None ∷ front) rest one fault is = before_or_it front rest one fault is
 before_or_it (Some other ∷ front) rest one fault is = inl is
 
@@ -78,7 +80,8 @@ with_none (cause ∷ front) rest are others = (are.0, with_none front rest are.1
 -- a refusal for versions that aren't these, or for what refuses it without them
 pub refused_for : (c : Causes) (current : Bool) (version settings : ℕ) (fault : StepFault) → AsksNone c
     → first_cause (with_current_version current version settings c) ≡ Some fault
-    → ((current ≡ false) × (fault ≡ Changed version settings)) ⊎ ((first_cause c ≡ Some fault) × IsUnversioned fault)
+    → ((current ≡ false) × (first_before_versions c ≡ None) × (fault ≡ Changed version settings))
+    ⊎ ((first_cause c ≡ Some fault) × IsUnversioned fault)
 refused_for c true version settings fault asks is = inr (plainly c fault asks (as_asked c asks.unasked is))
   where
     as_asked : (c : Causes) → c.version ≡ None → first_of (early_of c ++ None ∷ late_of c) ≡ Some fault → first_cause c ≡ Some fault
@@ -93,8 +96,14 @@ refused_for c true version settings fault asks is = inr (plainly c fault asks (a
 refused_for c false version settings fault asks is =
     elim (before_or_it (early_of c) (late_of c) (Changed version settings) fault is) [
       | inl first ↦ inr (first_append (early_of c) (c.version ∷ late_of c) fault first, first_unversioned (early_of c) fault asks.early first)
-      | inr changed ↦ inl (refl, changed)
+      | inr changed ↦ inl (refl, changed.0, changed.1)
     ]
+
+-- where no cause holds by versions, they are these
+pub current_where_none : (c : Causes) (current : Bool) (version settings : ℕ) → first_cause (with_current_version current version settings c) ≡ None
+    → current ≡ true
+current_where_none c current version settings none =
+    test_holds current (Changed version settings) (no_cause (with_current_version current version settings c) none).version
 
 -- ---- what writes to a branch asks no version
 

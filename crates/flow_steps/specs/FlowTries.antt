@@ -12,7 +12,7 @@ use Rattle.lake_model.specs.declared.history.Operation.{Operation}
 use Rattle.lake_model.specs.declared.history.Operation.TheVariants.{Stage, Copy}
 use Rattle.lake_model.specs.State.{State}
 use Rattle.lake_model.specs.History.{accepted_entry, faulted_entry}
-use Rattle.lake_model.specs.Refusals.{first_cause, no_causes, with_branch}
+use Rattle.lake_model.specs.Refusals.{Causes, first_cause, first_of, no_causes, with_branch}
 use Rattle.lake_model.specs.Steps.{copied_entry, copy_causes_of, copy_source, in_it, write_causes}
 use Rattle.lake_model.specs.Versions.{VersionsGiven, branch_version}
 use Rattle.lake_core.specs.declared.standing.LakeOrigin.{LakeOrigin}
@@ -28,10 +28,16 @@ use Rattle.flow_steps.specs.FlowSeats.{GoesOn, given_at, state_at}
 abbrev pub StoreFailed : LakeOrigin → Type 0
 StoreFailed origin = (counts : Counts) × (origin.faults ≤ counts.before) × HasRisen counts
 
--- a change that is guarded: what refuses it at its reading, and at its step without versions; the entry that it tells, with
--- the operation that it makes; and the version that guards it
+-- the first of the causes that a step asks before its versions
+abbrev pub first_before_versions : Causes → Option StepFault
+first_before_versions c = first_of
+    (c.stopped ∷ c.full ∷ c.repository ∷ c.reference ∷ c.parent ∷ c.note ∷ c.exists ∷ c.default_branch ∷ c.protected ∷ [])
+
+-- a change that is guarded: what refuses it at its reading, at its step before the version is asked, and at its step without
+-- versions; the entry that it tells, with the operation that it makes; and the version that guards it
 pub record Guarded : Type 1 where
   pub early : State → Option StepFault
+  pub ahead : State → Option StepFault
   pub late : State → Option StepFault
   pub Makes : State → Option EntryValue → Operation → Type 0
   pub version : VersionsGiven → ℕ
@@ -40,6 +46,7 @@ pub record Guarded : Type 1 where
 abbrev pub staging : (repo branch path : List ℕ) → Change → Guarded
 staging repo branch path change = record {
   early = λ state. first_cause (with_branch state repo branch no_causes);
+  ahead = λ state. first_before_versions (write_causes state repo branch);
   late = λ state. first_cause (write_causes state repo branch);
   Makes = λ state told operation. (told ≡ None) × (operation ≡ Stage repo branch path change);
   version = λ given. branch_version given repo branch;
@@ -49,6 +56,7 @@ staging repo branch path change = record {
 abbrev pub copying : (repo branch path : List ℕ) → RefExprValue → (from : List ℕ) → Guarded
 copying repo branch path e from = record {
   early = λ state. first_cause (with_branch state repo branch no_causes);
+  ahead = λ state. first_before_versions (copy_causes_of state repo branch e from);
   late = λ state. first_cause (copy_causes_of state repo branch e from);
   Makes = λ state told operation. (source : CopySource) × (entry : EntryValue) × (in_it state repo (λ r. copy_source r e) ≡ Some source)
       × (copied_entry state repo e from ≡ Some entry) × (told ≡ Some entry) × (operation ≡ Copy repo branch path source from entry);
@@ -57,7 +65,7 @@ copying repo branch path e from = record {
 
 module _ (origin : LakeOrigin) (by : Caller) (guarded : Guarded) where
   -- The step was reached: others' entries came to the reading, which nothing refused, and others' to the step, which nothing
-  -- refused, nor the version.
+  -- refused, and which found the version that was read.
   pub record Steps (told : Option EntryValue) (operation : Operation) (from found : List HistoryEntry) : Type 0 where
     pub read : List HistoryEntry
     pub to_reading : Came lake_rules by from read
@@ -65,6 +73,7 @@ module _ (origin : LakeOrigin) (by : Caller) (guarded : Guarded) where
     pub to_step : Came lake_rules by read found
     pub late : guarded.late (state_at origin found) ≡ None
     pub makes : guarded.Makes (state_at origin found) told operation
+    pub same : guarded.version (given_at origin found) ≡ guarded.version (given_at origin read)
 
   -- the reading was refused, or the step
   abbrev pub IsRefused : StepFault → (from found : List HistoryEntry) → Type 0
@@ -73,11 +82,12 @@ module _ (origin : LakeOrigin) (by : Caller) (guarded : Guarded) where
       ⊎ ((read : List HistoryEntry) × Came lake_rules by from read × (guarded.early (state_at origin read) ≡ None)
       × Came lake_rules by read found × (guarded.late (state_at origin found) ≡ Some fault))
 
-  -- the step found another version than the reading: this one
+  -- the step found another version than the reading, this one: nothing refused the reading, nor the step before its version
   abbrev pub FoundVersion : (version : ℕ) → (from found : List HistoryEntry) → Type 0
   FoundVersion version from found =
       (read : List HistoryEntry) × Came lake_rules by from read × Came lake_rules by read found
       × (guarded.version (given_at origin found) ≢ guarded.version (given_at origin read)) × (version ≡ guarded.version (given_at origin found))
+      × (guarded.early (state_at origin read) ≡ None) × (guarded.ahead (state_at origin found) ≡ None)
 
   -- WHAT CAME OF A TRY, between what was seen before it and after it.
   abbrev pub TryEnds : Result (Option EntryValue) StepFault → (from next : List HistoryEntry) → Type 0

@@ -1,16 +1,14 @@
 -- An upload that gets no number.
-use Rattle.std.proofs.Common.{◌≡◌, ◌+◌, inl, inr, ℕ, true, List, [], ◌∷◌, ◌++◌, length, Option, Some, None, Result, Ok, Err, refl, sym, ap, subst, ◌∙◌}
+use Rattle.std.proofs.Common.{◌≡◌, ◌+◌, inl, inr, ℕ, true, List, [], length, Option, Some, None, Err, refl, sym, ap, subst, ◌∙◌}
 use Rattle.std.proofs.lemmas.List.{append-nil}
-use Rattle.lake_values.specs.Entry.{EntryValue}
 use Rattle.lake_model.specs.declared.fault.StepFault.{StepFault}
 use Rattle.lake_model.specs.declared.fault.StepFault.TheVariants as step
 use Rattle.lake_model.specs.declared.history.HistoryEntry.{HistoryEntry}
 use Rattle.lake_model.specs.declared.history.Operation.TheVariants.{TicketTake}
 use Rattle.lake_model.specs.State.{State}
-use Rattle.lake_model.specs.History.{faulted_entry}
 use Rattle.lake_model.specs.Refusals.{GivesOrFails, IsRefusal, first_cause}
 use Rattle.lake_model.specs.Steps.{take_ticket_reply, write_causes}
-use Rattle.core_state.specs.LakeStates.{lake_value, state_of}
+use Rattle.core_state.specs.LakeStates.{lake_value}
 use Rattle.core_puts.specs.KeeperViews.{KeeperView}
 use Rattle.core_puts.specs.KeptChanges.{Making}
 use Rattle.lake_core.specs.declared.standing.LakeOrigin.{LakeOrigin}
@@ -24,8 +22,8 @@ use Rattle.call_placement.specs.Sessions.{caller}
 use Rattle.lake_calls.specs.Calls.{UploadCall}
 use Rattle.lake_calls.specs.CallExceptions.{Counts}
 use Rattle.lake_calls.specs.CallRefusals.{CallNames, IsToldOf, PointPasses, PointRefused, names_of, told}
-use Rattle.lake_calls.specs.Courses.{CallPoint, Makes, call_course}
-use Rattle.lake_calls.specs.LakeRules.{by_caller, lake_rules}
+use Rattle.lake_calls.specs.Courses.{Makes, call_course}
+use Rattle.lake_calls.specs.LakeRules.{lake_rules}
 use Rattle.lake_calls.specs.declared.call.Call.{Call}
 use Rattle.lake_calls.specs.declared.call.Call.TheVariants.{Objects}
 use Rattle.lake_calls.specs.declared.objects.ObjectCall.TheVariants as object
@@ -33,20 +31,18 @@ use Rattle.lake_calls.specs.declared.reply.CallReply.{CallReply}
 use Rattle.lake_calls.specs.declared.reply.CallReply.TheVariants as reply
 use Rattle.lake_calls.specs.declared.reply.Refusal.{Refusal}
 use Rattle.lake_calls.specs.declared.reply.Refusal.TheVariants as refusal
+use Rattle.flow_steps.specs.FlowAnswers.{BlockCounts, asked_at}
 use Rattle.flow_steps.specs.FlowSeats.{GoesOn, opened_state, state_at}
-use Rattle.flow_steps.specs.FlowTries.{StoreFailed}
 use Rattle.flow_steps.proofs.FlowEndLemmas.{HasReached, moved, reached_nothing, reached_on, served_faulted, served_stopped}
+use Rattle.flow_steps.proofs.RetryLemmas.{met_by, no_store, told_some}
 use Rattle.flow_steps.proofs.SeatFlowLemmas.{answer_changed, came_to_change, entry_stands, goes_by_change}
 use Rattle.flow_steps.proofs.VersionCauseLemmas.{Decides, IsUnversioned, decided, refused_for, write_asks}
-use Rattle.write_flow.specs.declared.answer.Done.{Done}
-use Rattle.write_flow.specs.declared.answer.FlowAnswer.{FlowAnswer}
 use Rattle.write_flow.specs.declared.answer.FlowFault.{FlowFault}
-use Rattle.write_flow.specs.declared.answer.FlowFault.TheVariants.{Step, NoMemory, NoPath}
+use Rattle.write_flow.specs.declared.answer.FlowFault.TheVariants.{NoMemory}
 use Rattle.write_flow.specs.FlowFaults.{IsFlowTold, fault_of_step}
-use Rattle.write_flow.specs.Uploads.{IsUploadTold, refused_at}
-use Rattle.write_flow.specs.WriteFlows.{BlockCounts, IsAnswer, asked_at}
-use Rattle.write_flow.specs.WriteTries.{versions_found}
-use Rattle.write_flow.proofs.AnswerLemmas.{met_by, no_store, told_some}
+use Rattle.write_flow.specs.Uploads.{HasTakenNumber, IsUploadTold, refused_at}
+use Rattle.write_flow.specs.WriteFlows.{IsAnswer, NeverFall}
+use Rattle.write_flow.proofs.AnswerLemmas.{IsStopping, no_store_fault}
 use Rattle.write_flow.proofs.UploadLemmas.{fixing}
 
 -- what a client is told of a step's refusal, as a flow answers it
@@ -58,7 +54,8 @@ flow_told names step.NoMemory refused is u r = absurd r
 flow_told names (step.Changed version settings) refused is u r = absurd u
 flow_told names fault refused is u r = (refused, is, refl)
 
-module _ {K : Type 0} (view : KeeperView K) (old new : LakeSeat) (call : ℕ) (u : UploadCall) (moment : ℕ) (blocks : BlockCounts) where
+module _ {K : Type 0} (view : KeeperView K) (old new : LakeSeat) (call : ℕ) (u : UploadCall) (moment : ℕ) (blocks : BlockCounts)
+    (later : NeverFall blocks) where
   abbrev upload : Call
   upload = Objects (object.Upload u)
 
@@ -75,7 +72,7 @@ module _ {K : Type 0} (view : KeeperView K) (old new : LakeSeat) (call : ℕ) (u
   Refuses fault = IsChanged {X = ℕ × ℕ} view (record { seat = old.number; call = call }) old new Takes (TakeAnswers fault) (Err fault)
 
   abbrev Answers : FlowFault → Type 0
-  Answers fault = IsAnswer old new call upload moment (IsUploadTold u moment) blocks (versions_found {X = Done} (Err fault))
+  Answers fault = IsAnswer old new call upload moment (IsUploadTold u moment) blocks 0
       (refused_at fault (length new.seen) (length new.seen))
 
   module _ (fault : StepFault) (changed : Refuses fault) where
@@ -107,12 +104,12 @@ module _ {K : Type 0} (view : KeeperView K) (old new : LakeSeat) (call : ℕ) (u
     is_next : number ≡ (state_at origin found).next_number
     is_next = sym (ap (λ (s : State). s.next_number) changed.finds.holds.stands.replayed)
 
-    stopped : (flow_fault : FlowFault) (says : CallReply) → versions_found {X = Done} (Err flow_fault) ≡ 0
+    stopped : (flow_fault : FlowFault) (says : CallReply) → IsStopping flow_fault
         → IsFlowTold (names_of upload) flow_fault says → new.seen ≡ found
         → Hinders lake_rules (opened_state origin) by (asked_at upload moment) (met_by no_store blocks 0) (length old.seen)
         (call_course upload moment (fixing u moment number)) found says
         → Answers flow_fault
-    stopped flow_fault says none tells same hinders = record {
+    stopped flow_fault says stopping tells same hinders = record {
       met = met_by no_store blocks 0;
       told = says;
       tells = tells;
@@ -128,21 +125,59 @@ module _ {K : Type 0} (view : KeeperView K) (old new : LakeSeat) (call : ℕ) (u
       faults = refl;
       misses = refl;
       missed_last = refl;
-      tries = sym none;
+      counts = later;
+      tries = refl;
+      store = λ is. absurd (no_store_fault flow_fault stopping is);
     }
 
     refused : IsRefusal fault → first_cause (write_causes (state_at origin found) u.repo u.branch) ≡ Some fault → new.seen ≡ found
-        → (reply_told : CallReply) → versions_found {X = Done} (Err (fault_of_step fault)) ≡ 0
+        → (reply_told : CallReply) → IsStopping (fault_of_step fault)
         → IsFlowTold (names_of upload) (fault_of_step fault) reply_told → IsToldOf (names_of upload) fault reply_told → Answers (fault_of_step fault)
-    refused is first same reply_told none tells says =
-        stopped (fault_of_step fault) reply_told none tells same
+    refused is first same reply_told stopping tells says =
+        stopped (fault_of_step fault) reply_told stopping tells same
         (ByState (Makes (TicketTake u.repo u.branch number)) _ refl
         (moved (λ s. PointRefused upload (Makes (TicketTake u.repo u.branch number)) s reply_told) (opened_state origin) found
         (record { clash = None; is_clash = refl; fault = fault; first = first; told_so = says })))
 
+  -- its ticket wasn't taken
+  pub not_taken : (fault : StepFault) → Refuses fault → HasTakenNumber u.repo u.branch call old new (Err fault)
+  not_taken step.NoMemory changed = record {
+    origin = origin step.NoMemory changed;
+    goes = goes step.NoMemory changed;
+    ends = subst (Came lake_rules by old.seen)
+        (sym (entry_stands view old new call Takes (TakeAnswers step.NoMemory) (Err step.NoMemory) changed ∙ append-nil (found step.NoMemory changed)))
+        (came step.NoMemory changed);
+    store = λ is. absurd cc;
+  }
+  not_taken step.StoreFault changed = record {
+    origin = origin step.StoreFault changed;
+    goes = goes step.StoreFault changed;
+    ends = (
+      number step.StoreFault changed,
+      TicketTake u.repo u.branch (number step.StoreFault changed),
+      found step.StoreFault changed,
+      record { came = came step.StoreFault changed; none = decides step.StoreFault changed; makes = (is_next step.StoreFault changed, refl) },
+      entry_stands view old new call Takes (TakeAnswers step.StoreFault) (Err step.StoreFault) changed,
+    );
+    store = λ is. (
+      record { before = view.faults changed.found.keeper; now = view.faults changed.left.keeper },
+      changed.finds.holds.keeper.keeper.later,
+      changed.leaves.1.rose,
+    );
+  }
+  not_taken fault changed =
+      let same = entry_stands view old new call Takes (TakeAnswers fault) (Err fault) changed ∙ append-nil (found fault changed) in
+      record {
+        origin = origin fault changed;
+        goes = goes fault changed;
+        ends = subst (λ es. Came lake_rules by old.seen es × (first_cause (write_causes (state_at (origin fault changed) es) u.repo u.branch) ≡ Some fault))
+            (sym same) (came fault changed, decides fault changed);
+        store = λ is. absurd cc;
+      }
+
   pub early : (fault : StepFault) → Refuses fault → Answers (fault_of_step fault)
   early step.NoMemory changed =
-      stopped step.NoMemory changed NoMemory reply.NoMemory refl refl
+      stopped step.NoMemory changed NoMemory reply.NoMemory tt refl
       (entry_stands view old new call Takes (TakeAnswers step.NoMemory) (Err step.NoMemory) changed ∙ append-nil (found step.NoMemory changed)) (ByMemory refl)
   early step.StoreFault changed =
       let counts : Counts = record { before = view.faults changed.found.keeper; now = view.faults changed.left.keeper } in
@@ -166,7 +201,9 @@ module _ {K : Type 0} (view : KeeperView K) (old new : LakeSeat) (call : ℕ) (u
         faults = refl;
         misses = refl;
         missed_last = refl;
+        counts = later;
         tries = refl;
+        store = λ is. changed.finds.holds.keeper.keeper.later;
       }
   early (step.Changed version settings) changed =
       let wrong = refused_for (write_causes (state_at (origin (step.Changed version settings) changed)
@@ -177,5 +214,5 @@ module _ {K : Type 0} (view : KeeperView K) (old new : LakeSeat) (call : ℕ) (u
   early fault changed =
       let says = told_some (names_of upload) fault tt tt in
       refused fault changed tt (decides fault changed)
-      (entry_stands view old new call Takes (TakeAnswers fault) (Err fault) changed ∙ append-nil (found fault changed)) (reply.Refused says.0) refl
+      (entry_stands view old new call Takes (TakeAnswers fault) (Err fault) changed ∙ append-nil (found fault changed)) (reply.Refused says.0) tt
       (flow_told (names_of upload) fault says.0 says.1 tt tt) (says.0, says.1, refl)

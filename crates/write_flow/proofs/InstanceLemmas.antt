@@ -1,10 +1,9 @@
 -- The calls that are served by a guarded change of a branch.
-use Rattle.std.proofs.Common.{◌≡◌, ℕ, List, [], ◌∷◌, ◌++◌, Option, Some, None, Result, Ok, Err, refl, sym, ap, subst, ◌∙◌}
+use Rattle.std.proofs.Common.{◌≡◌, ℕ, List, [], ◌∷◌, ◌++◌, Option, Some, None, refl, sym, ap, subst}
 use Rattle.std.specs.Option.{option_or}
 use Rattle.lake_values.specs.Entry.{EntryValue}
 use Rattle.lake_values.specs.declared.entry.Change.{Change}
 use Rattle.lake_values.specs.declared.entry.Change.TheVariants as change
-use Rattle.commit_graph.specs.Expressions.{RefExprValue}
 use Rattle.lake_model.specs.declared.history.CopySource.{CopySource}
 use Rattle.lake_model.specs.declared.history.Operation.{Operation}
 use Rattle.lake_model.specs.declared.history.Operation.TheVariants.{Copy, Stage}
@@ -46,6 +45,7 @@ module _ (call : Call) (moment : ℕ) (front : List CallPoint) (repo branch path
   pub stages : Serves call moment front repo branch (staging repo branch path put) Tells
   stages = record {
     early = λ s. refl;
+    guards = λ given. refl;
     some = Stage repo branch path put;
     some_fixed = fixed;
     some_course = course;
@@ -90,6 +90,7 @@ pub copies : (c : CopyCall) (moment : ℕ)
     → Serves (Objects (object.Copy c)) moment [] c.repo c.branch (copying c.repo c.branch c.path (copied_from c).e c.source_path) (CopyTells c)
 copies c moment = record {
   early = λ s. refl;
+  guards = λ given. refl;
   some = Copy c.repo c.branch c.path nothing_fixed.source c.source_path nothing_fixed.entry;
   some_fixed = nothing_fixed;
   some_course = refl;

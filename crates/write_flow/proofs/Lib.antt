@@ -8,5 +8,9 @@ pub mod TicketFlowLemmas
 pub mod UploadLemmas
 pub mod TakenLemmas
 pub mod UploadEndLemmas
+pub mod UploadAnswerLemmas
 pub mod EarlyLemmas
 pub mod ResetLemmas
+pub mod UploadStageLemmas
+pub mod UploadBodyLemmas
+pub mod KeptBodyLemmas

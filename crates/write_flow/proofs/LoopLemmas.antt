@@ -1,14 +1,13 @@
--- Tries, one after the other.
-use Rattle.std.proofs.Common.{◌≡◌, ◌≢◌, ◌≤◌, ◌+◌, ◌<◌, ℕ, zero, suc, List, [], ◌∷◌, ◌++◌, length, drop, Option, Some, None, Result, Ok, Err, refl, sym, ap}
+-- Tries of a guarded change, one after the other.
+use Rattle.std.proofs.Common.{◌≡◌, ◌≢◌, ◌≤◌, ◌+◌, ◌<◌, ℕ, List, ◌++◌, length, drop, Option, Result, Ok, Err, refl, sym, ap}
 use Rattle.std.proofs.Common.{subst, ◌∙◌}
-use Rattle.std.proofs.Common.{◌⊎◌, inl, inr, append_assoc, arith}
-use Rattle.std.specs.Prelude.{◌==◌, Bool, true, false, IfSome, IsErrOf, if◌then◌else◌}
-use Rattle.std.proofs.lemmas.List.{append-nil}
+use Rattle.std.proofs.Common.{inl, inr, arith}
+use Rattle.std.specs.Prelude.{◌==◌, Bool, IfSome, IsErrOf, if◌then◌else◌}
 use Rattle.lake_values.specs.Entry.{EntryValue}
 use Rattle.lake_model.specs.declared.fault.StepFault.{StepFault}
 use Rattle.lake_model.specs.declared.fault.StepFault.TheVariants as step
 use Rattle.lake_model.specs.declared.history.HistoryEntry.{HistoryEntry}
-use Rattle.lake_model.specs.Versions.{VersionsGiven, branch_version, count_versions}
+use Rattle.lake_model.specs.Versions.{VersionsGiven, branch_version}
 use Rattle.core_state.specs.Counts.{versions_of}
 use Rattle.core_state.specs.LakeStates.{lake_value}
 use Rattle.lake_laws.specs.VersionGivers.{count_of, gives_branch, of_other_seat}
@@ -18,45 +17,46 @@ use Rattle.lake_model.specs.Uncommitted.{HasTicket}
 use Rattle.core_puts.specs.KeeperViews.{KeeperView}
 use Rattle.lake_core.specs.Lakes.{LakeValue, state}
 use Rattle.shared_lake.specs.SeatSteps.{Finds, LakeSeat}
-use Rattle.turn_lock.specs.Seats.{seat_after}
 use Rattle.call_placement.specs.Rules.{Caller}
 use Rattle.call_placement.specs.Points.{Came}
 use Rattle.call_placement.specs.Sessions.{caller}
 use Rattle.call_placement.proofs.WalkLemmas.{came_on, drop_front, further}
 use Rattle.lake_calls.specs.LakeRules.{lake_rules}
-use Rattle.flow_steps.specs.FlowSeats.{GoesOn, given_at, state_at}
+use Rattle.flow_steps.specs.FlowSeats.{given_at}
 use Rattle.flow_steps.specs.FlowTries.{FoundVersion, Guarded, HasTried, IsRefused, Steps, StoreFailed, TryEnds}
-use Rattle.flow_steps.proofs.SeatFlowLemmas.{finds_since, goes_further}
+use Rattle.flow_steps.specs.Retries.{FoundInTurn, HasPaused}
+use Rattle.flow_steps.proofs.RetryLemmas.{LastBehind, UnderWay, came_in_turn, changed_behind, finds_then, given_in_turn, last_behind, same_number, ten_tried}
 use Rattle.flow_steps.proofs.VersionCauseLemmas.{IsUnversioned}
 use Rattle.write_flow.specs.declared.answer.FlowFault.{FlowFault}
 use Rattle.write_flow.specs.declared.answer.FlowFault.TheVariants.{Step, TooManyTries, NoPath, NoMemory}
 use Rattle.write_flow.specs.FlowFaults.{fault_of_step}
 use Rattle.write_flow.specs.declared.tries.Tried.TheVariants.{Told, Changed as FoundAnother, Refused}
-use Rattle.write_flow.specs.WriteTries.{FoundAt, HasPaused, HaveChanged, HaveTried, TriesEnd, guarded_of, tried_of}
+use Rattle.write_flow.specs.WriteTries.{HaveTried, LastAnswers, TriesEnd, guarded_of, tried_of}
 use Rattle.write_flow.specs.declared.tries.What.{What}
 use Rattle.write_flow.specs.declared.tries.What.TheVariants.{Change as WhatChange, Copy as WhatCopy}
 
 -- ---- a try behind entries that came
 
 module _ (origin : LakeOrigin) (by : Caller) (guarded : Guarded) (from now : List HistoryEntry) (came : Came lake_rules by from now) where
-  behind : (read : List HistoryEntry) → Came lake_rules by now read → Came lake_rules by from read
-  behind read more = came_on lake_rules by from now read came more
+  before_read : (read : List HistoryEntry) → Came lake_rules by now read → Came lake_rules by from read
+  before_read read more = came_on lake_rules by from now read came more
 
   steps_before : (told : Option EntryValue) (operation : _) (found : List HistoryEntry) → Steps origin by guarded told operation now found
       → Steps origin by guarded told operation from found
   steps_before told operation found steps = record {
     read = steps.read;
-    to_reading = behind steps.read steps.to_reading;
+    to_reading = before_read steps.read steps.to_reading;
     early = steps.early;
     to_step = steps.to_step;
     late = steps.late;
     makes = steps.makes;
+    same = steps.same;
   }
 
   refused_before : (fault : StepFault) (next : List HistoryEntry) → IsRefused origin by guarded fault now next → IsRefused origin by guarded fault from next
   refused_before fault next is = elim is [
-    | inl early ↦ inl (behind next early.0, early.1)
-    | inr late ↦ inr (late.0, behind late.0 late.1, late.2, late.3, late.4)
+    | inl early ↦ inl (before_read next early.0, early.1)
+    | inr late ↦ inr (late.0, before_read late.0 late.1, late.2, late.3, late.4)
   ]
 
   -- so it ended, from where they came on
@@ -64,17 +64,19 @@ module _ (origin : LakeOrigin) (by : Caller) (guarded : Guarded) (from now : Lis
       → TryEnds origin by guarded result from next
   ends_before (Ok told) next ends = (ends.0, ends.1, steps_before told ends.0 ends.1 ends.2, ends.3)
   ends_before (Err step.StoreFault) next ends = (ends.0, ends.1, ends.2, steps_before ends.0 ends.1 ends.2 ends.3, ends.4)
-  ends_before (Err step.NoMemory) next ends = behind next ends
-  ends_before (Err (step.Changed version settings)) next ends = (ends.0, behind ends.0 ends.1, ends.2, ends.3, ends.4)
+  ends_before (Err step.NoMemory) next ends = before_read next ends
+  ends_before (Err (step.Changed version settings)) next ends = (ends.0, before_read ends.0 ends.1, ends.2, ends.3, ends.4, ends.5, ends.6)
   ends_before (Err fault) next ends = refused_before fault next ends
 
 -- ---- tries that found another version
 
--- nothing tried yet, or some tries that all found another version
-pub data UnderWay (repo branch : List ℕ) (call changed first last : ℕ) (old now : LakeSeat) : Type 0 where
-  NoneTried : changed ≡ 0 → now ≡ old → UnderWay repo branch call changed first last old now
-  SomeTried : (origin : LakeOrigin) → GoesOn origin call old now
-      → HaveChanged origin (caller old.number call) repo branch changed first last old.seen now.seen → UnderWay repo branch call changed first last old now
+-- the versions that tries of a guarded change find
+abbrev pub Found : Guarded → LakeOrigin → Caller → ℕ → List HistoryEntry → List HistoryEntry → Type 0
+Found guarded origin by version from next = FoundVersion origin by guarded version from next
+
+pub came_by : (guarded : Guarded) (origin : LakeOrigin) (by : Caller) (version : ℕ) (from next : List HistoryEntry) → Found guarded origin by version from next
+    → Came lake_rules by from next
+came_by guarded origin by version from next found = came_on lake_rules by from found.0 next found.1 found.2
 
 module _ (origin : LakeOrigin) (by : Caller) (guarded : Guarded) (repo branch : List ℕ)
     (guards : (given : VersionsGiven) → guarded.version given ≡ branch_version given repo branch) where
@@ -82,7 +84,7 @@ module _ (origin : LakeOrigin) (by : Caller) (guarded : Guarded) (repo branch : 
   counted = of_other_seat by.seat (gives_branch repo branch)
 
   -- a try that found another version is one entry of others more that gave it
-  pub one_more : (version : ℕ) (from next : List HistoryEntry) → FoundVersion origin by guarded version from next
+  one_more : (version : ℕ) (from next : List HistoryEntry) → FoundVersion origin by guarded version from next
       → (more : List HistoryEntry) × (next ≡ from ++ more) × (1 ≤ count_of counted more)
   one_more version from next found =
       let to_read = found.1 in
@@ -98,82 +100,53 @@ module _ (origin : LakeOrigin) (by : Caller) (guarded : Guarded) (repo branch : 
         omega (arith, some, others, sum),
       )
 
-  pub found_here : (version : ℕ) (from next : List HistoryEntry) → FoundVersion origin by guarded version from next
-      → FoundAt origin repo branch version from next
-  found_here version from next found =
-      let more = one_more version from next found in
-      record { at = next; between = more.0; later = []; behind = more.1; before = sym (append-nil next); is = found.4 ∙ guards (given_at origin next) }
+  -- ten tries found another version: only others' entries came, ten of which at least gave the branch one
+  pub record HaveChanged (from next : List HistoryEntry) : Type 0 where
+    pub came : Came lake_rules by from next
+    pub given : 10 ≤ count_of counted (drop (length from) next)
 
-  pub came_by : (version : ℕ) (from next : List HistoryEntry) → FoundVersion origin by guarded version from next → Came lake_rules by from next
-  came_by version from next found = came_on lake_rules by from found.0 next found.1 found.2
-
-  -- it is the first of them
-  pub first_changed : (version : ℕ) (from next : List HistoryEntry) → FoundVersion origin by guarded version from next
-      → HaveChanged origin by repo branch 1 version version from next
-  first_changed version from next found =
-      let more = one_more version from next found in
+  ten_changed : (versions : List ℕ) (from next : List HistoryEntry) → FoundInTurn (FoundVersion origin by guarded) versions from next → length versions ≡ 10
+      → HaveChanged from next
+  ten_changed versions from next found ten =
+      let given = given_in_turn (FoundVersion origin by guarded) counted one_more versions from next found in
+      let behind = ap (count_of counted) (drop_front from given.0 next given.1) in
       record {
-        came = came_by version from next found;
-        given = subst (λ es. 1 ≤ count_of counted es) (sym (drop_front from more.0 next more.1)) more.2;
-        first_found = found_here version from next found;
-        last_found = found_here version from next found;
+        came = came_in_turn (FoundVersion origin by guarded) by (came_by guarded origin by) versions from next found;
+        given = omega (arith, given.2, ten, behind);
       }
 
-  at_further : (version : ℕ) (from now next : List HistoryEntry) → (more : List HistoryEntry) → next ≡ now ++ more → FoundAt origin repo branch version from now
-      → FoundAt origin repo branch version from next
-  at_further version from now next more is found = record {
-    at = found.at;
-    between = found.between;
-    later = found.later ++ more;
-    behind = found.behind;
-    before = further found.at now found.later more next is found.before;
-    is = found.is;
-  }
+  -- how tries ended, from where they began
+  abbrev pub AllEnd : Result (Option EntryValue) FlowFault → (from next : List HistoryEntry) → Type 0
+  AllEnd (Err (TooManyTries first last)) from next = HaveChanged from next
+  AllEnd result from next = LastAnswers origin by guarded result from next
 
-  at_behind : (version : ℕ) (from now next : List HistoryEntry) → Came lake_rules by from now → FoundAt origin repo branch version now next
-      → FoundAt origin repo branch version from next
-  at_behind version from now next came found = record {
-    at = found.at;
-    between = came.0 ++ found.between;
-    later = found.later;
-    behind = further from now came.0 found.between found.at found.behind came.2;
-    before = found.before;
-    is = found.is;
-  }
-
-  -- and one more
-  pub further_changed : (changed first last version : ℕ) (from now next : List HistoryEntry) → HaveChanged origin by repo branch changed first last from now
-      → FoundVersion origin by guarded version now next → HaveChanged origin by repo branch (changed + 1) first version from next
-  further_changed changed first last version from now next have found =
-      let more = one_more version now next found in
-      let before = have.came in
-      let whole = further from now before.0 more.0 next more.1 before.2 in
-      let sum = count_append counted before.0 more.0 in
-      let now_count : count_of counted (drop (length from) now) ≡ count_of counted before.0 = ap (count_of counted) (drop_front from before.0 now before.2) in
-      let next_count : count_of counted (drop (length from) next) ≡ count_of counted (before.0 ++ more.0) =
-      ap (count_of counted) (drop_front from (before.0 ++ more.0) next whole) in
-      record {
-        came = came_on lake_rules by from now next before (came_by version now next found);
-        given = omega (arith, have.given, more.2, sum, now_count, next_count);
-        first_found = at_further first from now next more.0 more.1 have.first_found;
-        last_found = at_behind version from now next before (found_here version now next found);
-      }
+  pub ends_of : (versions : List ℕ) (result : Result (Option EntryValue) FlowFault) (from between next : List HistoryEntry)
+      → FoundInTurn (FoundVersion origin by guarded) versions from between → TriesEnd origin by guarded versions result between next → AllEnd result from next
+  ends_of versions result from between next found ends =
+      by_result result (came_in_turn (FoundVersion origin by guarded) by (came_by guarded origin by) versions from between found) ends
+    where
+      by_result : (result : Result (Option EntryValue) FlowFault) → Came lake_rules by from between → TriesEnd origin by guarded versions result between next
+          → AllEnd result from next
+      by_result (Ok told) came ends = ends_before origin by guarded from between came (Ok told) next ends.1
+      by_result (Err (TooManyTries first last)) came ends = subst (HaveChanged from) (sym ends.2) (ten_changed versions from between found ends.0)
+      by_result (Err NoPath) came ends = ends_before origin by guarded from between came (Err step.NoPath) next ends.1
+      by_result (Err NoMemory) came ends = ends_before origin by guarded from between came (Err step.NoMemory) next ends.1
+      by_result (Err (Step (step.Changed version settings))) came ends = absurd ends.1
+      by_result (Err (Step step.NoPath)) came ends = absurd ends.1
+      by_result (Err (Step step.NoMemory)) came ends = absurd ends.1
+      by_result (Err (Step fault)) came ends = ends_before origin by guarded from between came (Err fault) next ends.1
+      by_result (Err fault) came ends = absurd ends.1
 
 -- ---- the loop
 
--- two origins of one seat are one
-pub one_origin : (origin other : LakeOrigin) (old now : LakeSeat) (seen mine : List HistoryEntry) → old.origin ≡ Some origin → now ≡ seat_after old seen mine
-    → now.origin ≡ Some other → other ≡ origin
-one_origin origin other old now seen mine from seat is =
-    let both : Some other ≡ Some origin = sym is ∙ ap (λ (s : LakeSeat). s.origin) seat ∙ from in cc (both)
-
 -- a try's end, which found no other version, is how the tries end
-pub as_tries : (origin : LakeOrigin) (by : Caller) (guarded : Guarded) (repo branch : List ℕ) (fault : StepFault) (from next : List HistoryEntry)
-    → IsUnversioned fault → TryEnds origin by guarded (Err fault) from next → TriesEnd origin by guarded repo branch (Err (fault_of_step fault)) from next
-as_tries origin by guarded repo branch step.NoPath from next u ends = ends
-as_tries origin by guarded repo branch step.NoMemory from next u ends = ends
-as_tries origin by guarded repo branch (step.Changed version settings) from next u ends = absurd u
-as_tries origin by guarded repo branch fault from next u ends = ends
+as_tries : (origin : LakeOrigin) (by : Caller) (guarded : Guarded) (versions : List ℕ) (fault : StepFault) (from next : List HistoryEntry)
+    → length versions < 10 → IsUnversioned fault → TryEnds origin by guarded (Err fault) from next
+    → TriesEnd origin by guarded versions (Err (fault_of_step fault)) from next
+as_tries origin by guarded versions step.NoPath from next few u ends = (few, ends)
+as_tries origin by guarded versions step.NoMemory from next few u ends = (few, ends)
+as_tries origin by guarded versions (step.Changed version settings) from next few u ends = absurd u
+as_tries origin by guarded versions fault from next few u ends = (few, ends)
 
 abbrev refusal_of : StepFault → Result (Option EntryValue) StepFault
 refusal_of fault = Err fault
@@ -187,92 +160,78 @@ store_only step.NoPath is = absurd cc
 store_only step.NoMemory is = absurd cc
 store_only _ is = absurd cc
 
-module _ (origin : LakeOrigin) (version first : ℕ) (from next : List HistoryEntry) {repo branch : List ℕ} where
-  either : (b : Bool) → FoundAt origin repo branch version from next → FoundAt origin repo branch first from next
-      → FoundAt origin repo branch (if b then version else first) from next
-  either true one other = one
-  either false one other = other
+module _ (guarded : Guarded) (call changed first last : ℕ) (old now : LakeSeat) (way : UnderWay (Found guarded) call changed first last old now)
+    (paused : Option ℕ) where
+  abbrev Ended : Result (Option EntryValue) StepFault → LakeOrigin → Caller → List HistoryEntry → List HistoryEntry → Type 0
+  Ended result origin by from next = TryEnds origin by guarded result from next × (IsErrOf result step.StoreFault → StoreFailed origin)
 
-module _ (guarded : Guarded) (repo branch : List ℕ) (guards : (given : VersionsGiven) → guarded.version given ≡ branch_version given repo branch)
-    (call changed first last : ℕ) (old now : LakeSeat) where
-  -- a try behind those that found another version, as one from where these began
-  abbrev Behind : Result (Option EntryValue) StepFault → LakeSeat → Type 0
-  Behind result next = (origin : LakeOrigin) × GoesOn origin call old next
-      × TryEnds origin (caller old.number call) guarded result old.seen next.seen × (IsErrOf result step.StoreFault → StoreFailed origin)
-
-  tried_behind : (result : Result (Option EntryValue) StepFault) (next : LakeSeat) → UnderWay repo branch call changed first last old now
-      → HasTried guarded call now next result → Behind result next
-  tried_behind result next (NoneTried none is) tried =
-      subst (λ (s : LakeSeat). (origin : LakeOrigin) × GoesOn origin call s next
-      × TryEnds origin (caller s.number call) guarded result s.seen next.seen × (IsErrOf result step.StoreFault → StoreFailed origin)) is
-      (tried.origin, tried.goes, tried.ends, tried.store)
-  tried_behind result next (SomeTried origin goes have) tried =
-      let same = one_origin origin tried.origin old now now.seen now.mine goes.from goes.seat tried.goes.from in
-      let goes_now = subst (λ (o : LakeOrigin). GoesOn o call now next) same tried.goes in
-      let number : now.number ≡ old.number = ap (λ (s : LakeSeat). s.number) goes.seat in
-      let ends = subst (λ n. TryEnds origin (caller n call) guarded result now.seen next.seen) number
-      (subst (λ (o : LakeOrigin). TryEnds o (caller now.number call) guarded result now.seen next.seen) same tried.ends) in (
-        origin,
-        goes_further origin call old now next goes goes_now,
-        ends_before origin (caller old.number call) guarded old.seen now.seen have.came result next.seen ends,
-        λ is. subst StoreFailed same (tried.store is),
-      )
+  behind : (result : Result (Option EntryValue) StepFault) (next : LakeSeat) → HasTried guarded call now next result
+      → LastBehind (Found guarded) call (Ended result) changed old next
+  behind result next tried =
+      last_behind (Found guarded) call changed first last old now (Ended result) tried.origin next way tried.goes (tried.ends, tried.store)
 
   -- the entry is told
-  pub told_behind : (told : Option EntryValue) (next : LakeSeat) → UnderWay repo branch call changed first last old now
-      → HasTried guarded call now next (Ok told) → HaveTried guarded repo branch call old next (Ok told)
-  told_behind told next way tried =
-      let all = tried_behind (Ok told) next way tried in
-      record { origin = all.0; goes = all.1; ends = all.2; store = λ is. absurd cc }
+  pub told_behind : (told : Option EntryValue) (next : LakeSeat) (pauses : Option ℕ) → changed < 10 → HasPaused 10 changed paused pauses
+      → HasTried guarded call now next (Ok told) → HaveTried guarded call old next paused pauses (Ok told)
+  told_behind told next pauses few pause tried =
+      let all = behind (Ok told) next tried in
+      record {
+        origin = all.origin;
+        goes = all.goes;
+        versions = all.versions;
+        between = all.between;
+        found = all.found;
+        ends = (subst (λ n. n < 10) (sym all.count) few, all.last.0);
+        store = λ is. absurd cc;
+        pause = subst (λ n. HasPaused 10 n paused pauses) (sym all.count) pause;
+      }
 
   -- the refusal is
-  pub refused_behind : (fault : StepFault) (next : LakeSeat) → IsUnversioned fault → UnderWay repo branch call changed first last old now
-      → HasTried guarded call now next (Err fault) → HaveTried guarded repo branch call old next (Err (fault_of_step fault))
-  refused_behind fault next unversioned way tried =
-      let all = tried_behind (Err fault) next way tried in
+  pub refused_behind : (fault : StepFault) (next : LakeSeat) (pauses : Option ℕ) → changed < 10 → HasPaused 10 changed paused pauses → IsUnversioned fault
+      → HasTried guarded call now next (Err fault) → HaveTried guarded call old next paused pauses (Err (fault_of_step fault))
+  refused_behind fault next pauses few pause unversioned tried =
+      let all = behind (Err fault) next tried in
       record {
-        origin = all.0;
-        goes = all.1;
-        ends = as_tries all.0 (caller old.number call) guarded repo branch fault old.seen next.seen unversioned all.2;
-        store = λ is. all.3 (store_only fault is);
+        origin = all.origin;
+        goes = all.goes;
+        versions = all.versions;
+        between = all.between;
+        found = all.found;
+        ends = as_tries all.origin (caller old.number call) guarded all.versions fault all.between next.seen (subst (λ n. n < 10) (sym all.count) few)
+            unversioned all.last.0;
+        store = λ is. all.last.1 (store_only fault is);
+        pause = subst (λ n. HasPaused 10 n paused pauses) (sym all.count) pause;
       }
 
   -- another version was found, once more
-  pub changed_behind : (version settings : ℕ) (next : LakeSeat) → UnderWay repo branch call changed first last old now
-      → HasTried guarded call now next (Err (step.Changed version settings))
-      → UnderWay repo branch call (changed + 1) (if changed == 0 then version else first) version old next
-  changed_behind version settings next (NoneTried none is) tried =
-      let all = tried_behind (Err (step.Changed version settings)) next (NoneTried none is) tried in
-      subst (λ n. UnderWay repo branch call (n + 1) (if n == 0 then version else first) version old next) (sym none)
-      (SomeTried all.0 all.1 (first_changed all.0 (caller old.number call) guarded repo branch guards version old.seen next.seen all.2))
-  changed_behind version settings next (SomeTried origin goes have) tried =
-      let same = one_origin origin tried.origin old now now.seen now.mine goes.from goes.seat tried.goes.from in
-      let goes_now = subst (λ (o : LakeOrigin). GoesOn o call now next) same tried.goes in
-      let number : now.number ≡ old.number = ap (λ (s : LakeSeat). s.number) goes.seat in
-      let found = subst (λ n. FoundVersion origin (caller n call) guarded version now.seen next.seen) number
-      (subst (λ (o : LakeOrigin). FoundVersion o (caller now.number call) guarded version now.seen next.seen) same tried.ends) in
-      let more = further_changed origin (caller old.number call) guarded repo branch guards changed first last version old.seen now.seen next.seen have found in
-      SomeTried origin (goes_further origin call old now next goes goes_now) (record {
-        came = more.came;
-        given = more.given;
-        first_found = either origin version first old.seen next.seen (changed == 0) more.last_found more.first_found;
-        last_found = more.last_found;
-      })
+  pub version_behind : (version settings : ℕ) (next : LakeSeat) → HasTried guarded call now next (Err (step.Changed version settings))
+      → UnderWay (Found guarded) call (changed + 1) (if changed == 0 then version else first) version old next
+  version_behind version settings next tried =
+      changed_behind (Found guarded) call changed first last old now version tried.origin next way tried.goes tried.ends
 
-ten_is_some : (n : ℕ) → n ≡ 10 → n ≡ 0 → ⊥
-ten_is_some n ten none = absurd cc
+  -- ten tries are all
+  pub all_changed : (pauses : Option ℕ) → changed ≡ 10 → HasPaused 10 changed paused pauses
+      → HaveTried guarded call old now paused pauses (Err (TooManyTries first last))
+  all_changed pauses ten pause =
+      let all = ten_tried (Found guarded) call changed first last old now ten way in
+      record {
+        origin = all.origin;
+        goes = all.goes;
+        versions = all.have.versions;
+        between = now.seen;
+        found = all.have.found;
+        ends = (all.have.count, all.have.ends, refl);
+        store = λ is. absurd cc;
+        pause = subst (λ n. HasPaused 10 n paused pauses) (ten ∙ sym all.have.count) pause;
+      }
 
--- ten tries are all
-pub all_changed : (guarded : Guarded) (repo branch : List ℕ) (call changed first last : ℕ) (old now : LakeSeat) → changed ≡ 10
-    → UnderWay repo branch call changed first last old now → HaveTried guarded repo branch call old now (Err (TooManyTries first last))
-all_changed guarded repo branch call changed first last old now ten (NoneTried none is) =
-    absurd (ten_is_some changed ten none)
-all_changed guarded repo branch call changed first last old now ten (SomeTried origin goes have) = record {
-  origin = origin;
-  goes = goes;
-  ends = subst (λ n. HaveChanged origin (caller old.number call) repo branch n first last old.seen now.seen) ten have;
-  store = λ is. absurd cc;
-}
+  -- so its ticket is there still
+  pub ticket_then : {K : Type 0} (view : KeeperView K) (number : Option ℕ)
+      → ((found : LakeValue K) → Finds view old found → IfSome number (HasTicket (state found) old.number))
+      → (found : LakeValue K) → Finds view now found → IfSome number (HasTicket (state found) now.number)
+  ticket_then view number ticket found finds =
+      subst (λ n. IfSome number (HasTicket (state found) n)) (sym (same_number (Found guarded) call changed first last old now way))
+      (ticket found (finds_then (Found guarded) call changed first last old now view (came_by guarded) way found finds))
 
 -- ---- what came of a try, told apart
 
@@ -292,32 +251,6 @@ pub was_refused : (result : Result (Option EntryValue) StepFault) (fault : StepF
 was_refused (Ok other) fault is = absurd cc
 was_refused (Err (step.Changed version settings)) fault is = absurd cc
 was_refused (Err other) fault is = let same : other ≡ fault = cc in (subst IsUnversioned same tt, ap Err same)
-
--- the seat is one of the same lake, and what it may find now it might have found then
-pub same_turn : (repo branch : List ℕ) (call changed first last : ℕ) (old now : LakeSeat) → UnderWay repo branch call changed first last old now
-    → now.turn ≡ old.turn
-same_turn repo branch call changed first last old now (NoneTried none is) = ap (λ (s : LakeSeat). s.turn) is
-same_turn repo branch call changed first last old now (SomeTried origin goes have) = ap (λ (s : LakeSeat). s.turn) goes.seat
-
-pub finds_then : {K : Type 0} (view : KeeperView K) (repo branch : List ℕ) (call changed first last : ℕ) (old now : LakeSeat)
-    → UnderWay repo branch call changed first last old now → (found : LakeValue K) → Finds view now found → Finds view old found
-finds_then view repo branch call changed first last old now (NoneTried none is) found finds = subst (λ (s : LakeSeat). Finds view s found) is finds
-finds_then view repo branch call changed first last old now (SomeTried origin goes have) found finds =
-    finds_since view origin call old now goes have.came found finds
-
-same_number_then : (repo branch : List ℕ) (call changed first last : ℕ) (old now : LakeSeat) → UnderWay repo branch call changed first last old now
-    → now.number ≡ old.number
-same_number_then repo branch call changed first last old now (NoneTried none is) = ap (λ (s : LakeSeat). s.number) is
-same_number_then repo branch call changed first last old now (SomeTried origin goes have) = ap (λ (s : LakeSeat). s.number) goes.seat
-
--- so its ticket is there still
-pub ticket_then : {K : Type 0} (view : KeeperView K) (repo branch : List ℕ) (call changed first last : ℕ) (old now : LakeSeat) (number : Option ℕ)
-    → UnderWay repo branch call changed first last old now
-    → ((found : LakeValue K) → Finds view old found → IfSome number (HasTicket (state found) old.number))
-    → (found : LakeValue K) → Finds view now found → IfSome number (HasTicket (state found) now.number)
-ticket_then view repo branch call changed first last old now number way ticket found finds =
-    subst (λ n. IfSome number (HasTicket (state found) n)) (sym (same_number_then repo branch call changed first last old now way))
-    (ticket found (finds_then view repo branch call changed first last old now way found finds))
 
 -- what is made at a path is guarded by its branch's version
 pub guards_of : (what : What) (repo branch path : List ℕ) (given : VersionsGiven)

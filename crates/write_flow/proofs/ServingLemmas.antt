@@ -1,46 +1,41 @@
 -- A call whose last two points are a guarded change is served by how its tries ended.
-use Rattle.std.proofs.Common.{◌≡◌, ◌≢◌, ◌≤◌, ◌⊎◌, inl, inr, ℕ, List, [], ◌∷◌, ◌++◌, length, drop, Option, Some, None, Result, Ok, Err, refl, sym, ap, subst}
+use Rattle.std.proofs.Common.{◌≡◌, ◌≤◌, ◌⊎◌, inl, inr, ℕ, List, [], ◌∷◌, ◌++◌, length, drop, Option, Some, None, Ok, Err, refl, sym}
 use Rattle.std.proofs.Common.{◌∙◌}
 use Rattle.std.proofs.Common.{append_assoc}
-use Rattle.std.specs.Prelude.{IsErrOf}
 use Rattle.lake_values.specs.Entry.{EntryValue}
 use Rattle.lake_model.specs.declared.fault.StepFault.{StepFault}
 use Rattle.lake_model.specs.declared.fault.StepFault.TheVariants as step
-use Rattle.lake_model.specs.declared.fault.Reference.TheVariants as reference
 use Rattle.lake_model.specs.declared.history.HistoryEntry.{HistoryEntry}
 use Rattle.lake_model.specs.declared.history.Operation.{Operation}
 use Rattle.lake_model.specs.State.{State}
-use Rattle.lake_model.specs.Refusals.{IsRefusal, first_cause, no_causes, with_branch}
+use Rattle.lake_model.specs.Refusals.{first_cause, no_causes, with_branch}
+use Rattle.lake_model.specs.Versions.{VersionsGiven, branch_version}
 use Rattle.lake_core.specs.declared.standing.LakeOrigin.{LakeOrigin}
 use Rattle.call_placement.specs.Rules.{Caller}
-use Rattle.call_placement.specs.Points.{replay as along, Came}
+use Rattle.call_placement.specs.Points.{Came}
 use Rattle.call_placement.specs.Served.{Hinders, ByState, ByCause, ByMemory, IsServed}
 use Rattle.lake_laws.specs.VersionGivers.{count_of, gives_branch, of_other_seat}
-use Rattle.lake_calls.specs.CallExceptions.{ByBranch, CallMet, Guard, HasTriedEnough, guard_of, last_guard}
-use Rattle.lake_calls.specs.CallRefusals.{CallNames, IsClashOf, IsToldOf, PointPasses, PointRefused, StepPasses, names_of, step_causes, told}
+use Rattle.lake_calls.specs.CallExceptions.{ByBranch, CallMet, guard_of, last_guard}
+use Rattle.lake_calls.specs.CallRefusals.{IsClashOf, IsToldOf, PointPasses, PointRefused, StepPasses, names_of, step_causes}
 use Rattle.lake_calls.specs.Courses.{CallPoint, Fixed, Looks, Makes, call_course}
-use Rattle.lake_calls.specs.DoneReplies.{IsDone, is_upload}
-use Rattle.lake_calls.specs.LakeRules.{by_caller, lake_rules}
+use Rattle.lake_calls.specs.DoneReplies.{IsDone}
+use Rattle.lake_calls.specs.LakeRules.{lake_rules}
 use Rattle.lake_calls.specs.declared.call.Call.{Call}
 use Rattle.lake_calls.specs.declared.reply.CallReply.{CallReply}
 use Rattle.lake_calls.specs.declared.reply.CallReply.TheVariants as reply
 use Rattle.lake_calls.specs.declared.reply.Done.{Done as DoneReply}
-use Rattle.lake_calls.specs.declared.reply.Refusal.{Refusal}
 use Rattle.lake_calls.specs.declared.reply.Refusal.TheVariants as refusal
+use Rattle.flow_steps.specs.FlowAnswers.{asked_at}
 use Rattle.flow_steps.specs.FlowSeats.{opened_state, state_at}
-use Rattle.flow_steps.specs.FlowTries.{Guarded, IsRefused, Steps, TryEnds}
-use Rattle.flow_steps.proofs.FlowEndLemmas.{HasReached, moved, reached_on, reached_reading, reached_step, served_done, served_faulted}
-use Rattle.write_flow.specs.declared.answer.FlowFault.{FlowFault}
-use Rattle.write_flow.specs.declared.answer.FlowFault.TheVariants.{Step, TooManyTries, NoPath, NoMemory}
-use Rattle.write_flow.specs.FlowFaults.{IsFlowTold}
-use Rattle.write_flow.specs.WriteFlows.{asked_at}
-use Rattle.write_flow.specs.WriteTries.{HaveChanged, TriesEnd}
+use Rattle.flow_steps.specs.FlowTries.{Guarded, IsRefused, TryEnds}
+use Rattle.flow_steps.proofs.FlowEndLemmas.{HasReached, moved, reached_on, reached_reading, served_done, served_faulted}
 
 -- A call is served by a guarded change of a branch, behind these points: its course, what refuses its step, and what it is
 -- told.
 pub record Serves (call : Call) (moment : ℕ) (front : List CallPoint) (repo branch : List ℕ) (guarded : Guarded)
     (Tells : Option EntryValue → DoneReply → Type 0) : Type 1 where
   pub early : (s : State) → first_cause (with_branch s repo branch no_causes) ≡ guarded.early s
+  pub guards : (given : VersionsGiven) → guarded.version given ≡ branch_version given repo branch
   -- some operation of its kind, by which its step is refused
   pub some : Operation
   pub some_fixed : Fixed
@@ -169,10 +164,9 @@ module _ (origin : LakeOrigin) (by : Caller) (call : Call) (moment : ℕ) (front
   pub stops_memory : (found : List HistoryEntry) (met : CallMet) → Came lake_rules by from found → Stops met reply.NoMemory found
   stops_memory found met came = stops_by found met reply.NoMemory came (ByMemory refl)
 
-  pub stops_tries : (first last : ℕ) (found : List HistoryEntry) (met : CallMet) → met.changed ≡ 10
-      → HaveChanged origin by repo branch 10 first last from found
+  pub stops_tries : (found : List HistoryEntry) (met : CallMet) → met.changed ≡ 10 → Came lake_rules by from found
       → 10 ≤ count_of (of_other_seat by.seat (gives_branch repo branch)) (drop (length before) found)
       → Stops met (reply.Refused refusal.TooManyTries) found
-  stops_tries first last found met ten have enough =
-      stops_by found met (reply.Refused refusal.TooManyTries) have.came
+  stops_tries found met ten came enough =
+      stops_by found met (reply.Refused refusal.TooManyTries) came
       (ByCause (λ none. absurd cc) (inl (record { guard = ByBranch repo branch; guarded = serves.some_guard; ten = ten; entries = enough }, refl)))

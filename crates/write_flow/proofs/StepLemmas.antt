@@ -1,22 +1,21 @@
 -- One try, by what its reading and its step told.
-use Rattle.std.proofs.Common.{◌≡◌, ◌≤◌, ◌+◌, ◌⊎◌, inl, inr, ℕ, Bool, true, false, List, [], ◌∷◌, ◌++◌, Option, Some, None, Result, Ok, Err, refl, sym, ap}
+use Rattle.std.proofs.Common.{◌≡◌, ◌+◌, ℕ, List, [], ◌∷◌, ◌++◌, Option, Some, None, Result, Ok, Err, refl, sym, ap}
 use Rattle.std.proofs.Common.{subst, ◌∙◌}
-use Rattle.std.specs.Prelude.{IsErrOf, IsSomeAnd, ◌==◌, option_and_then, option_map}
-use Rattle.std.specs.FinMap.{get}
+use Rattle.std.specs.Prelude.{IsSomeAnd, ◌==◌, option_and_then, option_map}
+use Rattle.std.proofs.lemmas.Bool.{eqb-true}
 use Rattle.std.proofs.lemmas.List.{append-nil}
 use Rattle.lake_values.specs.Entry.{EntryValue}
 use Rattle.lake_values.specs.declared.entry.Change.{Change}
 use Rattle.commit_graph.specs.Expressions.{RefExprValue}
 use Rattle.lake_model.specs.declared.fault.StepFault.{StepFault}
-use Rattle.lake_model.specs.declared.fault.StepFault.TheVariants.{Stopped, HistoryFull, NoRepo, NoRef, NoParent, NoNote, Exists, DefaultBranch, Protected}
-use Rattle.lake_model.specs.declared.fault.StepFault.TheVariants.{Changed, NoPath, Expired, NameClash, StoreFault, NoMemory}
+use Rattle.lake_model.specs.declared.fault.StepFault.TheVariants.{StoreFault, NoMemory}
 use Rattle.lake_model.specs.declared.history.By.{By}
 use Rattle.lake_model.specs.declared.history.HistoryEntry.{HistoryEntry}
 use Rattle.lake_model.specs.declared.history.Operation.{Operation}
 use Rattle.lake_model.specs.declared.history.Operation.TheVariants.{Stage, Copy}
 use Rattle.lake_model.specs.declared.history.CopySource.{CopySource}
 use Rattle.lake_model.specs.declared.reply.Versions.{Versions}
-use Rattle.lake_model.specs.State.{Repository, State}
+use Rattle.lake_model.specs.State.{State}
 use Rattle.lake_model.specs.History.{accepted_entry, faulted_entry}
 use Rattle.lake_model.specs.Readings.{versions_reply}
 use Rattle.lake_model.specs.Refusals.{Causes, GivesOrFails, IsRefusal, first_cause, no_causes, with_branch}
@@ -36,12 +35,12 @@ use Rattle.call_placement.specs.Sessions.{caller}
 use Rattle.call_placement.proofs.WalkLemmas.{came_on}
 use Rattle.lake_calls.specs.LakeRules.{lake_rules}
 use Rattle.flow_steps.specs.FlowSeats.{GoesOn, given_at, state_at}
-use Rattle.flow_steps.specs.FlowTries.{Guarded, HasTried, StoreFailed, TryEnds, copying, staging}
+use Rattle.flow_steps.specs.FlowTries.{Guarded, HasTried, StoreFailed, TryEnds, copying, first_before_versions, staging}
 use Rattle.flow_steps.proofs.SeatFlowLemmas.{answer_changed, answer_read, came_to_change, came_to_reading, entries_by, entry_stands, goes_by_change}
 use Rattle.flow_steps.proofs.SeatFlowLemmas.{goes_by_reading}
 use Rattle.flow_steps.proofs.SeatFlowLemmas.{as_found, goes_further}
 use Rattle.flow_steps.proofs.TryLemmas.{IsVersionRead, accepted, faulted, not_made, reading_refusal_is, unread, version_read}
-use Rattle.flow_steps.proofs.VersionCauseLemmas.{AsksNone, Decides, copy_asks, decided, write_asks}
+use Rattle.flow_steps.proofs.VersionCauseLemmas.{AsksNone, Decides, copy_asks, current_where_none, decided, write_asks}
 
 not_store : (fault : StepFault) → IsRefusal fault → fault ≡ StoreFault → ⊥
 not_store fault is same = subst IsRefusal same is
@@ -107,7 +106,8 @@ module _ {K : Type 0} (view : KeeperView K) (old mid new : LakeSeat) (call : ℕ
 
   module _ {X : Type 0} (making : LakeValue K → Option Making) (StepAnswers : LakeValue K → Type 0) (result : Result X StepFault)
       (changed : IsChanged view (record { seat = mid.number; call = call }) mid new making StepAnswers result)
-      (c : State → Causes) (asks : (s : State) → AsksNone (c s)) (late : (s : State) → first_cause (c s) ≡ guarded.late s)
+      (c : State → Causes) (asks : (s : State) → AsksNone (c s)) (ahead : (s : State) → first_before_versions (c s) ≡ guarded.ahead s)
+      (late : (s : State) → first_cause (c s) ≡ guarded.late s)
       (decides : Decides (with_current_branch (given_at origin changed.found.history) repo branch read_versions.version
       (c (state_at origin changed.found.history))) result) where
     abbrev found : List HistoryEntry
@@ -134,6 +134,17 @@ module _ {K : Type 0} (view : KeeperView K) (old mid new : LakeSeat) (call : ℕ
         ∙ without_versions (c (state_at origin found)) (read_versions.version == branch_version (given_at origin found) repo branch)
         (branch_version (given_at origin found) repo branch) (settings_version (given_at origin found) repo) (asks (state_at origin found)).unasked none
 
+    -- and the version is the one that was read
+    same_version : first_cause (with_current_branch (given_at origin found) repo branch read_versions.version (c (state_at origin found))) ≡ None
+        → guarded.version (given_at origin found) ≡ guarded.version (given_at origin mid.seen)
+    same_version none =
+        guards (given_at origin found)
+        ∙ sym (eqb-true read_versions.version (branch_version (given_at origin found) repo branch)
+        (current_where_none (c (state_at origin found)) (read_versions.version == branch_version (given_at origin found) repo branch)
+        (branch_version (given_at origin found) repo branch) (settings_version (given_at origin found) repo) none))
+        ∙ was_read.1
+        ∙ sym (guards (given_at origin mid.seen))
+
     own_by : (operation : Operation) → accepted_entry by operation ≡ accepted_entry (record { seat = old.number; call = call }) operation
     own_by operation = ap (λ n. accepted_entry (record { seat = n; call = call }) operation) mid_number
 
@@ -145,7 +156,7 @@ module _ {K : Type 0} (view : KeeperView K) (old mid new : LakeSeat) (call : ℕ
       origin = origin;
       goes = goes;
       ends = accepted origin (caller old.number call) guarded old.seen mid.seen to_reading reading_none found to_step told operation new.seen
-          (late_none none) makes
+          (late_none none) makes (same_version none)
           (stands ∙ ap (λ es. found ++ es) (is ∙ ap (λ e. e ∷ []) (own_by operation)));
       store = λ is. absurd cc;
     }
@@ -158,7 +169,7 @@ module _ {K : Type 0} (view : KeeperView K) (old mid new : LakeSeat) (call : ℕ
       origin = origin;
       goes = goes;
       ends = faulted origin (caller old.number call) guarded old.seen mid.seen to_reading reading_none found to_step told operation new.seen
-          (late_none none) makes
+          (late_none none) makes (same_version none)
           (stands
           ∙ ap (λ es. found ++ es) (is ∙ ap (λ n. faulted_entry (record { seat = n; call = call }) operation ∷ []) mid_number));
       store = λ is. failed;
@@ -182,7 +193,8 @@ module _ {K : Type 0} (view : KeeperView K) (old mid new : LakeSeat) (call : ℕ
       ends = subst (λ es. TryEnds origin (caller old.number call) guarded (Err fault) old.seen es)
           (sym (stands ∙ ap (λ es. found ++ es) none ∙ append-nil found))
           (not_made origin (caller old.number call) guarded old.seen mid.seen to_reading reading_none found to_step (c (state_at origin found)) repo branch
-          read_versions.version fault is_refusal (asks (state_at origin found)) (late (state_at origin found)) guards
+          read_versions.version fault is_refusal (asks (state_at origin found)) (late (state_at origin found))
+          (ahead (state_at origin found)) guards
           (was_read.1 ∙ sym (guards (given_at origin mid.seen))) first);
       store = λ is. absurd (not_store fault is_refusal (let same : Err fault ≡ Err StoreFault = is in cc (same)));
     }
@@ -232,22 +244,22 @@ module _ {K : Type 0} (view : KeeperView K) (old mid new : LakeSeat) (call : ℕ
   stage_tried (Ok at) changed =
       step_accepted view old mid new call (staging repo branch path change) repo branch read_versions (λ s. refl) (λ given. refl) read
       (λ (l : LakeValue K). Some (stage repo branch path change (lake_value l.present))) _ (Ok at) changed
-      (λ s. write_causes s repo branch) (λ s. write_asks s repo branch) (λ s. refl) (decides_stage (Ok at) changed)
+      (λ s. write_causes s repo branch) (λ s. write_asks s repo branch) (λ s. refl) (λ s. refl) (decides_stage (Ok at) changed)
       None (Stage repo branch path change) (decides_stage (Ok at) changed) (refl, refl) refl
   stage_tried (Err StoreFault) changed =
       step_faulted view old mid new call (staging repo branch path change) repo branch read_versions (λ s. refl) (λ given. refl) read
       (λ (l : LakeValue K). Some (stage repo branch path change (lake_value l.present))) _ (Err StoreFault) changed
-      (λ s. write_causes s repo branch) (λ s. write_asks s repo branch) (λ s. refl) (decides_stage (Err StoreFault) changed)
+      (λ s. write_causes s repo branch) (λ s. write_asks s repo branch) (λ s. refl) (λ s. refl) (decides_stage (Err StoreFault) changed)
       None (Stage repo branch path change) (decides_stage (Err StoreFault) changed) (refl, refl)
       (store_failed view old mid new read_versions repo branch read call _ _ (Err StoreFault) changed changed.leaves.1.rose) refl
   stage_tried (Err NoMemory) changed =
       step_without_memory view old mid new call (staging repo branch path change) repo branch read_versions (λ s. refl) (λ given. refl) read
       (λ (l : LakeValue K). Some (stage repo branch path change (lake_value l.present))) _ (Err NoMemory) changed
-      (λ s. write_causes s repo branch) (λ s. write_asks s repo branch) (λ s. refl) (decides_stage (Err NoMemory) changed) refl
+      (λ s. write_causes s repo branch) (λ s. write_asks s repo branch) (λ s. refl) (λ s. refl) (decides_stage (Err NoMemory) changed) refl
   stage_tried (Err fault) changed =
       step_refused view old mid new call (staging repo branch path change) repo branch read_versions (λ s. refl) (λ given. refl) read
       (λ (l : LakeValue K). Some (stage repo branch path change (lake_value l.present))) _ (Err fault) changed
-      (λ s. write_causes s repo branch) (λ s. write_asks s repo branch) (λ s. refl) (decides_stage (Err fault) changed)
+      (λ s. write_causes s repo branch) (λ s. write_asks s repo branch) (λ s. refl) (λ s. refl) (decides_stage (Err fault) changed)
       fault tt (decides_stage (Err fault) changed) refl
 
 -- ---- an entry that is copied
@@ -346,6 +358,7 @@ module _ {K : Type 0} (view : KeeperView K) (old mid new : LakeSeat) (call : ℕ
       subst (λ o. HasTried (copying repo branch path e from) call old new (Ok o)) told
       (step_accepted view old mid new call (copying repo branch path e from) repo branch read_versions (λ s. refl) (λ given. refl) read
       CopyMaking (CopyAnswers (Ok copied)) (Ok copied) changed (λ s. copy_causes_of s repo branch e from) (λ s. copy_asks s repo branch e from) (λ s. refl)
+      (λ s. refl)
       (decided_copy (Ok copied) changed) (copied_entry (state_of l) repo e from) where_from.operation (decided_copy (Ok copied) changed)
       (makes_found (Ok copied) changed (copied_entry (state_of l) repo e from) where_from.operation where_from.makes)
       (ap (λ m. entries_by view by m (Ok copied)) where_from.made ∙ ap (λ o. accepted_entry by o ∷ []) where_from.is))
@@ -355,7 +368,7 @@ module _ {K : Type 0} (view : KeeperView K) (old mid new : LakeSeat) (call : ℕ
       let where_from = copied_where view by repo branch path from e l _ changed.leaves.1 in
       step_faulted view old mid new call (copying repo branch path e from) repo branch read_versions (λ s. refl) (λ given. refl) read
       CopyMaking (CopyAnswers (Err StoreFault)) (Err StoreFault) changed (λ s. copy_causes_of s repo branch e from) (λ s. copy_asks s repo branch e from)
-      (λ s. refl) (decided_copy (Err StoreFault) changed) (copied_entry (state_of l) repo e from) where_from.operation
+      (λ s. refl) (λ s. refl) (decided_copy (Err StoreFault) changed) (copied_entry (state_of l) repo e from) where_from.operation
       (decided_copy (Err StoreFault) changed)
       (makes_found (Err StoreFault) changed (copied_entry (state_of l) repo e from) where_from.operation where_from.makes)
       (store_failed view old mid new read_versions repo branch read call CopyMaking (CopyAnswers (Err StoreFault)) (Err StoreFault) changed
@@ -364,8 +377,8 @@ module _ {K : Type 0} (view : KeeperView K) (old mid new : LakeSeat) (call : ℕ
   copy_tried (Err NoMemory) changed =
       step_without_memory view old mid new call (copying repo branch path e from) repo branch read_versions (λ s. refl) (λ given. refl) read
       CopyMaking (CopyAnswers (Err NoMemory)) (Err NoMemory) changed (λ s. copy_causes_of s repo branch e from) (λ s. copy_asks s repo branch e from)
-      (λ s. refl) (decided_copy (Err NoMemory) changed) refl
+      (λ s. refl) (λ s. refl) (decided_copy (Err NoMemory) changed) refl
   copy_tried (Err fault) changed =
       step_refused view old mid new call (copying repo branch path e from) repo branch read_versions (λ s. refl) (λ given. refl) read
       CopyMaking (CopyAnswers (Err fault)) (Err fault) changed (λ s. copy_causes_of s repo branch e from) (λ s. copy_asks s repo branch e from)
-      (λ s. refl) (decided_copy (Err fault) changed) fault tt (decided_copy (Err fault) changed) refl
+      (λ s. refl) (λ s. refl) (decided_copy (Err fault) changed) fault tt (decided_copy (Err fault) changed) refl

@@ -1,7 +1,6 @@
 -- A number that was given out to an upload, and its ticket.
-use Rattle.std.proofs.Common.{◌≡◌, ◌+◌, ℕ, List, [], ◌∷◌, ◌++◌, Option, Some, None, Result, Ok, Err, refl, sym, ap, subst, ◌∙◌}
+use Rattle.std.proofs.Common.{◌≡◌, ◌+◌, ℕ, List, [], ◌∷◌, ◌++◌, Option, Some, None, Result, Ok, refl, sym, ap, subst, ◌∙◌}
 use Rattle.lake_model.specs.declared.fault.StepFault.{StepFault}
-use Rattle.lake_model.specs.declared.history.By.{By}
 use Rattle.lake_model.specs.declared.history.HistoryEntry.{HistoryEntry}
 use Rattle.lake_model.specs.declared.history.Operation.TheVariants.{TicketTake}
 use Rattle.lake_model.specs.State.{State}
@@ -23,10 +22,11 @@ use Rattle.call_placement.specs.Points.{Came}
 use Rattle.call_placement.specs.Sessions.{caller}
 use Rattle.lake_calls.specs.Calls.{UploadCall}
 use Rattle.lake_calls.specs.LakeRules.{by_caller, lake_rules}
+use Rattle.flow_steps.specs.FlowAnswers.{asked_at}
 use Rattle.flow_steps.specs.FlowSeats.{GoesOn, opened_state, state_at}
 use Rattle.flow_steps.proofs.FlowEndLemmas.{HasReached}
-use Rattle.flow_steps.proofs.SeatFlowLemmas.{answer_changed, as_found, came_to_change, entry_stands, goes_by_change}
-use Rattle.write_flow.specs.WriteFlows.{asked_at}
+use Rattle.flow_steps.proofs.SeatFlowLemmas.{answer_changed, came_to_change, entry_stands, goes_by_change}
+use Rattle.write_flow.specs.Uploads.{HasTakenNumber}
 use Rattle.write_flow.proofs.TicketFlowLemmas.{ticket_taken}
 use Rattle.write_flow.proofs.UploadLemmas.{to_take, took}
 use Rattle.lake_calls.specs.declared.call.Call.TheVariants.{Objects}
@@ -84,6 +84,19 @@ module _ {K : Type 0} (view : KeeperView K) (old mid : LakeSeat) (call at number
 
   came : Came lake_rules (caller old.number call) old.seen found
   came = came_to_change view old mid call Takes TakeAnswers (handed at number) changed
+
+  pub taken_made : HasTakenNumber u.repo u.branch call old mid (Ok number)
+  taken_made = record {
+    origin = taken_origin;
+    goes = taken_goes;
+    ends = (
+      TicketTake u.repo u.branch number,
+      found,
+      record { came = came; none = given_here.0; makes = (given_here.1, refl) },
+      entry_is,
+    );
+    store = λ is. absurd cc;
+  }
 
   pub taken_reached : HasReached (opened_state taken_origin) (caller old.number call) (asked_at (Objects (object.Upload u)) moment)
       (to_take u moment number) old.seen mid.seen

@@ -1,41 +1,33 @@
 -- An upload's ticket, taken and given up.
-use Rattle.std.proofs.Common.{◌≡◌, ◌+◌, ◌||◌, ℕ, Bool, true, false, not, cond, nat_lt, List, [], ◌∷◌, ◌++◌, length, Option, Some, None, Result, Ok, Err, refl}
+use Rattle.std.proofs.Common.{◌≡◌, ◌+◌, ◌||◌, ℕ, Bool, true, false, not, cond, nat_lt, List, length, Option, Some, None, Result, Ok, Err, refl}
 use Rattle.std.proofs.Common.{sym, ap, subst, ◌∙◌}
-use Rattle.std.proofs.Common.{◌⊎◌, inl, inr}
+use Rattle.std.proofs.Common.{inr}
 use Rattle.std.specs.FinMap.{get, get-insert}
-use Rattle.std.specs.Ordering.{nat_cmp, eq_by_cmp}
 use Rattle.std.specs.Cmp.{eq_by_cmp_equiv, nat_cmp_total}
 use Rattle.std.proofs.lemmas.List.{append-nil}
 use Rattle.lake_values.specs.Entry.{EntryValue}
 use Rattle.lake_values.specs.declared.entry.Change.TheVariants.{Put}
 use Rattle.lake_model.specs.declared.fault.StepFault.{StepFault}
 use Rattle.lake_model.specs.declared.fault.StepFault.TheVariants as step
-use Rattle.lake_model.specs.declared.history.By.{By}
-use Rattle.lake_model.specs.declared.history.HistoryEntry.{HistoryEntry}
-use Rattle.lake_model.specs.declared.history.Operation.TheVariants.{TicketDrop, TicketTake}
 use Rattle.lake_model.specs.State.{State}
-use Rattle.lake_model.specs.History.{accepted_entry, after, faulted_entry, replay}
 use Rattle.lake_model.specs.Refusals.{GivesOrFails, IsRefusal, cause_if, causes_of_change, first_cause, no_causes}
-use Rattle.lake_model.specs.Steps.{drop_ticket_reply, take_ticket_reply, write_causes}
+use Rattle.lake_model.specs.Steps.{drop_ticket_reply}
 use Rattle.lake_model.specs.Uncommitted.{HasTicket, after_ticket_take}
-use Rattle.lake_laws.proofs.HistoryLemmas.{replay-append}
-use Rattle.lake_laws.proofs.TicketLemmas.{ticket_left}
-use Rattle.core_state.specs.LakeStates.{lake_value, state_of}
 use Rattle.core_puts.specs.KeeperViews.{KeeperView}
 use Rattle.core_puts.specs.KeptChanges.{Making}
 use Rattle.lake_core.specs.declared.standing.LakeOrigin.{LakeOrigin}
-use Rattle.lake_core.specs.Lakes.{LakeValue, state, versions}
-use Rattle.lake_core.specs.Makings.{drop_ticket, take_ticket}
-use Rattle.shared_lake.specs.SeatSteps.{Finds, IsChanged, LakeSeat, origin_of}
+use Rattle.lake_core.specs.Lakes.{LakeValue, state}
+use Rattle.lake_core.specs.Makings.{drop_ticket}
+use Rattle.shared_lake.specs.SeatSteps.{IsChanged, LakeSeat, origin_of}
 use Rattle.call_placement.specs.Points.{Came}
 use Rattle.call_placement.specs.Sessions.{caller}
-use Rattle.lake_calls.specs.LakeRules.{by_caller, is_closed, lake_rules}
-use Rattle.flow_steps.specs.FlowSeats.{GoesOn, opened_state, state_at}
-use Rattle.flow_steps.specs.FlowTries.{StoreFailed, staging}
-use Rattle.flow_steps.proofs.SeatFlowLemmas.{answer_changed, as_found, came_to_change, entry_stands, goes_by_change}
+use Rattle.lake_calls.specs.LakeRules.{is_closed, lake_rules}
+use Rattle.flow_steps.specs.declared.answer.FlowAnswer.{FlowAnswer}
+use Rattle.flow_steps.specs.FlowSeats.{GoesOn, state_at}
+use Rattle.flow_steps.specs.FlowTries.{staging}
+use Rattle.flow_steps.proofs.SeatFlowLemmas.{answer_changed, came_to_change, entry_stands, goes_by_change}
 use Rattle.flow_steps.proofs.VersionCauseLemmas.{Decides, decided}
 use Rattle.write_flow.specs.declared.answer.Done.{Done}
-use Rattle.write_flow.specs.declared.answer.FlowAnswer.{FlowAnswer}
 use Rattle.write_flow.specs.declared.answer.FlowFault.{FlowFault}
 use Rattle.write_flow.specs.declared.answer.FlowFault.TheVariants.{Step, NoMemory}
 use Rattle.write_flow.specs.Uploads.{BodyTried, Closed, Dropped, GaveUp, Starved, StoreFailing, answer_of_drop, refused_at, told_by}
@@ -93,7 +85,7 @@ module _ {K : Type 0} (view : KeeperView K) (old new : LakeSeat) (call number : 
   pub drop_came : Came lake_rules (caller old.number call) old.seen changed.found.history
   drop_came = came_to_change view old new call Making_of Answers result changed
 
-module _ {K : Type 0} (view : KeeperView K) (old new : LakeSeat) (call number : ℕ) (fault : FlowFault) (answer : FlowAnswer Done) where
+module _ {K : Type 0} (view : KeeperView K) (old new : LakeSeat) (call number : ℕ) (fault : FlowFault) (answer : FlowAnswer Done FlowFault) where
   abbrev Drops : Result ℕ StepFault → Type 0
   Drops result = IsChanged view (record { seat = old.number; call = call }) old new (λ (l : LakeValue K). Some (drop_ticket number))
       (λ (l : LakeValue K). GivesOrFails result (drop_ticket_reply (state l))) result
@@ -159,11 +151,21 @@ module _ {K : Type 0} (view : KeeperView K) (old new : LakeSeat) (call number : 
 
 -- ---- a body that was staged
 
-pub body_tried : (repo branch path : List ℕ) (entry : EntryValue) (call : ℕ) (old new : LakeSeat) (outcome : Result (Option EntryValue) FlowFault)
-    (result : Result EntryValue FlowFault) → result ≡ told_by outcome (Put entry)
-    → HaveTried (staging repo branch path (Put entry)) repo branch call old new outcome → BodyTried repo branch path entry call old new result
-body_tried repo branch path entry call old new (Ok copied) result is tried =
-    subst (BodyTried repo branch path entry call old new) (sym is)
-    (inr (subst (λ o. HaveTried (staging repo branch path (Put entry)) repo branch call old new (Ok o)) tried.ends.2.makes.0 tried, refl))
-body_tried repo branch path entry call old new (Err fault) result is tried =
-    subst (BodyTried repo branch path entry call old new) (sym is) (inr (tried, tt))
+pub body_tried : (repo branch path : List ℕ) (entry : EntryValue) (call : ℕ) (old new : LakeSeat) (paused pauses : Option ℕ)
+    (outcome : Result (Option EntryValue) FlowFault) (result : Result EntryValue FlowFault) → result ≡ told_by outcome (Put entry)
+    → HaveTried (staging repo branch path (Put entry)) call old new paused pauses outcome
+    → (versions : List ℕ) × BodyTried repo branch path entry call old new paused pauses versions result
+body_tried repo branch path entry call old new paused pauses (Ok copied) result is tried =
+    let none : copied ≡ None = tried.ends.1.2.makes.0 in (
+      tried.versions,
+      subst (BodyTried repo branch path entry call old new paused pauses tried.versions) (sym is)
+          (inr (told_none copied none tried)),
+    )
+  where
+    told_none : (copied : Option EntryValue) → copied ≡ None
+        → (tried : HaveTried (staging repo branch path (Put entry)) call old new paused pauses (Ok copied))
+        → (other : HaveTried (staging repo branch path (Put entry)) call old new paused pauses (Ok None)) × (tried.versions ≡ other.versions) × (entry ≡ entry)
+    told_none None none tried = (tried, refl, refl)
+    told_none (Some other) none tried = absurd cc
+body_tried repo branch path entry call old new paused pauses (Err fault) result is tried =
+    (tried.versions, subst (BodyTried repo branch path entry call old new paused pauses tried.versions) (sym is) (inr (tried, refl, tt)))

@@ -1,7 +1,6 @@
 -- How an upload is answered.
-use Rattle.std.proofs.Common.{◌≡◌, ◌≢◌, ◌⊎◌, inl, inr, ℕ, true, List, [], ◌∷◌, ◌++◌, length, Option, Some, None, Result, Ok, Err, refl, sym, ap, subst, ◌∙◌}
-use Rattle.std.specs.Prelude.{IfOk, IsErrOf}
-use Rattle.lake_base.specs.Outside.{Rose}
+use Rattle.std.proofs.Common.{◌≡◌, inl, inr, ℕ, true, List, [], ◌∷◌, ◌++◌, length, Option, Some, None, Result, Ok, Err, refl, sym, ap, subst, ◌∙◌}
+use Rattle.std.specs.Prelude.{IsErrOf}
 use Rattle.lake_values.specs.Entry.{EntryValue}
 use Rattle.lake_values.specs.declared.entry.Change.TheVariants as change
 use Rattle.lake_model.specs.declared.fault.StepFault.TheVariants as step
@@ -14,14 +13,15 @@ use Rattle.lake_model.specs.declared.fault.StepFault.{StepFault}
 use Rattle.lake_model.specs.Uncommitted.{HasTicket}
 use Rattle.core_puts.specs.KeeperViews.{KeeperView}
 use Rattle.lake_core.specs.Lakes.{LakeValue, state}
+use Rattle.lake_model.specs.Versions.{VersionsGiven, branch_version}
 use Rattle.shared_lake.specs.SeatSteps.{Finds, LakeSeat}
 use Rattle.call_placement.specs.Rules.{Caller}
 use Rattle.call_placement.specs.Points.{Came}
-use Rattle.call_placement.specs.Served.{ByCause, ByMemory}
+use Rattle.call_placement.specs.Served.{ByCause}
 use Rattle.call_placement.specs.Sessions.{caller}
 use Rattle.call_placement.proofs.WalkLemmas.{came_on, nothing_came}
 use Rattle.lake_calls.specs.Calls.{UploadCall}
-use Rattle.lake_calls.specs.CallExceptions.{ByBranch, guard_of}
+use Rattle.lake_calls.specs.CallExceptions.{ByBranch, Counts, HasRisen, guard_of}
 use Rattle.lake_calls.specs.CallRefusals.{names_of}
 use Rattle.lake_calls.specs.Courses.{upload_entry}
 use Rattle.lake_calls.specs.LakeRules.{by_caller, is_closed, lake_rules}
@@ -30,21 +30,23 @@ use Rattle.lake_calls.specs.declared.objects.ObjectCall.TheVariants as object
 use Rattle.lake_calls.specs.declared.reply.CallReply.{CallReply}
 use Rattle.lake_calls.specs.declared.reply.CallReply.TheVariants as reply
 use Rattle.lake_calls.specs.declared.reply.Refusal.TheVariants as refusal
+use Rattle.flow_steps.specs.declared.answer.FlowAnswer.{FlowAnswer}
+use Rattle.flow_steps.specs.FlowAnswers.{BlockCounts, asked_at}
 use Rattle.flow_steps.specs.FlowSeats.{GoesOn, opened_state, state_at}
 use Rattle.flow_steps.specs.FlowTries.{Guarded, IsRefused, StoreFailed, staging}
 use Rattle.flow_steps.proofs.FlowEndLemmas.{HasReached}
+use Rattle.flow_steps.proofs.RetryLemmas.{met_by, no_store, one_origin}
 use Rattle.flow_steps.proofs.SeatFlowLemmas.{finds_since, goes_further}
 use Rattle.write_flow.specs.declared.answer.Done.{Done}
-use Rattle.write_flow.specs.declared.answer.FlowAnswer.{FlowAnswer}
 use Rattle.write_flow.specs.declared.answer.FlowFault.{FlowFault}
 use Rattle.write_flow.specs.declared.answer.FlowFault.TheVariants.{Step, TooManyTries, NoPath, BlockFault, NoMemory}
 use Rattle.write_flow.specs.declared.upload.Stored.TheVariants.{Told, Faulted, Refused}
 use Rattle.write_flow.specs.FlowFaults.{IsFlowTold}
 use Rattle.write_flow.specs.Uploads.{BodyStored, Closed, Dropped, GaveUp, IsUploadTold, Starved, StoreFailing, refused_at, stored_of}
-use Rattle.write_flow.specs.WriteFlows.{BlockCounts, IsAnswer, asked_at}
-use Rattle.write_flow.specs.WriteTries.{HaveTried, TriesEnd, versions_found}
-use Rattle.write_flow.proofs.AnswerLemmas.{IsStopping, met_by, no_store, stops_so}
-use Rattle.write_flow.proofs.LoopLemmas.{one_origin}
+use Rattle.write_flow.specs.WriteFlows.{IsAnswer, NeverFall}
+use Rattle.write_flow.specs.WriteTries.{HaveTried}
+use Rattle.write_flow.proofs.AnswerLemmas.{IsStopping, counts_tries, stops_so}
+use Rattle.write_flow.proofs.LoopLemmas.{AllEnd, ends_of}
 use Rattle.write_flow.proofs.ServingLemmas.{Stops, stops_by, stops_memory, tries_done, tries_faulted}
 use Rattle.write_flow.proofs.UploadLemmas.{Staged, broken, closed, dropped, starved, to_take, uploads}
 
@@ -53,16 +55,19 @@ abbrev refusal_of : FlowFault → Result EntryValue FlowFault
 refusal_of fault = Err fault
 
 module _ (u : UploadCall) (moment number call : ℕ) (origin : LakeOrigin) (old mid : LakeSeat) (took : GoesOn origin call old mid) (blocks : BlockCounts)
-    (reached : HasReached (opened_state origin) (caller old.number call) (asked_at (Objects (object.Upload u)) moment)
-    (to_take u moment number) old.seen mid.seen) where
+    (later : NeverFall blocks) (reached : HasReached (opened_state origin) (caller old.number call) (asked_at (Objects (object.Upload u)) moment)
+    (to_take u moment number) old.seen mid.seen) (paused pauses : Option ℕ) where
   abbrev by : Caller
   by = caller old.number call
 
   abbrev entry : EntryValue
   entry = upload_entry u moment number
 
+  abbrev guarded : Guarded
+  guarded = staging u.repo u.branch u.path (change.Put entry)
+
   abbrev Tried : LakeSeat → Result (Option EntryValue) FlowFault → Type 0
-  Tried new result = HaveTried (staging u.repo u.branch u.path (change.Put entry)) u.repo u.branch call mid new result
+  Tried new result = HaveTried guarded call mid new paused pauses result
 
   mid_number : mid.number ≡ old.number
   mid_number = ap (λ (s : LakeSeat). s.number) took.seat
@@ -75,26 +80,28 @@ module _ (u : UploadCall) (moment number call : ℕ) (origin : LakeOrigin) (old 
     tried_goes : GoesOn origin call old new
     tried_goes = goes_further origin call old mid new took (subst (λ (o : LakeOrigin). GoesOn o call mid new) same tried.goes)
 
-    tried_ends : TriesEnd origin by (staging u.repo u.branch u.path (change.Put entry)) u.repo u.branch result mid.seen new.seen
-    tried_ends =
-        subst (λ n. TriesEnd origin (caller n call) (staging u.repo u.branch u.path (change.Put entry)) u.repo u.branch result mid.seen new.seen) mid_number
-        (subst (λ (o : LakeOrigin). TriesEnd o (caller mid.number call) (staging u.repo u.branch u.path (change.Put entry)) u.repo u.branch result
-        mid.seen new.seen) same tried.ends)
+    abbrev EndsAll : LakeOrigin → Caller → Type 0
+    EndsAll origin by = AllEnd origin by guarded u.repo u.branch (uploads u moment number).guards result mid.seen new.seen
+
+    tried_ends : EndsAll origin by
+    tried_ends = subst (λ n. EndsAll origin (caller n call)) mid_number
+        (subst (λ (o : LakeOrigin). EndsAll o (caller mid.number call)) same
+        (ends_of tried.origin (caller mid.number call) guarded u.repo u.branch (uploads u moment number).guards tried.versions result mid.seen tried.between
+        new.seen tried.found tried.ends))
 
     tried_store : IsErrOf result (Step step.StoreFault) → StoreFailed origin
     tried_store is = subst StoreFailed same (tried.store is)
 
-  abbrev Answers : LakeSeat → FlowAnswer Done → Type 0
-  Answers new answer = IsAnswer old new call (Objects (object.Upload u)) moment (IsUploadTold u moment) blocks (versions_found answer.outcome) answer
+  abbrev Answers : LakeSeat → (changed : ℕ) → FlowAnswer Done FlowFault → Type 0
+  Answers new changed answer = IsAnswer old new call (Objects (object.Upload u)) moment (IsUploadTold u moment) blocks changed answer
 
   -- the body became an object
-  pub put_told : (new : LakeSeat) → Tried new (Ok None)
-      → Answers new (record { outcome = Ok (record { at = length new.seen; entry = Some entry }); position = length new.seen; edge = length new.seen })
+  pub put_told : (new : LakeSeat) (tried : Tried new (Ok None)) → Answers new (length tried.versions)
+      (record { outcome = Ok (record { at = length new.seen; entry = Some entry }); position = length new.seen; edge = length new.seen })
   put_told new tried =
-      let met = met_by no_store blocks 0 in
-      let done = tries_done origin by (Objects (object.Upload u)) moment (to_take u moment number) u.repo u.branch
-      (staging u.repo u.branch u.path (change.Put entry)) (Staged u moment number) (uploads u moment number) old.seen mid.seen reached None new.seen met
-      (tried_ends new (Ok None) tried) in
+      let met = met_by no_store blocks (length tried.versions) in
+      let done = tries_done origin by (Objects (object.Upload u)) moment (to_take u moment number) u.repo u.branch guarded (Staged u moment number)
+      (uploads u moment number) old.seen mid.seen reached None new.seen met (tried_ends new (Ok None) tried) in
       record {
         met = met;
         told = reply.Done done.0;
@@ -103,15 +110,17 @@ module _ (u : UploadCall) (moment number call : ℕ) (origin : LakeOrigin) (old 
         faults = refl;
         misses = refl;
         missed_last = refl;
+        counts = later;
         tries = refl;
+        store = λ is. absurd cc;
       }
 
   -- the store failed as it was staged
-  pub put_faulted : (new : LakeSeat) → Tried new (Err (Step step.StoreFault)) → Answers new
+  pub put_faulted : (new : LakeSeat) (tried : Tried new (Err (Step step.StoreFault))) → Answers new (length tried.versions)
       (refused_at (Step step.StoreFault) (length new.seen) (length new.seen))
   put_faulted new tried =
       let failed = tried_store new (Err (Step step.StoreFault)) tried refl in
-      let met = met_by failed.0 blocks 0 in
+      let met = met_by failed.0 blocks (length tried.versions) in
       record {
         met = met;
         told = reply.Refused refusal.StoreFault;
@@ -120,66 +129,68 @@ module _ (u : UploadCall) (moment number call : ℕ) (origin : LakeOrigin) (old 
           origin = origin;
           goes = tried_goes new (Err (Step step.StoreFault)) tried;
           served = tries_faulted origin by (Objects (object.Upload u)) moment (to_take u moment number) u.repo u.branch
-              (staging u.repo u.branch u.path (change.Put entry)) (Staged u moment number) (uploads u moment number) old.seen mid.seen reached new.seen met
+              guarded (Staged u moment number) (uploads u moment number) old.seen mid.seen reached new.seen met
               (tried_ends new (Err (Step step.StoreFault)) tried) (failed.2, refl);
         };
         faults = refl;
         misses = refl;
         missed_last = refl;
+        counts = later;
         tries = refl;
+        store = λ is. failed.1;
       }
 
   -- ---- it was refused behind its ticket
 
-  -- where it stopped, and what its client is told
-  pub record StoppedAt (now : LakeSeat) (fault : FlowFault) : Type 0 where
+  -- where it stopped, and what its client is told, where its tries found another version so often
+  pub record StoppedAt (now : LakeSeat) (changed : ℕ) (fault : FlowFault) : Type 0 where
     pub goes : GoesOn origin call old now
     pub told : CallReply
     pub tells : IsFlowTold (names_of (Objects (object.Upload u))) fault told
-    pub stops : Stops origin by (Objects (object.Upload u)) moment (to_take u moment number) u.repo u.branch
-        (staging u.repo u.branch u.path (change.Put entry)) (Staged u moment number) (uploads u moment number) old.seen mid.seen reached
-        (met_by no_store blocks (versions_found {X = Option EntryValue} (Err fault))) told now.seen
+    pub stops : Stops origin by (Objects (object.Upload u)) moment (to_take u moment number) u.repo u.branch guarded (Staged u moment number)
+        (uploads u moment number) old.seen mid.seen reached (met_by no_store blocks changed) told now.seen
 
-  stopped_in_tries : (now : LakeSeat) (fault : FlowFault) → IsStopping fault → Tried now (Err fault) → StoppedAt now fault
+  stopped_in_tries : (now : LakeSeat) (fault : FlowFault) → IsStopping fault → (tried : Tried now (Err fault)) → StoppedAt now (length tried.versions) fault
   stopped_in_tries now fault stopping tried =
-      let so = stops_so origin by (Objects (object.Upload u)) moment (to_take u moment number) u.repo u.branch
-      (staging u.repo u.branch u.path (change.Put entry)) (Staged u moment number) (uploads u moment number) old.seen mid.seen reached blocks now.seen
-      took.added took.seen fault stopping (tried_ends now (Err fault) tried) in
+      let so = stops_so origin by (Objects (object.Upload u)) moment (to_take u moment number) u.repo u.branch guarded (Staged u moment number)
+      (uploads u moment number) old.seen mid.seen reached blocks (length tried.versions) now.seen took.added took.seen fault stopping
+      (counts_tries guarded call mid now paused pauses fault tried) (tried_ends now (Err fault) tried) in
       record { goes = tried_goes now (Err fault) tried; told = so.0; tells = so.1; stops = so.2 }
 
-  stopped_without_memory : StoppedAt mid NoMemory
+  stopped_without_memory : StoppedAt mid 0 NoMemory
   stopped_without_memory = record {
     goes = took;
     told = reply.NoMemory;
     tells = refl;
-    stops = stops_memory origin by (Objects (object.Upload u)) moment (to_take u moment number) u.repo u.branch
-        (staging u.repo u.branch u.path (change.Put entry)) (Staged u moment number) (uploads u moment number) old.seen mid.seen reached mid.seen
-        (met_by no_store blocks 0) (nothing_came lake_rules by mid.seen);
+    stops = stops_memory origin by (Objects (object.Upload u)) moment (to_take u moment number) u.repo u.branch guarded (Staged u moment number)
+        (uploads u moment number) old.seen mid.seen reached mid.seen (met_by no_store blocks 0) (nothing_came lake_rules by mid.seen);
   }
 
-  stopped_by_blocks : Rose blocks.faults.before blocks.faults.now → StoppedAt mid BlockFault
+  stopped_by_blocks : HasRisen blocks.faults → StoppedAt mid 0 BlockFault
   stopped_by_blocks rose = record {
     goes = took;
     told = reply.Refused refusal.BlockFault;
     tells = refl;
-    stops = stops_by origin by (Objects (object.Upload u)) moment (to_take u moment number) u.repo u.branch
-        (staging u.repo u.branch u.path (change.Put entry)) (Staged u moment number) (uploads u moment number) old.seen mid.seen reached mid.seen
-        (met_by no_store blocks 0) (reply.Refused refusal.BlockFault) (nothing_came lake_rules by mid.seen)
+    stops = stops_by origin by (Objects (object.Upload u)) moment (to_take u moment number) u.repo u.branch guarded (Staged u moment number)
+        (uploads u moment number) old.seen mid.seen reached mid.seen (met_by no_store blocks 0) (reply.Refused refusal.BlockFault)
+        (nothing_came lake_rules by mid.seen)
         (ByCause (λ none. absurd cc)
-        (inr (record { is_upload = refl; behind = guarded; counted = rose }, refl)));
+        (inr (record { is_upload = refl; behind = guards_step; counted = rose }, refl)));
   }
     where
-      guarded : guard_of (uploads u moment number).some ≡ None → ⊥
-      guarded none = let both : Some (ByBranch u.repo u.branch) ≡ None = sym (uploads u moment number).some_guard ∙ none in absurd cc
+      guards_step : guard_of (uploads u moment number).some ≡ None → ⊥
+      guards_step none = let both : Some (ByBranch u.repo u.branch) ≡ None = sym (uploads u moment number).some_guard ∙ none in absurd cc
 
-  pub stopped_at : (now : LakeSeat) (fault : FlowFault) → IsStopping fault
-      → BodyStored u.repo u.branch u.path entry call blocks.faults.before blocks.faults.now mid now (Err fault) → StoppedAt now fault
-  stopped_at now fault stopping stored = elim stored [
-    | inl blocked ↦ subst (λ (s : LakeSeat). StoppedAt s fault) (sym blocked.0)
-        (subst (StoppedAt mid) (sym (same_fault blocked.1)) (stopped_by_blocks blocked.2))
-    | inr (inl starving) ↦ subst (λ (s : LakeSeat). StoppedAt s fault) (sym starving.0)
-        (subst (StoppedAt mid) (sym (same_fault starving.1)) stopped_without_memory)
-    | inr (inr tried) ↦ stopped_in_tries now fault stopping tried.0
+  pub stopped_at : (now : LakeSeat) (versions : List ℕ) (fault : FlowFault) → IsStopping fault
+      → BodyStored u.repo u.branch u.path entry call blocks.faults mid now paused pauses versions (Err fault) → StoppedAt now (length versions) fault
+  stopped_at now versions fault stopping stored = elim stored [
+    | inl blocked ↦ subst (λ (s : LakeSeat). StoppedAt s (length versions) fault) (sym blocked.0)
+        (subst (λ (vs : List ℕ). StoppedAt mid (length vs) fault) (sym blocked.2)
+        (subst (StoppedAt mid 0) (sym (same_fault blocked.3)) (stopped_by_blocks blocked.4)))
+    | inr (inl starving) ↦ subst (λ (s : LakeSeat). StoppedAt s (length versions) fault) (sym starving.0)
+        (subst (λ (vs : List ℕ). StoppedAt mid (length vs) fault) (sym starving.2)
+        (subst (StoppedAt mid 0) (sym (same_fault starving.3)) stopped_without_memory))
+    | inr (inr tried) ↦ subst (λ (vs : List ℕ). StoppedAt now (length vs) fault) (sym tried.1) (stopped_in_tries now fault stopping tried.0)
   ]
     where
       same_fault : {other : FlowFault} → refusal_of fault ≡ refusal_of other → fault ≡ other
@@ -187,7 +198,8 @@ module _ (u : UploadCall) (moment number call : ℕ) (origin : LakeOrigin) (old 
 
   -- ---- and gave its number up
 
-  module _ (now new : LakeSeat) (fault : FlowFault) (answer : FlowAnswer Done) (at : StoppedAt now fault) where
+  module _ (now new : LakeSeat) (changed : ℕ) (fault : FlowFault) (stopping : IsStopping fault) (answer : FlowAnswer Done FlowFault)
+      (at : StoppedAt now changed fault) where
     now_number : now.number ≡ old.number
     now_number = ap (λ (s : LakeSeat). s.number) at.goes.seat
 
@@ -200,70 +212,94 @@ module _ (u : UploadCall) (moment number call : ℕ) (origin : LakeOrigin) (old 
     came_here : (found : List HistoryEntry) → Came lake_rules (caller now.number call) now.seen found → Came lake_rules by now.seen found
     came_here found came = subst (λ n. Came lake_rules (caller n call) now.seen found) now_number came
 
-    abbrev changed : ℕ
-    changed = versions_found {X = Option EntryValue} (Err fault)
-
-    pub put_refused : GaveUp call number now new fault answer → Answers new answer
+    pub put_refused : GaveUp call number now new fault answer → Answers new changed answer
     put_refused (Dropped other found goes came none is answered) =
-        subst (Answers new) (sym answered)
-        (dropped u moment number origin call old mid now new at.goes blocks reached fault changed at.told found at.tells at.stops (goes_here other goes)
-        (came_here found came)
+        subst (Answers new changed) (sym answered)
+        (dropped u moment number origin call old mid now new at.goes blocks later reached changed fault at.told found stopping at.tells at.stops
+        (goes_here other goes) (came_here found came)
         (subst (λ (o : LakeOrigin). first_cause (causes_of_change (state_at o found)) ≡ None) (here other goes.from) none)
         (is ∙ ap (λ n. found ++ accepted_entry (by_caller (caller n call)) (TicketDrop number) ∷ []) now_number))
     put_refused (StoreFailing other found goes came none failed is answered) =
-        subst (Answers new) (sym answered)
-        (broken u moment number origin call old mid now new at.goes blocks reached _ at.told found
+        subst (Answers new changed) (sym answered)
+        (broken u moment number origin call old mid now new at.goes blocks later reached changed _ at.told found
         (subst StoreFailed (here other goes.from) failed) at.stops (goes_here other goes) (came_here found came)
         (subst (λ (o : LakeOrigin). first_cause (causes_of_change (state_at o found)) ≡ None) (here other goes.from) none)
         (is ∙ ap (λ n. found ++ faulted_entry (by_caller (caller n call)) (TicketDrop number) ∷ []) now_number))
     put_refused (Starved other goes came answered) =
-        subst (Answers new) (sym answered)
-        (starved u moment number origin call old mid now new at.goes blocks reached _ at.told at.stops (goes_here other goes) (came_here new.seen came))
+        subst (Answers new changed) (sym answered)
+        (starved u moment number origin call old mid now new at.goes blocks later reached changed _ at.told at.stops (goes_here other goes)
+        (came_here new.seen came))
     put_refused (Closed other goes came shut answered) =
-        subst (Answers new) (sym answered)
-        (closed u moment number origin call old mid now new at.goes blocks reached fault changed at.told at.tells at.stops (goes_here other goes)
+        subst (Answers new changed) (sym answered)
+        (closed u moment number origin call old mid now new at.goes blocks later reached changed fault at.told stopping at.tells at.stops (goes_here other goes)
         (came_here new.seen came) (subst (λ (o : LakeOrigin). is_closed (state_at o new.seen) ≡ true) (here other goes.from) shut))
 
 -- ---- a seat whose call was refused in its tries saw only others' entries
 
-refused_came : (origin : LakeOrigin) (by : Caller) (guarded : Guarded) (fault : StepFault) (from next : List HistoryEntry)
-    → IsRefused origin by guarded fault from next → Came lake_rules by from next
-refused_came origin maker guarded fault from next is =
+refused_came : (origin : LakeOrigin) (by : Caller) (change : Guarded) (fault : StepFault) (from next : List HistoryEntry)
+    → IsRefused origin by change fault from next → Came lake_rules by from next
+refused_came origin maker change fault from next is =
     elim is [ inl early ↦ early.0 | inr late ↦ came_on lake_rules maker from late.0 next late.1 late.3 ]
 
-tries_came : (origin : LakeOrigin) (by : Caller) (guarded : Guarded) (repo branch : List ℕ) (fault : FlowFault) (from next : List HistoryEntry)
-    → IsStopping fault → TriesEnd origin by guarded repo branch (Err fault) from next → Came lake_rules by from next
-tries_came origin maker guarded repo branch (TooManyTries first last) from next stopping ends = ends.came
-tries_came origin maker guarded repo branch NoPath from next stopping ends = refused_came origin maker guarded step.NoPath from next ends
-tries_came origin maker guarded repo branch NoMemory from next stopping ends = ends
-tries_came origin maker guarded repo branch (Step step.StoreFault) from next stopping ends = absurd stopping
-tries_came origin maker guarded repo branch (Step (step.Changed version settings)) from next stopping ends = absurd ends
-tries_came origin maker guarded repo branch (Step step.NoPath) from next stopping ends = absurd ends
-tries_came origin maker guarded repo branch (Step step.NoMemory) from next stopping ends = absurd ends
-tries_came origin maker guarded repo branch (Step fault) from next stopping ends = refused_came origin maker guarded fault from next ends
-tries_came origin maker guarded repo branch fault from next stopping ends = absurd ends
+module _ (origin : LakeOrigin) (by : Caller) (guarded : Guarded) (repo branch : List ℕ)
+    (guards : (given : VersionsGiven) → guarded.version given ≡ branch_version given repo branch) where
+  pub tries_came : (fault : FlowFault) (from next : List HistoryEntry) → IsStopping fault → AllEnd origin by guarded repo branch guards (Err fault) from next
+      → Came lake_rules by from next
+  tries_came (TooManyTries first last) from next stopping ends = ends.came
+  tries_came NoPath from next stopping ends = refused_came origin by guarded step.NoPath from next ends
+  tries_came NoMemory from next stopping ends = ends
+  tries_came (Step step.StoreFault) from next stopping ends = absurd stopping
+  tries_came (Step (step.Changed version settings)) from next stopping ends = absurd ends
+  tries_came (Step step.NoPath) from next stopping ends = absurd ends
+  tries_came (Step step.NoMemory) from next stopping ends = absurd ends
+  tries_came (Step fault) from next stopping ends = refused_came origin by guarded fault from next ends
+  tries_came fault from next stopping ends = absurd ends
 
--- so its ticket is there still
-pub ticket_still : {K : Type 0} (view : KeeperView K) (repo branch path : List ℕ) (entry : EntryValue) (call number faults faults_now : ℕ) (mid now : LakeSeat)
-    (fault : FlowFault) → IsStopping fault → BodyStored repo branch path entry call faults faults_now mid now (Err fault)
-    → ((found : LakeValue K) → Finds view mid found → HasTicket (state found) mid.number number)
-    → (found : LakeValue K) → Finds view now found → HasTicket (state found) now.number number
-ticket_still view repo branch path entry call number faults faults_now mid now fault stopping stored ticket found finds = elim stored [
-  | inl blocked ↦ unmoved blocked.0
-  | inr (inl starving) ↦ unmoved starving.0
-  | inr (inr tried) ↦ moved tried.0
-]
-  where
-    unmoved : now ≡ mid → HasTicket (state found) now.number number
-    unmoved same = subst (λ (s : LakeSeat). HasTicket (state found) s.number number) (sym same)
-        (ticket found (subst (λ (s : LakeSeat). Finds view s found) same finds))
+module _ (repo branch path : List ℕ) (entry : EntryValue) (call : ℕ) (faults : Counts) (mid now : LakeSeat) (paused pauses : Option ℕ) (versions : List ℕ) where
+  abbrev Stored : Result EntryValue FlowFault → Type 0
+  Stored result = BodyStored repo branch path entry call faults mid now paused pauses versions result
 
-    moved : HaveTried (staging repo branch path (change.Put entry)) repo branch call mid now (Err fault) → HasTicket (state found) now.number number
-    moved tried =
-        let came = tries_came tried.origin (caller mid.number call) (staging repo branch path (change.Put entry)) repo branch fault mid.seen now.seen stopping
-        tried.ends in
-        subst (λ n. HasTicket (state found) n number) (sym (ap (λ (s : LakeSeat). s.number) tried.goes.seat))
-        (ticket found (finds_since view tried.origin call mid now tried.goes came found finds))
+  abbrev StagedSo : Result (Option EntryValue) FlowFault → Type 0
+  StagedSo result = HaveTried (staging repo branch path (change.Put entry)) call mid now paused pauses result
+
+  -- so its ticket is there still
+  pub ticket_still : {K : Type 0} (view : KeeperView K) (number : ℕ) (fault : FlowFault) → IsStopping fault → Stored (Err fault)
+      → ((found : LakeValue K) → Finds view mid found → HasTicket (state found) mid.number number)
+      → (found : LakeValue K) → Finds view now found → HasTicket (state found) now.number number
+  ticket_still view number fault stopping stored ticket found finds = elim stored [
+    | inl blocked ↦ unmoved blocked.0
+    | inr (inl starving) ↦ unmoved starving.0
+    | inr (inr tried) ↦ moved tried.0
+  ]
+    where
+      unmoved : now ≡ mid → HasTicket (state found) now.number number
+      unmoved same = subst (λ (s : LakeSeat). HasTicket (state found) s.number number) (sym same)
+          (ticket found (subst (λ (s : LakeSeat). Finds view s found) same finds))
+
+      moved : StagedSo (Err fault) → HasTicket (state found) now.number number
+      moved tried =
+          let by = caller mid.number call in
+          let guarded = staging repo branch path (change.Put entry) in
+          let came = tries_came tried.origin by guarded repo branch (λ given. refl) fault mid.seen now.seen stopping
+          (ends_of tried.origin by guarded repo branch (λ given. refl) tried.versions (Err fault) mid.seen tried.between now.seen tried.found tried.ends) in
+          subst (λ n. HasTicket (state found) n number) (sym (ap (λ (s : LakeSeat). s.number) tried.goes.seat))
+          (ticket found (finds_since view tried.origin call mid now tried.goes came found finds))
+
+  -- an entry that was told was tried
+  pub tried_told : (told : EntryValue) → Stored (Ok told) → (tried : StagedSo (Ok None)) × (versions ≡ tried.versions) × (told ≡ entry)
+  tried_told told (inl blocked) = let no = blocked.3 in absurd cc
+  tried_told told (inr (inl starving)) = let no = starving.3 in absurd cc
+  tried_told told (inr (inr tried)) = tried
+
+  pub tried_faulted : Stored (Err (Step step.StoreFault)) → (tried : StagedSo (Err (Step step.StoreFault))) × (versions ≡ tried.versions)
+  tried_faulted (inl blocked) = let no = blocked.3 in absurd cc
+  tried_faulted (inr (inl starving)) = let no = starving.3 in absurd cc
+  tried_faulted (inr (inr tried)) = (tried.0, tried.1)
+
+  pub moved_seat : (result : Result EntryValue FlowFault) → Stored result → now.turn ≡ mid.turn
+  moved_seat result (inl blocked) = ap (λ (s : LakeSeat). s.turn) blocked.0
+  moved_seat result (inr (inl starving)) = ap (λ (s : LakeSeat). s.turn) starving.0
+  moved_seat result (inr (inr tried)) = ap (λ (s : LakeSeat). s.turn) tried.0.goes.seat
 
 -- what came of a body, told apart
 pub was_told_entry : (result : Result EntryValue FlowFault) (entry : EntryValue) → Told entry ≡ stored_of result → result ≡ Ok entry
@@ -284,28 +320,3 @@ was_refused_body (Ok other) fault is = absurd cc
 was_refused_body (Err (Step step.StoreFault)) fault is = absurd cc
 was_refused_body (Err (Step other)) fault is = let same : Step other ≡ fault = cc in (subst IsStopping same tt, ap Err same)
 was_refused_body (Err other) fault is = let same : other ≡ fault = cc in (subst IsStopping same tt, ap Err same)
-
--- an entry that was told was tried
-pub tried_told : (repo branch path : List ℕ) (entry told : EntryValue) (call faults faults_now : ℕ) (mid now : LakeSeat) (result : Result EntryValue FlowFault)
-    → result ≡ Ok told → BodyStored repo branch path entry call faults faults_now mid now result
-    → HaveTried (staging repo branch path (change.Put entry)) repo branch call mid now (Ok None) × (told ≡ entry)
-tried_told repo branch path entry told call faults faults_now mid now result is stored =
-    by (subst (BodyStored repo branch path entry call faults faults_now mid now) is stored)
-  where
-    by : BodyStored repo branch path entry call faults faults_now mid now (Ok told)
-        → HaveTried (staging repo branch path (change.Put entry)) repo branch call mid now (Ok None) × (told ≡ entry)
-    by (inl blocked) = let no = blocked.1 in absurd cc
-    by (inr (inl starving)) = let no = starving.1 in absurd cc
-    by (inr (inr tried)) = tried
-
-pub tried_faulted : (repo branch path : List ℕ) (entry : EntryValue) (call faults faults_now : ℕ) (mid now : LakeSeat) (result : Result EntryValue FlowFault)
-    → result ≡ Err (Step step.StoreFault) → BodyStored repo branch path entry call faults faults_now mid now result
-    → HaveTried (staging repo branch path (change.Put entry)) repo branch call mid now (Err (Step step.StoreFault))
-tried_faulted repo branch path entry call faults faults_now mid now result is stored =
-    by (subst (BodyStored repo branch path entry call faults faults_now mid now) is stored)
-  where
-    by : BodyStored repo branch path entry call faults faults_now mid now (Err (Step step.StoreFault))
-        → HaveTried (staging repo branch path (change.Put entry)) repo branch call mid now (Err (Step step.StoreFault))
-    by (inl blocked) = let no = blocked.1 in absurd cc
-    by (inr (inl starving)) = let no = starving.1 in absurd cc
-    by (inr (inr tried)) = tried.0

@@ -1,16 +1,11 @@
 -- An upload, by what its ticket, its tries and its giving up told.
-use Rattle.std.proofs.Common.{◌≡◌, ◌≢◌, ◌≤◌, ◌⊎◌, inl, inr, ℕ, true, false, List, [], ◌∷◌, ◌++◌, length, drop, Option, Some, None, Result, Ok, Err, refl, sym}
-use Rattle.std.proofs.Common.{ap, subst, ◌∙◌}
-use Rattle.std.specs.Prelude.{IfOk}
-use Rattle.std.specs.Option.{option_or}
-use Rattle.std.proofs.lemmas.List.{append-nil}
+use Rattle.std.proofs.Common.{◌≡◌, inl, inr, ℕ, true, false, List, [], ◌∷◌, ◌++◌, length, Option, Some, None, refl}
+use Rattle.std.proofs.Common.{ap}
 use Rattle.lake_values.specs.Entry.{EntryValue}
 use Rattle.lake_values.specs.declared.entry.Change.TheVariants as change
-use Rattle.lake_model.specs.declared.fault.StepFault.{StepFault}
 use Rattle.lake_model.specs.declared.fault.StepFault.TheVariants as step
 use Rattle.lake_model.specs.declared.history.HistoryEntry.{HistoryEntry}
-use Rattle.lake_model.specs.declared.history.Operation.TheVariants.{Stage, TicketDrop, TicketTake}
-use Rattle.lake_model.specs.State.{State}
+use Rattle.lake_model.specs.declared.history.Operation.TheVariants.{TicketDrop, TicketTake}
 use Rattle.lake_model.specs.History.{accepted_entry, faulted_entry}
 use Rattle.lake_model.specs.Refusals.{causes_of_change, first_cause}
 use Rattle.lake_model.specs.Steps.{write_causes}
@@ -18,15 +13,12 @@ use Rattle.lake_core.specs.declared.standing.LakeOrigin.{LakeOrigin}
 use Rattle.shared_lake.specs.SeatSteps.{LakeSeat}
 use Rattle.call_placement.specs.Rules.{Caller}
 use Rattle.call_placement.specs.Points.{Came}
-use Rattle.call_placement.specs.Served.{ByCause, ByMemory, GivenUp, Hinders, IsServed, Keeps, Shut}
+use Rattle.call_placement.specs.Served.{ByMemory, GivenUp, IsServed, Keeps, Shut}
 use Rattle.call_placement.specs.Sessions.{caller}
-use Rattle.lake_laws.specs.VersionGivers.{count_of, gives_branch, of_other_seat}
-use Rattle.lake_laws.proofs.GiverLemmas.{count_append}
-use Rattle.call_placement.proofs.WalkLemmas.{came_on, drop_front, further, nothing_came}
 use Rattle.lake_calls.specs.Calls.{UploadCall}
-use Rattle.lake_calls.specs.CallExceptions.{CallMet, Counts, HasBlockFault, HasRisen}
-use Rattle.lake_calls.specs.CallRefusals.{IsToldOf, PointPasses, names_of}
-use Rattle.lake_calls.specs.Courses.{CallPoint, Fixed, Looks, Makes, nothing_fixed, upload_entry}
+use Rattle.lake_calls.specs.CallExceptions.{CallMet}
+use Rattle.lake_calls.specs.CallRefusals.{PointPasses, names_of}
+use Rattle.lake_calls.specs.Courses.{CallPoint, Fixed, Makes, nothing_fixed, upload_entry}
 use Rattle.lake_calls.specs.DoneReplies.{owed_behind}
 use Rattle.lake_calls.specs.LakeRules.{by_caller, is_closed, lake_rules}
 use Rattle.lake_calls.specs.declared.call.Call.{Call}
@@ -37,19 +29,20 @@ use Rattle.lake_calls.specs.declared.reply.CallReply.TheVariants as reply
 use Rattle.lake_calls.specs.declared.reply.Done.{Done as DoneReply}
 use Rattle.lake_calls.specs.declared.reply.Done.TheVariants as done
 use Rattle.lake_calls.specs.declared.reply.Refusal.TheVariants as refusal
+use Rattle.flow_steps.specs.declared.answer.FlowAnswer.{FlowAnswer}
+use Rattle.flow_steps.specs.FlowAnswers.{BlockCounts, asked_at}
 use Rattle.flow_steps.specs.FlowSeats.{GoesOn, opened_state, state_at}
 use Rattle.flow_steps.specs.FlowTries.{StoreFailed, staging}
 use Rattle.flow_steps.proofs.FlowEndLemmas.{HasReached, moved, reached_nothing, reached_on, reached_step, served_broken, served_stopped}
+use Rattle.flow_steps.proofs.RetryLemmas.{met_by, no_store}
 use Rattle.flow_steps.proofs.SeatFlowLemmas.{goes_further}
 use Rattle.write_flow.specs.declared.answer.Done.{Done}
-use Rattle.write_flow.specs.declared.answer.FlowAnswer.{FlowAnswer}
 use Rattle.write_flow.specs.declared.answer.FlowFault.{FlowFault}
 use Rattle.write_flow.specs.declared.answer.FlowFault.TheVariants.{Step, NoMemory}
 use Rattle.write_flow.specs.FlowFaults.{IsFlowTold}
-use Rattle.write_flow.specs.Uploads.{Closed, Dropped, GaveUp, IsUploadTold, Starved, StoreFailing, refused_at}
-use Rattle.write_flow.specs.WriteFlows.{BlockCounts, IsAnswer, asked_at}
-use Rattle.write_flow.specs.WriteTries.{versions_found}
-use Rattle.write_flow.proofs.AnswerLemmas.{met_by, no_store}
+use Rattle.write_flow.specs.Uploads.{IsUploadTold, refused_at}
+use Rattle.write_flow.specs.WriteFlows.{IsAnswer, NeverFall}
+use Rattle.write_flow.proofs.AnswerLemmas.{IsStopping, no_store_fault}
 use Rattle.write_flow.proofs.InstanceLemmas.{stages}
 use Rattle.write_flow.proofs.ServingLemmas.{Serves, Stops}
 use Rattle.write_flow.proofs.TicketFlowLemmas.{open_of}
@@ -87,7 +80,7 @@ module _ (u : UploadCall) (moment number : ℕ) where
   -- ---- giving up
 
   module _ (origin : LakeOrigin) (call : ℕ) (old mid now new : LakeSeat) (goes : GoesOn origin call old now) (blocks : BlockCounts)
-      (reached : HasReached (opened_state origin) (caller old.number call) (asked_at upload moment) to_take old.seen mid.seen) where
+      (later : NeverFall blocks) (reached : HasReached (opened_state origin) (caller old.number call) (asked_at upload moment) to_take old.seen mid.seen) where
     abbrev by : Caller
     by = caller old.number call
 
@@ -98,84 +91,87 @@ module _ (u : UploadCall) (moment number : ℕ) where
     owes : (met : CallMet) (told : CallReply) (stops : StopsHere met told) → owed_behind stops.passed ≡ Some (TicketDrop number)
     owes met told stops = elim stops.at [ inl take ↦ ap owed_behind take | inr look ↦ ap owed_behind look ]
 
-    abbrev Answers : ℕ → FlowAnswer Done → Type 0
-    Answers changed answer = IsAnswer old new call upload moment (IsUploadTold u moment) blocks changed answer
+    -- what the call's tries found so often
+    module _ (changed : ℕ) where
+      abbrev Answers : FlowAnswer Done FlowFault → Type 0
+      Answers answer = IsAnswer old new call upload moment (IsUploadTold u moment) blocks changed answer
 
-    refusal_answered : (fault : FlowFault) (changed : ℕ) (told : CallReply) (position edge : ℕ) → IsFlowTold (names_of upload) fault told
-        → GoesOn origin call old new
-        → IsServed lake_rules (opened_state origin) by old.seen new.seen (asked_at upload moment) (met_by no_store blocks changed) told position edge
-        → Answers changed (refused_at fault position edge)
-    refusal_answered fault changed told position edge tells all served = record {
-      met = met_by no_store blocks changed;
-      told = told;
-      tells = tells;
-      flow = record { origin = origin; goes = all; served = served };
-      faults = refl;
-      misses = refl;
-      missed_last = refl;
-      tries = refl;
-    }
+      refusal_answered : (fault : FlowFault) (told : CallReply) (position edge : ℕ) → IsStopping fault → IsFlowTold (names_of upload) fault told
+          → GoesOn origin call old new
+          → IsServed lake_rules (opened_state origin) by old.seen new.seen (asked_at upload moment) (met_by no_store blocks changed) told position edge
+          → Answers (refused_at fault position edge)
+      refusal_answered fault told position edge stopping tells all served = record {
+        met = met_by no_store blocks changed;
+        told = told;
+        tells = tells;
+        flow = record { origin = origin; goes = all; served = served };
+        faults = refl;
+        misses = refl;
+        missed_last = refl;
+        counts = later;
+        tries = refl;
+        store = λ is. absurd (no_store_fault fault stopping is);
+      }
 
-    failure_answered : (changed : ℕ) (counts : Counts) → GoesOn origin call old new
-        → IsServed lake_rules (opened_state origin) by old.seen new.seen (asked_at upload moment) (met_by counts blocks changed)
-        (reply.Refused refusal.StoreFault) (length new.seen) (length new.seen)
-        → Answers changed (refused_at (Step step.StoreFault) (length new.seen) (length new.seen))
-    failure_answered changed counts all served = record {
-      met = met_by counts blocks changed;
-      told = reply.Refused refusal.StoreFault;
-      tells = refl;
-      flow = record { origin = origin; goes = all; served = served };
-      faults = refl;
-      misses = refl;
-      missed_last = refl;
-      tries = refl;
-    }
+      -- the drop stood
+      pub dropped : (fault : FlowFault) (told : CallReply) (found : List HistoryEntry) → IsStopping fault → IsFlowTold (names_of upload) fault told
+          → StopsHere (met_by no_store blocks changed) told → GoesOn origin call now new → Came lake_rules by now.seen found
+          → first_cause (causes_of_change (state_at origin found)) ≡ None
+          → new.seen ≡ found ++ accepted_entry (by_caller by) (TicketDrop number) ∷ []
+          → Answers (refused_at fault (length now.seen) (length new.seen))
+      dropped fault told found stopping tells stops more came none is =
+          refusal_answered fault told (length now.seen) (length new.seen) stopping tells (goes_further origin call old now new goes more)
+          (served_stopped (opened_state origin) by (asked_at upload moment)
+          (met_by no_store blocks changed) told uploads.some_fixed old.seen stops.passed stops.left now.seen
+          new.seen (length new.seen) stops.course stops.reaches stops.hinders
+          (GivenUp (TicketDrop number) found (owes (met_by no_store blocks changed) told stops) came
+          (moved (λ s. is_closed s ≡ false) (opened_state origin) found (open_of (state_at origin found) none)) is refl))
 
-    -- the drop stood
-    pub dropped : (fault : FlowFault) (changed : ℕ) (told : CallReply) (found : List HistoryEntry) → IsFlowTold (names_of upload) fault told
-        → StopsHere (met_by no_store blocks changed) told → GoesOn origin call now new → Came lake_rules by now.seen found
-        → first_cause (causes_of_change (state_at origin found)) ≡ None
-        → new.seen ≡ found ++ accepted_entry (by_caller by) (TicketDrop number) ∷ []
-        → Answers changed (refused_at fault (length now.seen) (length new.seen))
-    dropped fault changed told found tells stops more came none is =
-        refusal_answered fault changed told (length now.seen) (length new.seen) tells (goes_further origin call old now new goes more)
-        (served_stopped (opened_state origin) by (asked_at upload moment)
-        (met_by no_store blocks changed) told uploads.some_fixed old.seen stops.passed stops.left now.seen
-        new.seen (length new.seen) stops.course stops.reaches stops.hinders
-        (GivenUp (TicketDrop number) found (owes (met_by no_store blocks changed) told stops) came
-        (moved (λ s. is_closed s ≡ false) (opened_state origin) found (open_of (state_at origin found) none)) is refl))
+      -- the lake takes no more changes
+      pub closed : (fault : FlowFault) (told : CallReply) → IsStopping fault → IsFlowTold (names_of upload) fault told
+          → StopsHere (met_by no_store blocks changed) told → GoesOn origin call now new → Came lake_rules by now.seen new.seen
+          → is_closed (state_at origin new.seen) ≡ true → Answers (refused_at fault (length now.seen) (length now.seen))
+      closed fault told stopping tells stops more came is =
+          refusal_answered fault told (length now.seen) (length now.seen) stopping tells (goes_further origin call old now new goes more)
+          (served_stopped (opened_state origin) by (asked_at upload moment)
+          (met_by no_store blocks changed) told uploads.some_fixed old.seen stops.passed stops.left now.seen
+          new.seen (length now.seen) stops.course stops.reaches stops.hinders
+          (Shut came (moved (λ s. is_closed s ≡ true) (opened_state origin) new.seen is) refl))
 
-    -- the lake takes no more changes
-    pub closed : (fault : FlowFault) (changed : ℕ) (told : CallReply) → IsFlowTold (names_of upload) fault told
-        → StopsHere (met_by no_store blocks changed) told → GoesOn origin call now new → Came lake_rules by now.seen new.seen
-        → is_closed (state_at origin new.seen) ≡ true → Answers changed (refused_at fault (length now.seen) (length now.seen))
-    closed fault changed told tells stops more came is =
-        refusal_answered fault changed told (length now.seen) (length now.seen) tells (goes_further origin call old now new goes more)
-        (served_stopped (opened_state origin) by (asked_at upload moment)
-        (met_by no_store blocks changed) told uploads.some_fixed old.seen stops.passed stops.left now.seen
-        new.seen (length now.seen) stops.course stops.reaches stops.hinders
-        (Shut came (moved (λ s. is_closed s ≡ true) (opened_state origin) new.seen is) refl))
+      -- memory ran out
+      pub starved : (met : CallMet) (told : CallReply) → StopsHere met told → GoesOn origin call now new → Came lake_rules by now.seen new.seen
+          → Answers (refused_at NoMemory (length new.seen) (length new.seen))
+      starved met told stops more came =
+          refusal_answered NoMemory reply.NoMemory (length new.seen) (length new.seen) tt refl (goes_further origin call old now new goes more)
+          (served_stopped (opened_state origin) by (asked_at upload moment)
+          (met_by no_store blocks changed) reply.NoMemory uploads.some_fixed old.seen stops.passed stops.left new.seen
+          new.seen (length new.seen) stops.course
+          (reached_on (opened_state origin) by (asked_at upload moment) stops.passed old.seen now.seen new.seen stops.reaches came) (ByMemory refl)
+          (Keeps refl refl refl))
 
-    -- memory ran out
-    pub starved : (met : CallMet) (told : CallReply) → StopsHere met told → GoesOn origin call now new → Came lake_rules by now.seen new.seen
-        → Answers 0 (refused_at NoMemory (length new.seen) (length new.seen))
-    starved met told stops more came =
-        refusal_answered NoMemory 0 reply.NoMemory (length new.seen) (length new.seen) refl (goes_further origin call old now new goes more)
-        (served_stopped (opened_state origin) by (asked_at upload moment)
-        (met_by no_store blocks 0) reply.NoMemory uploads.some_fixed old.seen stops.passed stops.left new.seen
-        new.seen (length new.seen) stops.course
-        (reached_on (opened_state origin) by (asked_at upload moment) stops.passed old.seen now.seen new.seen stops.reaches came) (ByMemory refl)
-        (Keeps refl refl refl))
-
-    -- the store failed
-    pub broken : (met : CallMet) (told : CallReply) (found : List HistoryEntry) (failed : StoreFailed origin) → StopsHere met told → GoesOn origin call now new
-        → Came lake_rules by now.seen found → first_cause (causes_of_change (state_at origin found)) ≡ None
-        → new.seen ≡ found ++ faulted_entry (by_caller by) (TicketDrop number) ∷ []
-        → Answers 0 (refused_at (Step step.StoreFault) (length new.seen) (length new.seen))
-    broken met told found failed stops more came none is =
-        failure_answered 0 failed.0 (goes_further origin call old now new goes more)
-        (served_broken (opened_state origin) by (asked_at upload moment) (met_by failed.0 blocks 0)
-        (reply.Refused refusal.StoreFault) uploads.some_fixed old.seen
-        reply.NoMemory stops.passed stops.left (TicketDrop number) now.seen found new.seen stops.course stops.reaches (ByMemory refl)
-        (owes met told stops) came (moved (λ s. is_closed s ≡ false) (opened_state origin) found (open_of (state_at origin found) none))
-        (inl (failed.2, refl)) is)
+      -- the store failed
+      pub broken : (met : CallMet) (told : CallReply) (found : List HistoryEntry) (failed : StoreFailed origin) → StopsHere met told
+          → GoesOn origin call now new
+          → Came lake_rules by now.seen found → first_cause (causes_of_change (state_at origin found)) ≡ None
+          → new.seen ≡ found ++ faulted_entry (by_caller by) (TicketDrop number) ∷ []
+          → Answers (refused_at (Step step.StoreFault) (length new.seen) (length new.seen))
+      broken met told found failed stops more came none is = record {
+        met = met_by failed.0 blocks changed;
+        told = reply.Refused refusal.StoreFault;
+        tells = refl;
+        flow = record {
+          origin = origin;
+          goes = goes_further origin call old now new goes more;
+          served = served_broken (opened_state origin) by (asked_at upload moment) (met_by failed.0 blocks changed)
+              (reply.Refused refusal.StoreFault) uploads.some_fixed old.seen
+              reply.NoMemory stops.passed stops.left (TicketDrop number) now.seen found new.seen stops.course stops.reaches (ByMemory refl)
+              (owes met told stops) came (moved (λ s. is_closed s ≡ false) (opened_state origin) found (open_of (state_at origin found) none))
+              (inl (failed.2, refl)) is;
+        };
+        faults = refl;
+        misses = refl;
+        missed_last = refl;
+        counts = later;
+        tries = refl;
+        store = λ is. failed.1;
+      }

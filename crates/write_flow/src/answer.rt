@@ -1,4 +1,4 @@
-//! What a flow answers, and why it is refused.
+//! What a flow of objects tells, and why it is refused.
 ghost use Rattle.std.specs.Prelude.{◌≡◌};
 ghost use Rattle.write_flow.specs.FlowFaults.{fault_of_step};
 
@@ -40,8 +40,8 @@ pub enum FlowFault {
 }
 
 impl FlowFault {
-    // The refusal of a step, as a flow answers it.
-    pub(crate) fn of_step(fault: StepFault) -> FlowFault
+    /// The refusal of a step, as a flow answers it. It takes no memory.
+    pub fn of_step(fault: StepFault) -> FlowFault
         ensures { result ≡ fault_of_step fault }
     {
         match fault {
@@ -50,13 +50,4 @@ impl FlowFault {
             fault => FlowFault::Step(fault),
         }
     }
-}
-
-/// What a flow answers: what came of it, the position of that in the history, and the edge of the call, the greater of
-/// the position and the place of the call's last own entry.
-#[derive(Debug, Drop)]
-pub struct FlowAnswer<T> {
-    pub outcome: Result<T, FlowFault>,
-    pub position: u64,
-    pub edge: u64,
 }

@@ -1,6 +1,5 @@
 //! Objects deleted, linked and copied, and changes that are dropped.
 ghost use Rattle.std.specs.Prelude.{◌≡◌, None, Some, length};
-ghost use Rattle.lake_values.specs.declared.entry.Change.TheVariants.{Put};
 ghost use Rattle.lake_model.specs.Uncommitted.{put_number};
 ghost use Rattle.lake_calls.specs.Calls.{LinkCall as Link};
 ghost use Rattle.lake_calls.specs.Courses.{copied_from, link_entry};
@@ -11,13 +10,21 @@ ghost use Rattle.lake_calls.specs.declared.names.ResetCall.{ResetCall};
 ghost use Rattle.lake_calls.specs.declared.objects.DeleteCall.{DeleteCall};
 ghost use Rattle.lake_calls.specs.declared.objects.ObjectCall.TheVariants as object;
 ghost use Rattle.lake_calls.specs.declared.reply.Done.TheVariants as done;
-ghost use Rattle.write_flow.specs.WriteFlows.{IsAnswer, IsCopyTold, entry_put, outcome_of, still, told_of_step};
-ghost use Rattle.write_flow.specs.WriteTries.{HasPaused, versions_found};
+ghost use Rattle.lake_model.specs.declared.history.Operation.TheVariants.{Reset};
+ghost use Rattle.lake_model.specs.Refusals.{first_cause};
+ghost use Rattle.lake_model.specs.Steps.{write_causes};
+ghost use Rattle.lake_values.specs.declared.entry.Change.TheVariants.{Delete, Put};
+ghost use Rattle.flow_steps.specs.FlowAnswers.{still};
+ghost use Rattle.flow_steps.specs.FlowTries.{copying, staging};
+ghost use Rattle.body_laws.specs.BodiesKept.{KeepsFitting};
+ghost use Rattle.write_flow.specs.WriteFlows.{IsCopyTold, IsMadeAnswer, IsTriedAnswer};
+ghost use Rattle.write_flow.specs.WriteFlows.{entry_put, outcome_of, told_of_step};
 
-use crate::answer::{Done, FlowAnswer, FlowFault};
+use crate::answer::{Done, FlowFault};
 use crate::tries::{Target, What, attempts};
 use block_store::Blocks;
 use commit_graph::RefExpr;
+use flow_steps::FlowAnswer;
 use keeper::Keeper;
 use lake_base::{Path, RefName, RepoName};
 use lake_model::StepFault;
@@ -36,17 +43,18 @@ pub fn delete_object<K: Keeper, B: Blocks, P: Pause, W: Wait>(
     repo: &RepoName,
     branch: &RefName,
     path: &Path,
-) -> FlowAnswer<Done>
+) -> FlowAnswer<Done, FlowFault>
     requires { seat.old.turn ≡ lake.now }
-    ensures served { IsAnswer seat.old seat.new client.old.call
+    ensures served { IsTriedAnswer (staging repo.now branch.now path.now Delete) None seat.old seat.new client.old.call
         (Objects (object.Delete (record { repo = repo.now; branch = branch.now; path = path.now }))) client.old.now
         (λ entry told. (entry ≡ None) × (told ≡ done.ObjectDeleted))
         (still (B.faults client.old.blocks.now) (B.misses client.old.blocks.now) (B.missed client.old.blocks.now))
-        (versions_found result.outcome) result }
-    ensures paused { HasPaused 10 (versions_found result.outcome)
-        (P.calls client.old.pause.now) (P.calls client.new.pause.now) }
+        (P.calls client.old.pause.now) (P.calls client.new.pause.now) result }
+    ensures bodies { KeepsFitting seat.old seat.new (B.held client.old.blocks.now) (B.held client.new.blocks.now) }
+    ensures turn { seat.new.turn ≡ seat.old.turn }
     ensures blocks { client.new.blocks ≡ client.old.blocks }
     ensures pause { client.new.pause.ghost_name ≡ client.old.pause.ghost_name }
+    ensures call { (client.new.call ≡ client.old.call) × (client.new.now ≡ client.old.now) }
 {
     let target = Target { repo, branch, path };
     let change = Change::Delete;
@@ -68,19 +76,21 @@ pub fn link_object<K: Keeper, B: Blocks, P: Pause, W: Wait>(
     branch: &RefName,
     path: &Path,
     entry: Entry,
-) -> FlowAnswer<Done>
+) -> FlowAnswer<Done, FlowFault>
     requires own { seat.old.turn ≡ lake.now }
     requires outside { put_number (Put entry) ≡ None }
     ensures served { (c : Link)
         → c.repo ≡ repo.now → c.branch ≡ branch.now → c.path ≡ path.now → link_entry c client.old.now ≡ entry
-        → IsAnswer seat.old seat.new client.old.call (Objects (object.Link c)) client.old.now
+        → IsTriedAnswer (staging repo.now branch.now path.now (Put entry)) (Some entry) seat.old seat.new
+        client.old.call (Objects (object.Link c)) client.old.now
         (λ put told. (put ≡ Some entry) × (told ≡ done.Linked (record { path = path.now; entry = entry })))
         (still (B.faults client.old.blocks.now) (B.misses client.old.blocks.now) (B.missed client.old.blocks.now))
-        (versions_found result.outcome) result }
-    ensures paused { HasPaused 10 (versions_found result.outcome)
-        (P.calls client.old.pause.now) (P.calls client.new.pause.now) }
+        (P.calls client.old.pause.now) (P.calls client.new.pause.now) result }
+    ensures bodies { KeepsFitting seat.old seat.new (B.held client.old.blocks.now) (B.held client.new.blocks.now) }
+    ensures turn { seat.new.turn ≡ seat.old.turn }
     ensures blocks { client.new.blocks ≡ client.old.blocks }
     ensures pause { client.new.pause.ghost_name ≡ client.old.pause.ghost_name }
+    ensures call { (client.new.call ≡ client.old.call) × (client.new.now ≡ client.old.now) }
 {
     let target = Target { repo, branch, path };
     let change = Change::Put(entry);
@@ -103,18 +113,20 @@ pub fn copy_object<K: Keeper, B: Blocks, P: Pause, W: Wait>(
     path: &Path,
     e: &RefExpr,
     from: &Path,
-) -> FlowAnswer<Done>
+) -> FlowAnswer<Done, FlowFault>
     requires { seat.old.turn ≡ lake.now }
     ensures served { (c : CopyCall)
         → c.repo ≡ repo.now → c.branch ≡ branch.now → c.path ≡ path.now → (copied_from c).e ≡ e.now
         → c.source_path ≡ from.now
-        → IsAnswer seat.old seat.new client.old.call (Objects (object.Copy c)) client.old.now (IsCopyTold path.now)
+        → IsTriedAnswer (copying repo.now branch.now path.now e.now from.now) None seat.old seat.new client.old.call
+        (Objects (object.Copy c)) client.old.now (IsCopyTold path.now)
         (still (B.faults client.old.blocks.now) (B.misses client.old.blocks.now) (B.missed client.old.blocks.now))
-        (versions_found result.outcome) result }
-    ensures paused { HasPaused 10 (versions_found result.outcome)
-        (P.calls client.old.pause.now) (P.calls client.new.pause.now) }
+        (P.calls client.old.pause.now) (P.calls client.new.pause.now) result }
+    ensures bodies { KeepsFitting seat.old seat.new (B.held client.old.blocks.now) (B.held client.new.blocks.now) }
+    ensures turn { seat.new.turn ≡ seat.old.turn }
     ensures blocks { client.new.blocks ≡ client.old.blocks }
     ensures pause { client.new.pause.ghost_name ≡ client.old.pause.ghost_name }
+    ensures call { (client.new.call ≡ client.old.call) × (client.new.now ≡ client.old.now) }
 {
     let target = Target { repo, branch, path };
     let what = What::Copy(e, from);
@@ -132,13 +144,16 @@ pub fn reset_branch<K: Keeper, B: Blocks, P: Pause, W: Wait>(
     repo: &RepoName,
     branch: &RefName,
     what: ResetWhat,
-) -> FlowAnswer<Done>
+) -> FlowAnswer<Done, FlowFault>
     requires { seat.old.turn ≡ lake.now }
-    ensures served { IsAnswer seat.old seat.new client.old.call
+    ensures served { IsMadeAnswer (λ state. first_cause (write_causes state repo.now branch.now))
+        (Reset repo.now branch.now what) seat.old seat.new client.old.call
         (Names (naming.ResetBranch (record { repo = repo.now; branch = branch.now; what = what }))) client.old.now
         (λ entry told. (entry ≡ None) × (told ≡ done.BranchReset))
         (still (B.faults client.old.blocks.now) (B.misses client.old.blocks.now) (B.missed client.old.blocks.now))
-        0 result }
+        result }
+    ensures bodies { KeepsFitting seat.old seat.new (B.held client.old.blocks.now) (B.held client.new.blocks.now) }
+    ensures turn { seat.new.turn ≡ seat.old.turn }
     ensures client { client.new ≡ client.old }
 {
     let reset = lake.reset(rt, seat, client.call, repo, branch, what);
@@ -170,7 +185,7 @@ pub(crate) fn answer_of(
     seat: &LakeSeat,
     outcome: Result<Option<Entry>, FlowFault>,
     put: Option<Entry>,
-) -> FlowAnswer<Done>
+) -> FlowAnswer<Done, FlowFault>
     ensures outcome { result.outcome ≡ outcome_of (length seat.now.seen) put outcome }
     ensures position { result.position ≡ length seat.now.seen }
     ensures edge { result.edge ≡ length seat.now.seen }

@@ -1,15 +1,16 @@
 //! A change that is guarded by its branch's version, tried at most ten times.
-ghost use Rattle.std.specs.Prelude.{◌≡◌, ◌==◌, if◌then◌else◌, ℕ, Ok, Err, IfOk, IfSome, option_map};
+ghost use Rattle.std.specs.Prelude.{◌≡◌, IfOk, IfSome};
 ghost use Rattle.core_puts.specs.KeeperViews.{KeeperView};
 ghost use Rattle.lake_core.specs.Lakes.{LakeValue, state};
 ghost use Rattle.lake_model.specs.Uncommitted.{HasTicket, put_number};
 ghost use Rattle.shared_lake.specs.SeatSteps.{Finds};
 ghost use Rattle.flow_steps.specs.FlowTries.{HasTried, copying, staging};
-ghost use Rattle.write_flow.specs.WriteTries.{tried_of, version_found, versions_found};
-ghost use Rattle.write_flow.specs.WriteTries.{HasPaused, HaveTried, guarded_of, staged_number};
+ghost use Rattle.flow_steps.specs.Retries.{HasPaused};
+ghost use Rattle.write_flow.specs.WriteTries.{HaveTried, guarded_of, staged_number, tried_of, version_found};
 
 use crate::answer::FlowFault;
 use commit_graph::RefExpr;
+use flow_steps::first_found;
 use keeper::Keeper;
 use lake_base::{NoMemory, Path, RefName, RepoName, TryCopy};
 use lake_model::StepFault;
@@ -177,9 +178,8 @@ pub(crate) fn attempts<K: Keeper, P: Pause, W: Wait>(
         → Finds (record { kept = K.kept; faults = K.faults; calls = K.calls; successes = K.successes })
         seat.old found
         → IfSome (staged_number what.now) (HasTicket (state found) seat.old.number) }
-    ensures tried { HaveTried (guarded_of target.now.repo.now target.now.branch.now target.now.path.now what.now)
-        target.now.repo.now target.now.branch.now call seat.old seat.new result }
-    ensures paused { HasPaused 10 (versions_found result) (P.calls pause.old) (P.calls pause.new) }
+    ensures { HaveTried (guarded_of target.now.repo.now target.now.branch.now target.now.path.now what.now)
+        call seat.old seat.new (P.calls pause.old) (P.calls pause.new) result }
 {
     let mut changed: u32 = 0;
     let mut first = 0;
@@ -197,13 +197,6 @@ pub(crate) fn attempts<K: Keeper, P: Pause, W: Wait>(
         }
     }
     Err(FlowFault::TooManyTries { first, last })
-}
-
-// The version that the first of the tries found, where so many had found another before this one.
-fn first_found(changed: u32, first: u64, version: u64) -> u64
-    ensures { result ≡ (if changed == 0 then version else first) }
-{
-    if changed == 0 { version } else { first }
 }
 
 // What came of a try, told apart.

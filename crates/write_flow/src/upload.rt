@@ -1,21 +1,19 @@
 //! A body is put, and becomes an object at a path of a branch.
-ghost use Rattle.std.specs.Prelude.{◌≡◌, ◌≤◌, IfSome, length};
+ghost use Rattle.std.specs.Prelude.{◌≡◌, ◌≤◌, ℕ, List, length};
 ghost use Rattle.core_puts.specs.KeeperViews.{KeeperView};
 ghost use Rattle.lake_core.specs.Lakes.{LakeValue, state};
 ghost use Rattle.lake_model.specs.Uncommitted.{HasTicket};
 ghost use Rattle.lake_calls.specs.Calls.{UploadCall};
-ghost use Rattle.lake_calls.specs.declared.call.Call.TheVariants.{Objects};
-ghost use Rattle.lake_calls.specs.declared.objects.ObjectCall.TheVariants as object;
 ghost use Rattle.shared_lake.specs.SeatSteps.{Finds};
-ghost use Rattle.write_flow.specs.Uploads.{BodyStored, BodyTried, GaveUp, IsUploadTold};
+ghost use Rattle.body_laws.specs.BodiesKept.{KeepsFitting};
+ghost use Rattle.write_flow.specs.Uploads.{BodyStored, BodyTried, GaveUp, HoldsPut, IsUploadAnswer};
 ghost use Rattle.write_flow.specs.Uploads.{answer_of_drop, body_entry, refused_at, stored_of, told_by};
-ghost use Rattle.write_flow.specs.WriteFlows.{BlockCounts, IsAnswer};
-ghost use Rattle.write_flow.specs.WriteTries.{HasPaused, versions_found};
 
-use crate::answer::{Done, FlowAnswer, FlowFault};
+use crate::answer::{Done, FlowFault};
 use crate::changes::answer_of;
 use crate::tries::{Target, What, attempts};
 use block_store::Blocks;
+use flow_steps::FlowAnswer;
 use keeper::Keeper;
 use lake_base::{Digest, Path, RefName, RepoName, Text, Trouble, TryCopy};
 use lake_model::StepFault;
@@ -38,7 +36,7 @@ pub fn put_object<K: Keeper, B: Blocks, P: Pause, W: Wait>(
     path: &Path,
     body: &[u8],
     content_type: &Text,
-) -> FlowAnswer<Done>
+) -> FlowAnswer<Done, FlowFault>
     requires own { seat.old.turn ≡ lake.now }
     requires short_type { length content_type.now ≤ 255 }
     ensures served { let u : UploadCall = record {
@@ -48,18 +46,19 @@ pub fn put_object<K: Keeper, B: Blocks, P: Pause, W: Wait>(
       content_type = content_type.now;
       body = body.now;
     } in
-        IsAnswer seat.old seat.new client.old.call (Objects (object.Upload u)) client.old.now
-        (IsUploadTold u client.old.now)
+        IsUploadAnswer u client.old.now client.old.call
         (record {
           faults = record { before = B.faults client.old.blocks.now; now = B.faults client.new.blocks.now };
           misses = record { before = B.misses client.old.blocks.now; now = B.misses client.new.blocks.now };
           missed_last = B.missed client.new.blocks.now;
         })
-        (versions_found result.outcome) result }
-    ensures paused { HasPaused 10 (versions_found result.outcome)
-        (P.calls client.old.pause.now) (P.calls client.new.pause.now) }
+        (B.held client.old.blocks.now) (B.held client.new.blocks.now)
+        seat.old seat.new (P.calls client.old.pause.now) (P.calls client.new.pause.now) result }
+    ensures bodies { KeepsFitting seat.old seat.new (B.held client.old.blocks.now) (B.held client.new.blocks.now) }
+    ensures turn { seat.new.turn ≡ seat.old.turn }
     ensures blocks { client.new.blocks.ghost_name ≡ client.old.blocks.ghost_name }
     ensures pause { client.new.pause.ghost_name ≡ client.old.pause.ghost_name }
+    ensures call { (client.new.call ≡ client.old.call) × (client.new.now ≡ client.old.now) }
 {
     let target = Target { repo, branch, path };
     let call = client.call;
@@ -128,10 +127,13 @@ fn store_body<K: Keeper, B: Blocks, P: Pause, W: Wait>(
         → Finds (record { kept = K.kept; faults = K.faults; calls = K.calls; successes = K.successes })
         seat.old found
         → HasTicket (state found) seat.old.number number }
-    ensures stored { BodyStored target.now.repo.now target.now.branch.now target.now.path.now
-        (body_entry number body.now now content_type.now) call (B.faults blocks.old) (B.faults blocks.new)
-        seat.old seat.new result }
-    ensures paused { HasPaused 10 (versions_found result) (P.calls pause.old) (P.calls pause.new) }
+    ensures stored { (versions : List ℕ) × BodyStored target.now.repo.now target.now.branch.now target.now.path.now
+        (body_entry number body.now now content_type.now) call
+        (record { before = B.faults blocks.old; now = B.faults blocks.new })
+        seat.old seat.new (P.calls pause.old) (P.calls pause.new) versions result }
+    ensures held { HoldsPut number body.now (B.held blocks.old) (B.held blocks.new) result }
+    ensures faults { B.faults blocks.old ≤ B.faults blocks.new }
+    ensures misses { B.misses blocks.old ≤ B.misses blocks.new }
 {
     match blocks.put(number, body) {
         Ok(()) => stage_body(
@@ -172,9 +174,9 @@ fn stage_body<K: Keeper, P: Pause, W: Wait>(
         → Finds (record { kept = K.kept; faults = K.faults; calls = K.calls; successes = K.successes })
         seat.old found
         → HasTicket (state found) seat.old.number number }
-    ensures tried { BodyTried target.now.repo.now target.now.branch.now target.now.path.now
-        (body_entry number body.now now content_type.now) call seat.old seat.new result }
-    ensures paused { HasPaused 10 (versions_found result) (P.calls pause.old) (P.calls pause.new) }
+    ensures { (versions : List ℕ) × BodyTried target.now.repo.now target.now.branch.now target.now.path.now
+        (body_entry number body.now now content_type.now) call
+        seat.old seat.new (P.calls pause.old) (P.calls pause.new) versions result }
 {
     let content_type = match content_type.copy(alloc) {
         Ok(content_type) => content_type,
@@ -217,13 +219,14 @@ fn give_up<K: Keeper, W: Wait>(
     call: u64,
     number: u64,
     fault: FlowFault,
-) -> FlowAnswer<Done>
+) -> FlowAnswer<Done, FlowFault>
     requires own { seat.old.turn ≡ lake.now }
     requires ticket { (found : LakeValue K)
         → Finds (record { kept = K.kept; faults = K.faults; calls = K.calls; successes = K.successes })
         seat.old found
         → HasTicket (state found) seat.old.number number }
-    ensures { GaveUp call number seat.old seat.new fault result }
+    ensures gave { GaveUp call number seat.old seat.new fault result }
+    ensures turn { seat.new.turn ≡ seat.old.turn }
 {
     let position = seat.seen();
     let dropped = lake.drop_ticket(rt, seat, call, number);
@@ -238,7 +241,7 @@ fn after_drop(
     before: u64,
     now: u64,
     dropped: Result<u64, StepFault>,
-) -> FlowAnswer<Done>
+) -> FlowAnswer<Done, FlowFault>
     ensures { result ≡ answer_of_drop fault before now dropped }
 {
     match dropped {
@@ -250,7 +253,7 @@ fn after_drop(
 }
 
 // A flow was refused.
-fn refused(fault: FlowFault, position: u64, edge: u64) -> FlowAnswer<Done>
+fn refused(fault: FlowFault, position: u64, edge: u64) -> FlowAnswer<Done, FlowFault>
     ensures { result ≡ refused_at fault position edge }
 {
     FlowAnswer {

@@ -1,7 +1,8 @@
 use Rattle.std.proofs.Common.{Ok, Err, Some, refl, subst, arith}
 use Rattle.core_puts.specs.KeeperViews.{KeeperView}
 use Rattle.flow_steps.specs.FlowTries.{HasTried, copying}
-use Rattle.write_flow.proofs.PauseLemmas.{paused_once, version_few}
+use Rattle.flow_steps.proofs.PausedLemmas.{paused_once}
+use Rattle.write_flow.proofs.PauseLemmas.{version_few}
 use Rattle.write_flow.proofs.StepLemmas.{copy_tried, not_read, stays_read}
 use Rattle.write_flow.proofs.tries.copy_once.Goals as goal
 

@@ -2,11 +2,12 @@ use Rattle.std.proofs.Common.{◌≡◌, Ok, Err, None, ap, refl, subst, sym, ar
 use Rattle.std.specs.Prelude.{IfSome}
 use Rattle.lake_model.specs.Uncommitted.{HasTicket, put_number}
 use Rattle.core_puts.specs.KeeperViews.{KeeperView}
-use Rattle.lake_core.specs.Lakes.{LakeValue, state}
+use Rattle.lake_core.specs.Lakes.{state}
 use Rattle.shared_lake.specs.SeatSteps.{LakeSeat}
 use Rattle.flow_steps.specs.FlowTries.{HasTried, staging}
 use Rattle.flow_steps.proofs.SeatFlowLemmas.{finds_before}
-use Rattle.write_flow.proofs.PauseLemmas.{paused_once, version_few}
+use Rattle.flow_steps.proofs.PausedLemmas.{paused_once}
+use Rattle.write_flow.proofs.PauseLemmas.{version_few}
 use Rattle.write_flow.proofs.StepLemmas.{not_read, stage_tried, stays_read}
 use Rattle.write_flow.proofs.tries.stage_once.Goals as goal
 

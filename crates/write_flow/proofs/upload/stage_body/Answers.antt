@@ -1,12 +1,12 @@
-use Rattle.std.proofs.Common.{◌≡◌, length, subst}
+use Rattle.std.proofs.Common.{◌≡◌, ℕ, List, length, subst}
 use Rattle.lake_values.specs.Entry.{EntryValue}
 use Rattle.lake_values.specs.declared.entry.Place.TheVariants.{Own}
 use Rattle.write_flow.specs.Uploads.{BodyTried, body_entry}
 use Rattle.write_flow.proofs.TicketFlowLemmas.{body_tried}
 use Rattle.write_flow.proofs.upload.stage_body.Goals as goal
 
-pub returns-clause-tried : goal.returns-clause-tried
-returns-clause-tried g c =
+pub returns : goal.returns
+returns g c =
     let entry : EntryValue = record {
       place = Own c.args.number c.of.result;
       size = length c.args.body.now;
@@ -21,7 +21,8 @@ returns-clause-tried g c =
       content_type = c.in-Ok.ensures.equal i;
       metadata = c.new.ensures i;
     } in
-    subst (λ e. BodyTried c.args.target.now.repo.now c.args.target.now.branch.now c.args.target.now.path.now e c.args.call c.args.seat.now
-    c.attempts-outcome.new.seat c.entry_told.result) same
-    (body_tried c.args.target.now.repo.now c.args.target.now.branch.now c.args.target.now.path.now entry c.args.call c.args.seat.now
-    c.attempts-outcome.new.seat c.attempts-outcome.result c.entry_told.result c.entry_told.ensures c.attempts-outcome.ensures.tried)
+    let tried = body_tried c.args.target.now.repo.now c.args.target.now.branch.now c.args.target.now.path.now entry c.args.call c.args.seat.now
+    c.attempts-outcome.new.seat _ _ c.attempts-outcome.result c.entry_told.result c.entry_told.ensures c.attempts-outcome.ensures in
+    subst (λ e. (versions : List ℕ) × BodyTried c.args.target.now.repo.now c.args.target.now.branch.now c.args.target.now.path.now e c.args.call
+    c.args.seat.now c.attempts-outcome.new.seat (g.P.Pause.calls c.args.pause.now) (g.P.Pause.calls c.attempts-outcome.new.pause) versions
+    c.entry_told.result) same tried

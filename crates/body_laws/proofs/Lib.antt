@@ -1,0 +1,4 @@
+pub mod FitLemmas
+pub mod KeptEntryLemmas
+pub mod StagedLemmas
+pub mod FlowBodyLemmas

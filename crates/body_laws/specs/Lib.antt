@@ -1,0 +1,2 @@
+pub mod BodyChanges
+pub mod BodiesKept
