@@ -1,0 +1,4 @@
+pub mod NewHeads
+pub mod HeadTries
+pub mod HeadSeals
+pub mod HeadPauses
