@@ -1,0 +1,4 @@
+pub mod HeadLoopLemmas
+pub mod HeadAnswerLemmas
+pub mod MergeLemmas
+pub mod FlowLemmas

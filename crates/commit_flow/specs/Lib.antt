@@ -1,0 +1,4 @@
+pub mod CommitFaults
+pub mod CommitTries
+pub mod CommitFlows
+pub mod PickedHeads
