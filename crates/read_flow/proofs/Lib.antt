@@ -1,0 +1,5 @@
+pub mod LookLemmas
+pub mod RoundLemmas
+pub mod ServedLemmas
+pub mod ReadEntryLemmas
+pub mod ReadAloneLemmas

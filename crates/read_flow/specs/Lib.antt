@@ -1,0 +1,5 @@
+pub mod ObjectLooks
+pub mod ObjectReads
+pub mod ReadAnswers
+pub mod ExpiredReads
+pub mod ReadsAlone

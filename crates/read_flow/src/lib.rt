@@ -1,0 +1,15 @@
+//! An object's bytes are read from a lake that seats share, with other seats' entries anywhere between its looks.
+//!
+//! - `looks`: what stands at the path, and whether its bytes are to be got.
+//! - `rounds`: its bytes are asked for, at most ten times, with a look after each miss.
+//! - `objects`: the call.
+//!
+//! The promise to the layer above: the call is served, by the bytes of the object that its last look found; each other
+//! answer has its cause; and nothing is changed.
+#![tactic(auto)]
+
+mod looks;
+mod objects;
+mod rounds;
+
+pub use objects::{ObjectRead, ReadAnswer, read_object};
