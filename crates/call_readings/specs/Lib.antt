@@ -1,0 +1,3 @@
+pub mod ToldFaults
+pub mod StepOutcomes
+pub mod AnsweredReadings
