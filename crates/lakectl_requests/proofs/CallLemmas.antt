@@ -1,0 +1,58 @@
+-- What a call answers that reads a text which reads back.
+use Rattle.std.proofs.Common.{◌≡◌, ℕ, Bool, true, false, nat_lt, List, ◌++◌, length, Option, Result, Ok, Err, refl, sym, subst, ◌∙◌, true≢false, if◌then◌else◌}
+use Rattle.http_wire.specs.declared.message.Request.{Request}
+use Rattle.http_wire.specs.declared.fault.WireFault.{WireFault}
+use Rattle.http_wire.specs.declared.fault.WireFault.TheVariants.{Ended, Truncated, HeadTooLong, BadHead, Chunked, BadLength, BodyTooLong, ReadFault, NoMemory}
+use Rattle.http_wire.specs.Messages.{IsAnswer, IsRequestAnswer, ReadsRequestAt}
+use Rattle.http_wire.proofs.UniqueLemmas.{one_request}
+use Rattle.lakectl_words.specs.WireRequests.{head_text}
+use Rattle.lakectl_requests.specs.SentReadings.{IsSentAnswer, read_back}
+
+-- the fault tells of a limit
+abbrev is_limit : WireFault → Bool
+is_limit HeadTooLong = true
+is_limit (BodyTooLong n) = true
+is_limit Ended = false
+is_limit (Truncated n) = false
+is_limit BadHead = false
+is_limit Chunked = false
+is_limit BadLength = false
+is_limit ReadFault = false
+is_limit NoMemory = false
+
+same_fault : {T : Type 0} (a b : WireFault) (x y : Result T WireFault) → x ≡ Err a → y ≡ Err b → x ≡ y → a ≡ b
+same_fault a b x y is other same = cc
+
+no_fault : {T : Type 0} (a : T) (b : WireFault) (x y : Result T WireFault) → x ≡ Ok a → y ≡ Err b → x ≡ y → ⊥
+no_fault a b x y is other same = cc
+
+module _ (r : Request) (rest : List ℕ) where
+  -- what is read of a text, by whether its head and its body are above their limits
+  abbrev of_lengths : Bool → Bool → Result (Request × List ℕ) WireFault
+  of_lengths long large = if long then Err HeadTooLong else if large then Err (BodyTooLong (length r.body)) else Ok (r, rest)
+
+  of_limit : (long large : Bool) (fault : WireFault) → of_lengths long large ≡ Err fault → is_limit fault ≡ true
+  of_limit true large fault is = subst (λ f. is_limit f ≡ true) (same_fault HeadTooLong fault _ _ refl refl is) refl
+  of_limit false true fault is = subst (λ f. is_limit f ≡ true) (same_fault (BodyTooLong (length r.body)) fault _ _ refl refl is) refl
+  of_limit false false fault is = absurd (no_fault (r, rest) fault _ _ refl refl is)
+
+  module _ (bytes : List ℕ) (reads : ReadsRequestAt bytes (read_back r rest)) where
+    no_other : (fault : WireFault) → is_limit fault ≡ false → ReadsRequestAt bytes (Err fault) → ⊥
+    no_other fault other reads_fault =
+        true≢false (sym (of_limit (nat_lt 16384 (length (head_text r))) (nat_lt 67108864 (length r.body)) fault
+        (one_request bytes (read_back r rest) (Err fault) reads reads_fault)) ∙ other)
+
+    pub call_answer : (result : Result Request WireFault) (held : List ℕ) (left : Option (List ℕ))
+        → IsRequestAnswer bytes result held left → IsSentAnswer r rest result held left
+    unfolding IsAnswer
+    call_answer (Ok read) held left answer =
+        (answer.0, answer.1, one_request bytes (read_back r rest) (Ok (read, held ++ answer.0)) reads answer.2)
+    call_answer (Err ReadFault) held left answer = tt
+    call_answer (Err NoMemory) held left answer = tt
+    call_answer (Err HeadTooLong) held left answer = one_request bytes (read_back r rest) (Err HeadTooLong) reads answer
+    call_answer (Err (BodyTooLong n)) held left answer = one_request bytes (read_back r rest) (Err (BodyTooLong n)) reads answer
+    call_answer (Err Ended) held left answer = no_other Ended refl answer
+    call_answer (Err (Truncated n)) held left answer = no_other (Truncated n) refl answer
+    call_answer (Err BadHead) held left answer = no_other BadHead refl answer
+    call_answer (Err Chunked) held left answer = no_other Chunked refl answer
+    call_answer (Err BadLength) held left answer = no_other BadLength refl answer
