@@ -24,8 +24,8 @@ impl Pause for NoPause {
 }
 
 /// What a flow needs for a call: where objects' bytes are, what it does between a reading and the step that is guarded
-/// by it, the moment of the call in seconds since 1970, and the number of the call among those of its seat. A flow leaves
-/// both references where they were.
+/// by it, the moment of the call in seconds since 1970, and the number of the call among those of its seat. A flow
+/// leaves both references where they were.
 #[derive(Drop)]
 pub struct Client<'a, 'p, B, P> {
     pub blocks: &'a mut B,
