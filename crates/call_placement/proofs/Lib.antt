@@ -9,3 +9,4 @@ pub mod EntryLemmas
 pub mod ToyLemmas
 pub mod WrongLemmas
 pub mod EndLemmas
+pub mod StarvedLemmas

@@ -38,6 +38,16 @@ pub fn law_of_going_on<P: Placing>()
         → IsServed P.rules opened by before (after ++ more) request met reply position next_edge }
 {}
 
+/// A call that was served is served too where it is told in place of its reply that memory ran out, as it may be when
+/// its reply is printed: at the same position and with the same edge, and with the same entries.
+pub fn law_of_starving<P: Placing>()
+    ensures { TellsDone P.rules → (opened : P.State) (by : Caller) (before after : List P.Entry) (request : P.Request)
+        (met : P.Met) (reply starved : P.Reply) (position next_edge : ℕ)
+        → P.rules.is_no_memory starved
+        → IsServed P.rules opened by before after request met reply position next_edge
+        → IsServed P.rules opened by before after request met starved position next_edge }
+{}
+
 /// Calls that were served stay served with one more call behind them, which begins with what was seen after them.
 pub fn law_of_one_more<P: Placing>()
     ensures { (opened : P.State) (seat number edge last next_edge : ℕ) (before between after : List P.Entry)
