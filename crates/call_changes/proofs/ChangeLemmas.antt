@@ -12,7 +12,7 @@ use Rattle.lake_model.specs.State.{State}
 use Rattle.lake_model.specs.History.{accepted_entry, faulted_entry}
 use Rattle.lake_model.specs.Readings.{◌then◌}
 use Rattle.core_puts.specs.KeeperViews.{KeeperView}
-use Rattle.core_puts.specs.KeptChanges.{IsFaulted, LeavesParts, Making}
+use Rattle.core_puts.specs.KeptChanges.{LeavesParts, Making}
 use Rattle.lake_core.specs.declared.standing.LakeOrigin.{LakeOrigin}
 use Rattle.lake_core.specs.Lakes.{LakeValue, state}
 use Rattle.lake_core.specs.Leaving.{parts_of}
@@ -21,7 +21,7 @@ use Rattle.call_placement.specs.Rules.{Caller}
 use Rattle.call_placement.specs.Points.{Came, replay as along}
 use Rattle.call_placement.specs.Served.{ByMemory, ByState, Hinders, IsServed, OwesNothing}
 use Rattle.call_placement.specs.Sessions.{caller}
-use Rattle.lake_calls.specs.CallExceptions.{CallMet, Counts, HasRisen}
+use Rattle.lake_calls.specs.CallExceptions.{CallMet, HasRisen}
 use Rattle.lake_calls.specs.CallRefusals.{CallNames, IsToldOf, PointPasses, PointRefused, StepPasses, StepRefused, names_of, told}
 use Rattle.lake_calls.specs.Courses.{Fixed, Makes, call_course, nothing_fixed}
 use Rattle.lake_calls.specs.DoneReplies.{IsDone}
@@ -34,7 +34,6 @@ use Rattle.lake_calls.specs.declared.reply.Done.{Done}
 use Rattle.lake_calls.specs.declared.reply.Refusal.TheVariants as refusal
 use Rattle.flow_steps.specs.FlowAnswers.{asked_at}
 use Rattle.flow_steps.specs.FlowSeats.{GoesOn, opened_state}
-use Rattle.flow_steps.specs.FlowTries.{StoreFailed}
 use Rattle.flow_steps.proofs.FlowEndLemmas.{HasReached, moved, reached_nothing, reached_on, served_done, served_faulted, served_stopped}
 use Rattle.flow_steps.proofs.SeatFlowLemmas.{came_to_change, entries_by, entry_stands, goes_by_change}
 use Rattle.call_readings.specs.declared.answers.Answered.{Answered}
@@ -82,9 +81,6 @@ plain_adds by (reply.Refused _) from next plain came = came
 plain_adds by (reply.Malformed refused) from next plain came = came
 plain_adds by reply.NoMemory from next plain came = came
 
-not_failed : (told : CallReply) → IsPlain told → told ≡ store_failed → ⊥
-not_failed told plain is = absurd (subst IsPlain is plain)
-
 -- a step's refusal is such
 told_plain : (names : CallNames) (fault : StepFault) → IfSome (told names fault) (λ refused. IsPlain (reply.Refused refused))
 told_plain names (step.NoRef reference.Named) = tt
@@ -107,16 +103,14 @@ module _ (old new : LakeSeat) (number : ℕ) (call : Call) (moment : ℕ) where
 
   -- so it is answered
   pub answered_by : (origin : LakeOrigin) → old.origin ≡ Some origin → GoesOn origin number old new → new.turn ≡ old.turn → (told : CallReply)
-      → (told ≡ store_failed → StoreFailed origin) → Serves origin told → AddsBy by told old.seen new.seen
-      → (answer : Answered) → answer.reply ≡ told → answer.position ≡ length new.seen → answer.edge ≡ length new.seen
-      → IsChangeAnswered old new number call moment answer
-  answered_by origin from goes turn told failed serves adds answer is position edge =
+      → Serves origin told → AddsBy by told old.seen new.seen → (answer : Answered) → answer.reply ≡ told → answer.position ≡ length new.seen
+      → answer.edge ≡ length new.seen → IsChangeAnswered old new number call moment answer
+  answered_by origin from goes turn told serves adds answer is position edge =
       subst (IsChangeAnswered old new number call moment) (sym (λ i. record { reply = is i; position = position i; edge = edge i }))
       (record {
         origin = origin;
         from = from;
         flow = λ met rose. record { origin = origin; goes = goes; served = serves met rose };
-        failed = failed;
         adds = adds;
         position = refl;
         edge = refl;
@@ -144,9 +138,6 @@ module _ {K : Type 0} (view : KeeperView K) (old new : LakeSeat) (number : ℕ) 
     abbrev here : State
     here = state changed.found
 
-    abbrev store : Counts
-    store = record { before = view.faults changed.found.keeper; now = view.faults changed.left.keeper }
-
     goes : GoesOn origin number old new
     goes = goes_by_change view old new number making Told result changed origin changed.finds.origin
 
@@ -161,12 +152,11 @@ module _ {K : Type 0} (view : KeeperView K) (old new : LakeSeat) (number : ℕ) 
     stands = entry_stands view old new number making Told result changed
 
     -- the answer of a reply
-    answers : (told : CallReply) → (told ≡ store_failed → HasRisen store) → Serves old new number call moment origin told
-        → AddsBy caller_of told old.seen new.seen → (answer : Answered) → answer.reply ≡ told → answer.position ≡ length new.seen
-        → answer.edge ≡ length new.seen → IsChangeAnswered old new number call moment answer
-    answers told rose serves adds =
-        answered_by old new number call moment origin changed.finds.origin goes (ap (λ (s : LakeSeat). s.turn) changed.seat) told
-        (λ is. (store, changed.finds.holds.keeper.keeper.later, rose is)) serves adds
+    answers : (told : CallReply) → Serves old new number call moment origin told → AddsBy caller_of told old.seen new.seen
+        → (answer : Answered) → answer.reply ≡ told → answer.position ≡ length new.seen → answer.edge ≡ length new.seen
+        → IsChangeAnswered old new number call moment answer
+    answers told serves adds =
+        answered_by old new number call moment origin changed.finds.origin goes (ap (λ (s : LakeSeat). s.turn) changed.seat) told serves adds
 
     -- the call stops, and adds nothing
     stopped : (told : CallReply) (fixed : Fixed) → IsPlain told → new.seen ≡ found
@@ -175,7 +165,7 @@ module _ {K : Type 0} (view : KeeperView K) (old new : LakeSeat) (number : ℕ) 
         → (answer : Answered) → answer.reply ≡ told → answer.position ≡ length new.seen → answer.edge ≡ length new.seen
         → IsChangeAnswered old new number call moment answer
     stopped told fixed plain same hinders =
-        answers told (λ is. absurd (not_failed told plain is))
+        answers told
         (λ met rose. subst (λ es. IsServed lake_rules (opened_state origin) caller_of old.seen es (asked_at call moment) met told (length es) (length es))
         (sym same)
         (served_stopped (opened_state origin) caller_of (asked_at call moment) met told fixed old.seen [] (call_course call moment fixed) found found
@@ -211,15 +201,11 @@ module _ {K : Type 0} (view : KeeperView K) (old new : LakeSeat) (number : ℕ) 
       point_passes : PointPasses call (Makes operation) (along lake_rules (opened_state origin) found)
       point_passes = moved (PointPasses call (Makes operation)) (opened_state origin) found passes.passes
 
-      -- what is said of the change that was made
-      pub of_change : (P : Making → Type 0) → IsSomeAnd (making changed.found) P → P passes.making
-      of_change P is = subst (λ o. IsSomeAnd o P) passes.is is
-
       accepted : (x : X) → new.seen ≡ found ++ accepted_entry own operation ∷ []
           → ((met : CallMet) → IsDone call moment passes.fixed met here (tells x)) → (answer : Answered) → answer.reply ≡ reply.Done (tells x)
           → answer.position ≡ length new.seen → answer.edge ≡ length new.seen → IsChangeAnswered old new number call moment answer
       accepted x stands_so done =
-          answers (reply.Done (tells x)) (λ is. absurd cc)
+          answers (reply.Done (tells x))
           (λ met rose. served_done (opened_state origin) caller_of (asked_at call moment) met (reply.Done (tells x)) passes.fixed old.seen []
           (Makes operation) found new.seen passes.course begun point_passes
           (moved (λ s. IsAnswerOf (Asks call) moment met (call_course call moment passes.fixed) s (reply.Done (tells x))) (opened_state origin) found
@@ -227,11 +213,11 @@ module _ {K : Type 0} (view : KeeperView K) (old new : LakeSeat) (number : ℕ) 
           stands_so)
           (operation, found, came, stands_so)
 
-      faulted : new.seen ≡ found ++ faulted_entry own operation ∷ [] → HasRisen store → (answer : Answered)
+      faulted : new.seen ≡ found ++ faulted_entry own operation ∷ [] → (answer : Answered)
           → answer.reply ≡ reply.Refused refusal.StoreFault → answer.position ≡ length new.seen → answer.edge ≡ length new.seen
           → IsChangeAnswered old new number call moment answer
-      faulted stands_so rose =
-          answers (reply.Refused refusal.StoreFault) (λ is. rose)
+      faulted stands_so =
+          answers (reply.Refused refusal.StoreFault)
           (λ met counted. served_faulted (opened_state origin) caller_of (asked_at call moment) met (reply.Refused refusal.StoreFault) passes.fixed old.seen
           [] [] (Makes operation) operation found new.seen passes.course begun refl point_passes (inl (counted refl, refl)) stands_so)
           (operation, found, came, stands_so)
@@ -257,7 +243,6 @@ module _ {K : Type 0} (view : KeeperView K) (old new : LakeSeat) (number : ℕ) 
   answered_told (Err step.StoreFault) changed passes =
       faulted (Err step.StoreFault) changed passes
       (stands (Err step.StoreFault) changed ∙ ap (λ o. changed.found.history ++ entries_by view {X = X} own o (Err step.StoreFault)) passes.is)
-      (of_change (Err step.StoreFault) changed passes (λ m. IsFaulted view own m (parts_of changed.found) (parts_of changed.left)) changed.leaves.1).rose
   answered_told (Err fault) changed refused =
       refuses (Err fault) changed fault refused (stands (Err fault) changed ∙ append-nil changed.found.history)
 

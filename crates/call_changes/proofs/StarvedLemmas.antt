@@ -1,5 +1,5 @@
 -- A call at which memory ran out before its step, as a change.
-use Rattle.std.proofs.Common.{◌≡◌, ℕ, subst, sym, ◌∙◌}
+use Rattle.std.proofs.Common.{◌≡◌, ℕ, subst, sym}
 use Rattle.shared_lake.specs.SeatSteps.{LakeSeat}
 use Rattle.lake_calls.specs.CallExceptions.{nothing_met}
 use Rattle.lake_calls.specs.declared.call.Call.{Call}
@@ -17,7 +17,6 @@ starved_change old new number call moment answer read is =
       origin = flow.origin;
       from = flow.goes.from;
       flow = λ met rose. read.flow number moment met;
-      failed = λ so. absurd (let no = sym is ∙ so in cc);
       adds = subst (λ told. AddsBy (caller old.number number) told old.seen new.seen) (sym is) (read.others number);
       position = read.position;
       edge = read.edge;

@@ -15,7 +15,6 @@ use Rattle.lake_calls.specs.declared.reply.CallReply.{CallReply}
 use Rattle.lake_calls.specs.declared.reply.CallReply.TheVariants as reply
 use Rattle.lake_calls.specs.declared.reply.Refusal.TheVariants as refusal
 use Rattle.flow_steps.specs.FlowAnswers.{asked_at}
-use Rattle.flow_steps.specs.FlowTries.{StoreFailed}
 use Rattle.flow_steps.specs.Flows.{IsFlow}
 use Rattle.call_readings.specs.declared.answers.Answered.{Answered}
 
@@ -35,14 +34,13 @@ abbrev pub store_failed : CallReply
 store_failed = reply.Refused refusal.StoreFault
 
 -- A CHANGE ANSWERED A CALL: it served it, whatever the stores counted, but that the faults of the store of pairs rose where it is
--- told that this failed; which is told only where they did, from no fewer than when the lake was opened. Its reply stands at all
--- that the seat has seen then, and so does its edge; what it added is as its reply says; and the seat is at the same lake still.
+-- told that this failed. Its reply stands at all that the seat has seen then, and so does its edge; what it added is as its reply
+-- says; and the seat is at the same lake still.
 pub record IsChangeAnswered (old new : LakeSeat) (number : ℕ) (call : Call) (moment : ℕ) (answer : Answered) : Type 0 where
   pub origin : LakeOrigin
   pub from : old.origin ≡ Some origin
   pub flow : (met : CallMet) → (answer.reply ≡ store_failed → HasRisen met.store_faults)
       → IsFlow old new number (asked_at call moment) met answer.reply answer.position answer.edge
-  pub failed : answer.reply ≡ store_failed → StoreFailed origin
   pub adds : AddsBy (caller old.number number) answer.reply old.seen new.seen
   pub position : answer.position ≡ length new.seen
   pub edge : answer.edge ≡ length new.seen

@@ -36,7 +36,7 @@ use Rattle.commit_flow.specs.declared.answer.CommitFault.TheVariants.{NoMemory}
 use Rattle.commit_flow.specs.CommitFaults.{IsCommitTold, fault_of_parent, fault_of_step}
 use Rattle.commit_flow.specs.CommitFlows.{HasMadeHead, HasMerged, HasPicked, IsAnswered, IsHeadAnswer, Merging, NoCommit, NoSource, NotChosen, NotSaid, Picking}
 use Rattle.commit_flow.specs.CommitFlows.{Went, answered_at}
-use Rattle.commit_flow.proofs.HeadAnswerLemmas.{IsStopping, made_so}
+use Rattle.commit_flow.proofs.HeadAnswerLemmas.{made_so}
 use Rattle.commit_flow.proofs.MergeLemmas.{begun_at_once, begun_behind, refused_first, starved_first, unresolved}
 
 -- a flow that went so and answered so, by what it answers
@@ -57,17 +57,17 @@ not_found : (o : Option Digest) (missing refused : Refusal) → chosen_by missin
 not_found (Some parent) missing refused is = absurd cc
 not_found None missing refused is = let same : chosen_by missing None ≡ Err refused = is in cc
 
--- a client is told of what such a refusal is answered as, and it isn't the store's
+-- a client is told of what such a refusal is answered as
 abbrev IsToldSo : CallNames → Refusal → Type 0
-IsToldSo names refused = IsStopping (fault_of_parent refused) × IsCommitTold names (fault_of_parent refused) (reply.Refused refused)
+IsToldSo names refused = IsCommitTold names (fault_of_parent refused) (reply.Refused refused)
 
 no_parent : (names : CallNames) (number : ℕ) → IsToldSo names (refusal.NoParent (OfNumber number))
-no_parent names number = (tt, refl)
+no_parent names number = refl
 
 by_only : (names : CallNames) (ids : List Digest) (several : Bool) (refused : Refusal)
     → (if several then Err refusal.NeedsParentNumber else chosen_by (refusal.NoParent (OfNumber 1)) (nth_parent ids 1)) ≡ Err refused → IsToldSo names refused
 by_only names ids true refused is =
-    let same : refusal.NeedsParentNumber ≡ refused = cc (is) in subst (IsToldSo names) same (tt, refl)
+    let same : refusal.NeedsParentNumber ≡ refused = cc (is) in subst (IsToldSo names) same refl
 by_only names ids false refused is =
     subst (IsToldSo names) (not_found (nth_parent ids 1) (refusal.NoParent (OfNumber 1)) refused is) (no_parent names 1)
 
@@ -146,7 +146,7 @@ module _ (number moment : ℕ) (blocks : BlockCounts) (old new : LakeSeat) (paus
         let told = not_chosen (names_of call) point.parents (parent_number call) refused unchosen in
         at_once call telling (fault_of_parent refused) none is
         (refused_first telling number call moment blocks first later course old new so.origin so.goes so.came (fault_of_parent refused) (reply.Refused refused)
-        told.0 told.1 (inr (point, refused, asks (state_at so.origin new.seen) ∙ so.ends, unchosen, refl)))
+        told (inr (point, refused, asks (state_at so.origin new.seen) ∙ so.ends, unchosen, refl)))
     pick_so (NotSaid point so unpaused none is) =
         at_once call telling NoMemory none is (starved_first telling number call moment blocks first later course old new so.origin so.goes so.came)
     pick_so (Picking point parent behind so chosen made) =

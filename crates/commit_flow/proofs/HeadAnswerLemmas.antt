@@ -1,6 +1,5 @@
 -- What a flow of a new head answers, by its seal and its tries.
 use Rattle.std.proofs.Common.{◌≡◌, ℕ, List, [], ◌∷◌, ◌++◌, length, Option, Some, Result, Ok, Err, refl, sym, ap, subst, ◌∙◌}
-use Rattle.std.specs.Prelude.{IsErrOf}
 use Rattle.lake_base.specs.declared.digest.Digest.{Digest}
 use Rattle.lake_values.specs.Commit.{CommitRecordValue}
 use Rattle.lake_model.specs.declared.fault.StepFault.{StepFault}
@@ -25,9 +24,8 @@ use Rattle.lake_calls.specs.declared.reply.Done.{Done as DoneReply}
 use Rattle.lake_calls.specs.declared.reply.Refusal.TheVariants as refusal
 use Rattle.flow_steps.specs.FlowAnswers.{BlockCounts, asked_at}
 use Rattle.flow_steps.specs.FlowSeats.{GoesOn, opened_state}
-use Rattle.flow_steps.specs.FlowTries.{StoreFailed}
 use Rattle.flow_steps.proofs.FlowEndLemmas.{HasReached}
-use Rattle.flow_steps.proofs.RetryLemmas.{counted_since, met_by, no_store, one_origin, told_some}
+use Rattle.flow_steps.proofs.RetryLemmas.{counted_since, fault_counted, met_by, no_store, one_fault, one_origin, told_some}
 use Rattle.flow_steps.proofs.SeatFlowLemmas.{goes_further}
 use Rattle.head_steps.specs.HeadSeals.{HasSealed, SealEnds}
 use Rattle.head_steps.specs.HeadTries.{MadeHead}
@@ -40,19 +38,6 @@ use Rattle.commit_flow.specs.CommitFaults.{IsCommitTold, fault_of_step}
 use Rattle.commit_flow.specs.CommitFlows.{HasMadeHead, IsHeadAnswer, Sealed, Unsealed, answered_at}
 use Rattle.commit_flow.specs.CommitTries.{HaveTriedHead}
 use Rattle.commit_flow.proofs.HeadLoopLemmas.{AllEnd, counted, ends_of}
-
--- a refusal that isn't the store's
-abbrev pub IsStopping : CommitFault → Type 0
-IsStopping (Step step.StoreFault) = ⊥
-IsStopping fault = Unit {0}
-
-abbrev refusal_by : CommitFault → Result MadeHead CommitFault
-refusal_by fault = Err fault
-
-no_store_fault : (fault : CommitFault) → IsStopping fault → IsErrOf (refusal_by fault) (Step step.StoreFault) → ⊥
-no_store_fault (Step step.StoreFault) stopping is = stopping
-no_store_fault (Step fault) stopping is = absurd cc
-no_store_fault fault stopping is = absurd cc
 
 -- an answer, by how its call was served
 module _ (telling : Digest × CommitRecordValue → DoneReply) (old new : LakeSeat) (number : ℕ) (call : Call) (moment : ℕ) (blocks : BlockCounts) (changed : ℕ)
@@ -76,12 +61,11 @@ module _ (telling : Digest × CommitRecordValue → DoneReply) (old new : LakeSe
     misses = refl;
     missed_last = refl;
     tries = refl;
-    store = λ is. absurd cc;
   }
 
-  pub stopped_so : (fault : CommitFault) (told : CallReply) → IsStopping fault → IsCommitTold (names_of call) fault told
-      → Serves (met_by no_store blocks changed) told → Answers (Err fault)
-  stopped_so fault told stopping tells served = record {
+  pub stopped_so : (fault : CommitFault) (told : CallReply) → IsCommitTold (names_of call) fault told → Serves (met_by no_store blocks changed) told
+      → Answers (Err fault)
+  stopped_so fault told tells served = record {
     met = met_by no_store blocks changed;
     told = told;
     tells = tells;
@@ -92,13 +76,11 @@ module _ (telling : Digest × CommitRecordValue → DoneReply) (old new : LakeSe
     misses = refl;
     missed_last = refl;
     tries = refl;
-    store = λ is. absurd (no_store_fault fault stopping is);
   }
 
-  pub failed_so : (failed : StoreFailed origin) → Serves (met_by failed.0 blocks changed) (reply.Refused refusal.StoreFault)
-      → Answers (Err (Step step.StoreFault))
-  failed_so failed served = record {
-    met = met_by failed.0 blocks changed;
+  pub failed_so : Serves (met_by one_fault blocks changed) (reply.Refused refusal.StoreFault) → Answers (Err (Step step.StoreFault))
+  failed_so served = record {
+    met = met_by one_fault blocks changed;
     told = reply.Refused refusal.StoreFault;
     tells = refl;
     flow = record { origin = origin; goes = goes; served = served };
@@ -108,7 +90,6 @@ module _ (telling : Digest × CommitRecordValue → DoneReply) (old new : LakeSe
     misses = refl;
     missed_last = refl;
     tries = refl;
-    store = λ is. failed.1;
   }
 
 -- ---- a call that came to its seal
@@ -147,20 +128,19 @@ module _ (telling : Digest × CommitRecordValue → DoneReply) (number : ℕ) (c
     pub unsealed : (fault : StepFault) → Refuses fault → SealAnswers (fault_of_step fault)
     unsealed step.NoMemory refuses =
         let by = caller old.number number in
-        stopped_so telling old new number call moment blocks 0 refuses.origin (goes step.NoMemory refuses) NoMemory reply.NoMemory tt refl
+        stopped_so telling old new number call moment blocks 0 refuses.origin (goes step.NoMemory refuses) NoMemory reply.NoMemory refl
         (seal_starved refuses.origin by call moment front why head telling makes old.seen now.seen (start step.NoMemory refuses).reached new.seen
         (met_by no_store blocks 0) (ends step.NoMemory refuses))
     unsealed step.StoreFault refuses =
         let by = caller old.number number in
-        let failed = refuses.store refl in
-        failed_so telling old new number call moment blocks 0 refuses.origin (goes step.StoreFault refuses) failed
+        failed_so telling old new number call moment blocks 0 refuses.origin (goes step.StoreFault refuses)
         (seal_faulted refuses.origin by call moment front why head telling makes old.seen now.seen (start step.StoreFault refuses).reached new.seen
-        (met_by failed.0 blocks 0) (ends step.StoreFault refuses) (failed.2, refl))
+        (met_by one_fault blocks 0) (ends step.StoreFault refuses) (fault_counted, refl))
     unsealed (step.Changed version settings) refuses = absurd refuses.ends
     unsealed fault refuses =
         let by = caller old.number number in
         let says = told_some (names_of call) fault tt tt in
-        stopped_so telling old new number call moment blocks 0 refuses.origin (goes fault refuses) (fault_of_step fault) (reply.Refused says.0) tt
+        stopped_so telling old new number call moment blocks 0 refuses.origin (goes fault refuses) (fault_of_step fault) (reply.Refused says.0)
         (says.0, says.1, refl)
         (seal_refused refuses.origin by call moment front why head telling makes old.seen now.seen (start fault refuses).reached fault new.seen
         (met_by no_store blocks 0) (reply.Refused says.0) (ends fault refuses).0 (ends fault refuses).1 (says.0, says.1, refl))
@@ -210,9 +190,6 @@ module _ (telling : Digest × CommitRecordValue → DoneReply) (number : ℕ) (c
           (subst (λ (o : LakeOrigin). EndsAll o (caller behind.number number)) same
           (ends_of tried.origin (caller behind.number number) head tried.versions result behind.seen tried.between new.seen tried.found tried.ends))
 
-      store : IsErrOf result (Step step.StoreFault) → StoreFailed origin
-      store is = subst StoreFailed same (tried.store is)
-
     abbrev TriedAnswers : (result : Result MadeHead CommitFault) → HaveTriedHead head number behind new paused pauses result → Type 0
     TriedAnswers result tried = IsHeadAnswer telling old new number call moment blocks (length tried.versions) (answered_at result new)
 
@@ -224,32 +201,31 @@ module _ (telling : Digest × CommitRecordValue → DoneReply) (number : ℕ) (c
     tried_so (Err (TooManyTries first last)) tried =
         let have = all (Err (TooManyTries first last)) tried in
         stopped_so telling old new number call moment blocks (length tried.versions) origin (whole (Err (TooManyTries first last)) tried)
-        (TooManyTries first last) (reply.Refused refusal.TooManyTries) tt refl
+        (TooManyTries first last) (reply.Refused refusal.TooManyTries) refl
         (head_tried_enough origin by call moment front why head telling makes old.seen behind.seen at_seal new.seen
         (met_by no_store blocks (length tried.versions)) have.came tried.ends.0
         (counted_since (counted origin by head) 10 old.seen behind.seen new.seen behind_goes.added have.came.0 behind_goes.seen have.came.2 have.given))
     tried_so (Err (Head cause)) tried =
         let ends = all (Err (Head cause)) tried in
         stopped_so telling old new number call moment blocks (length tried.versions) origin (whole (Err (Head cause)) tried)
-        (Head cause) (reply.Refused (told_of_head cause)) tt refl
+        (Head cause) (reply.Refused (told_of_head cause)) refl
         (head_unmade origin by call moment front why head telling makes old.seen behind.seen at_seal cause new.seen
         (met_by no_store blocks (length tried.versions)) ends.0 ends.1)
     tried_so (Err NoMemory) tried =
         stopped_so telling old new number call moment blocks (length tried.versions) origin (whole (Err NoMemory) tried)
-        NoMemory reply.NoMemory tt refl
+        NoMemory reply.NoMemory refl
         (head_starved origin by call moment front why head telling makes old.seen behind.seen at_seal new.seen
         (met_by no_store blocks (length tried.versions)) (all (Err NoMemory) tried))
     tried_so (Err (Step step.StoreFault)) tried =
-        let failed = store (Err (Step step.StoreFault)) tried refl in
-        failed_so telling old new number call moment blocks (length tried.versions) origin (whole (Err (Step step.StoreFault)) tried) failed
+        failed_so telling old new number call moment blocks (length tried.versions) origin (whole (Err (Step step.StoreFault)) tried)
         (head_faulted origin by call moment front why head telling makes old.seen behind.seen at_seal new.seen
-        (met_by failed.0 blocks (length tried.versions)) (all (Err (Step step.StoreFault)) tried) (failed.2, refl))
+        (met_by one_fault blocks (length tried.versions)) (all (Err (Step step.StoreFault)) tried) (fault_counted, refl))
     tried_so (Err (Step (step.Changed version settings))) tried = absurd (all (Err (Step (step.Changed version settings))) tried)
     tried_so (Err (Step step.NoMemory)) tried = absurd (all (Err (Step step.NoMemory)) tried)
     tried_so (Err (Step fault)) tried =
         let says = told_some (names_of call) fault tt tt in
         stopped_so telling old new number call moment blocks (length tried.versions) origin (whole (Err (Step fault)) tried)
-        (Step fault) (reply.Refused says.0) tt (says.0, says.1, refl)
+        (Step fault) (reply.Refused says.0) (says.0, says.1, refl)
         (head_refused origin by call moment front why head telling makes old.seen behind.seen at_seal fault new.seen
         (met_by no_store blocks (length tried.versions)) (reply.Refused says.0) (all (Err (Step fault)) tried) (says.0, says.1, refl))
     tried_so (Err (NoParent count)) tried = absurd (all (Err (NoParent count)) tried)

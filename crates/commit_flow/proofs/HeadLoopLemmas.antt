@@ -1,6 +1,6 @@
 -- Tries of a new head, one after the other.
 use Rattle.std.proofs.Common.{◌≡◌, ◌≤◌, ◌+◌, ◌<◌, ℕ, List, ◌++◌, length, drop, Option, Result, Ok, Err, refl, sym, ap, subst, ◌∙◌, arith}
-use Rattle.std.specs.Prelude.{◌==◌, Bool, IsErrOf, if◌then◌else◌}
+use Rattle.std.specs.Prelude.{◌==◌, Bool, if◌then◌else◌}
 use Rattle.lake_model.specs.declared.fault.StepFault.TheVariants as step
 use Rattle.lake_model.specs.declared.history.HistoryEntry.{HistoryEntry}
 use Rattle.core_state.specs.Counts.{versions_of}
@@ -14,7 +14,6 @@ use Rattle.call_placement.specs.Points.{Came}
 use Rattle.call_placement.specs.Sessions.{caller}
 use Rattle.call_placement.proofs.WalkLemmas.{came_on, drop_front, further}
 use Rattle.lake_calls.specs.LakeRules.{lake_rules}
-use Rattle.flow_steps.specs.FlowTries.{StoreFailed}
 use Rattle.flow_steps.specs.Retries.{FoundInTurn, HasPaused}
 use Rattle.flow_steps.proofs.RetryLemmas.{LastBehind, UnderWay, came_in_turn, changed_behind, given_in_turn, last_behind, ten_tried}
 use Rattle.head_drafts.specs.declared.fault.DraftFault.TheVariants as draft
@@ -111,29 +110,15 @@ as_tries origin by head versions (attempt.Step fault) from next few settled ends
 as_tries origin by head versions (attempt.Draft draft.NoMemory) from next few settled ends = (few, ends)
 as_tries origin by head versions (attempt.Draft (draft.Refused cause)) from next few settled ends = (few, ends)
 
-abbrev refusal_of : HeadFault → Result MadeHead HeadFault
-refusal_of fault = Err fault
-
-abbrev refusal_of_all : CommitFault → Result MadeHead CommitFault
-refusal_of_all fault = Err fault
-
-store_only : (fault : HeadFault) → IsErrOf (refusal_of_all (fault_of_try fault)) (Step step.StoreFault)
-    → IsErrOf (refusal_of fault) (attempt.Step step.StoreFault)
-store_only (attempt.Step step.StoreFault) is = refl
-store_only (attempt.Step step.NoMemory) is = absurd cc
-store_only (attempt.Step fault) is = absurd cc
-store_only (attempt.Draft draft.NoMemory) is = absurd cc
-store_only (attempt.Draft (draft.Refused cause)) is = absurd cc
-
 module _ (head : NewHead) (call changed first last : ℕ) (old now : LakeSeat) (way : UnderWay (Found head) call changed first last old now)
     (paused : Option ℕ) where
   abbrev Ended : Result MadeHead HeadFault → LakeOrigin → Caller → List HistoryEntry → List HistoryEntry → Type 0
-  Ended result origin by from next = HeadTryEnds origin by head result from next × (IsErrOf result (attempt.Step step.StoreFault) → StoreFailed origin)
+  Ended result origin by from next = HeadTryEnds origin by head result from next
 
   behind : (result : Result MadeHead HeadFault) (next : LakeSeat) → HasTriedHead head call now next result
       → LastBehind (Found head) call (Ended result) changed old next
   behind result next tried =
-      last_behind (Found head) call changed first last old now (Ended result) tried.origin next way tried.goes (tried.ends, tried.store)
+      last_behind (Found head) call changed first last old now (Ended result) tried.origin next way tried.goes tried.ends
 
   -- the head was made
   pub made_behind : (made : MadeHead) (next : LakeSeat) (pauses : Option ℕ) → changed < 10 → HasPaused 10 changed paused pauses
@@ -146,8 +131,7 @@ module _ (head : NewHead) (call changed first last : ℕ) (old now : LakeSeat) (
         versions = all.versions;
         between = all.between;
         found = all.found;
-        ends = (subst (λ n. n < 10) (sym all.count) few, all.last.0);
-        store = λ is. absurd cc;
+        ends = (subst (λ n. n < 10) (sym all.count) few, all.last);
         pause = subst (λ n. HasPaused 10 n paused pauses) (sym all.count) pause;
       }
 
@@ -163,8 +147,7 @@ module _ (head : NewHead) (call changed first last : ℕ) (old now : LakeSeat) (
         between = all.between;
         found = all.found;
         ends = as_tries all.origin (caller old.number call) head all.versions fault all.between next.seen (subst (λ n. n < 10) (sym all.count) few)
-            settled all.last.0;
-        store = λ is. all.last.1 (store_only fault is);
+            settled all.last;
         pause = subst (λ n. HasPaused 10 n paused pauses) (sym all.count) pause;
       }
 
@@ -186,7 +169,6 @@ module _ (head : NewHead) (call changed first last : ℕ) (old now : LakeSeat) (
         between = now.seen;
         found = all.have.found;
         ends = (all.have.count, all.have.ends, refl);
-        store = λ is. absurd cc;
         pause = subst (λ n. HasPaused 10 n paused pauses) (ten ∙ sym all.have.count) pause;
       }
 

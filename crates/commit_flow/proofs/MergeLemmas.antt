@@ -36,7 +36,7 @@ use Rattle.commit_flow.specs.declared.answer.CommitFault.{CommitFault}
 use Rattle.commit_flow.specs.declared.answer.CommitFault.TheVariants.{NoMemory}
 use Rattle.commit_flow.specs.CommitFaults.{IsCommitTold, fault_of_step}
 use Rattle.commit_flow.specs.CommitFlows.{IsHeadAnswer, answered_at}
-use Rattle.commit_flow.proofs.HeadAnswerLemmas.{HasBegun, IsStopping, stopped_so}
+use Rattle.commit_flow.proofs.HeadAnswerLemmas.{HasBegun, stopped_so}
 
 -- a call that met nothing before its seal goes on as it is
 pub begun_at_once : (origin : LakeOrigin) (number : ℕ) (call : Call) (moment : ℕ) (old : LakeSeat) → HasBegun origin number call moment [] old old
@@ -63,15 +63,15 @@ module _ (telling : Digest × CommitRecordValue → DoneReply) (number : ℕ) (c
   -- memory ran out
   pub starved_first : (origin : LakeOrigin) → GoesOn origin number old new → Came lake_rules (caller old.number number) old.seen new.seen → Answers NoMemory
   starved_first origin goes came =
-      stopped_so telling old new number call moment blocks 0 origin goes NoMemory reply.NoMemory tt refl
+      stopped_so telling old new number call moment blocks 0 origin goes NoMemory reply.NoMemory refl
       (first_starved origin (caller old.number number) call moment point later course old.seen new.seen (met_by no_store blocks 0) reply.NoMemory came refl)
 
   -- it was refused for this
   pub refused_first : (origin : LakeOrigin) → GoesOn origin number old new → Came lake_rules (caller old.number number) old.seen new.seen
-      → (fault : CommitFault) (told : CallReply) → IsStopping fault → IsCommitTold (names_of call) fault told
+      → (fault : CommitFault) (told : CallReply) → IsCommitTold (names_of call) fault told
       → PointRefused call point (state_at origin new.seen) told → Answers fault
-  refused_first origin goes came fault told stopping tells refused =
-      stopped_so telling old new number call moment blocks 0 origin goes fault told stopping tells
+  refused_first origin goes came fault told tells refused =
+      stopped_so telling old new number call moment blocks 0 origin goes fault told tells
       (first_refused origin (caller old.number number) call moment point later course old.seen new.seen (met_by no_store blocks 0) told came refused)
 
   module _ (resolving : IsResolving call point) (repo : List ℕ) (e : RefExprValue) (asks : (s : State) → resolved s call ≡ resolve_reply s repo e) where
@@ -81,7 +81,7 @@ module _ (telling : Digest × CommitRecordValue → DoneReply) (number : ℕ) (c
     unresolved (step.Changed version settings) so = absurd so.ends
     unresolved fault so =
         let says = told_some (names_of call) fault tt tt in
-        refused_first so.origin so.goes so.came (fault_of_step fault) (reply.Refused says.0) tt (says.0, says.1, refl)
+        refused_first so.origin so.goes so.came (fault_of_step fault) (reply.Refused says.0) (says.0, says.1, refl)
         (resolving (state_at so.origin new.seen) fault (reply.Refused says.0) (asks (state_at so.origin new.seen) ∙ so.ends) (says.0, says.1, refl))
 
 -- ---- an expression that led to a commit

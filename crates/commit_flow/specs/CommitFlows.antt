@@ -1,10 +1,9 @@
 -- What a flow of a new head promises of its answer.
-use Rattle.std.specs.Prelude.{◌≡◌, ◌≤◌, ℕ, List, [], Option, Result, Ok, Err, IsErrOf, length}
+use Rattle.std.specs.Prelude.{◌≡◌, ℕ, List, [], Option, Result, Ok, Err, length}
 use Rattle.lake_base.specs.declared.digest.Digest.{Digest}
 use Rattle.lake_values.specs.Commit.{CommitRecordValue}
 use Rattle.commit_graph.specs.Expressions.{RefExprValue}
 use Rattle.lake_model.specs.declared.fault.StepFault.{StepFault}
-use Rattle.lake_model.specs.declared.fault.StepFault.TheVariants as step
 use Rattle.lake_model.specs.declared.history.SealFor.{SealFor}
 use Rattle.lake_model.specs.declared.history.SealFor.TheVariants as seal
 use Rattle.lake_model.specs.declared.reply.Point.{Point}
@@ -24,7 +23,7 @@ use Rattle.head_steps.specs.HeadSeals.{HasResolved, HasSealed}
 use Rattle.head_steps.specs.HeadTries.{MadeHead}
 use Rattle.head_steps.specs.NewHeads.{NewHead}
 use Rattle.commit_flow.specs.declared.answer.CommitFault.{CommitFault}
-use Rattle.commit_flow.specs.declared.answer.CommitFault.TheVariants.{Step, NoMemory}
+use Rattle.commit_flow.specs.declared.answer.CommitFault.TheVariants.{NoMemory}
 use Rattle.commit_flow.specs.CommitFaults.{IsCommitTold, fault_of_parent, fault_of_step}
 use Rattle.commit_flow.specs.CommitTries.{HaveTriedHead}
 
@@ -74,7 +73,7 @@ IsMadeHeadTold names telling (Err fault) told = IsCommitTold names fault told
 
 -- A FLOW OF A NEW HEAD ANSWERED A CALL: it served it, at the place of all that its seat has seen then, by what its client is told of
 -- what came of it; what the call met of the store of objects is what that counted, and so many of its tries found other
--- versions. Where the store of pairs failed, its count of faults rose from no fewer than when the lake was opened.
+-- versions. Of the store of pairs nothing is said but its note.
 pub record IsHeadAnswer (telling : Digest × CommitRecordValue → DoneReply) (old new : LakeSeat) (number : ℕ) (call : Call) (moment : ℕ)
     (blocks : BlockCounts) (changed : ℕ) (answer : FlowAnswer MadeHead CommitFault) : Type 0 where
   pub met : CallMet
@@ -87,7 +86,6 @@ pub record IsHeadAnswer (telling : Digest × CommitRecordValue → DoneReply) (o
   pub misses : met.misses ≡ blocks.misses
   pub missed_last : met.missed_last ≡ blocks.missed_last
   pub tries : met.changed ≡ changed
-  pub store : IsErrOf answer.outcome (Step step.StoreFault) → flow.origin.faults ≤ met.store_faults.before
 
 -- what a flow answers, at all that its seat has seen
 abbrev pub answered_at : Result MadeHead CommitFault → LakeSeat → FlowAnswer MadeHead CommitFault

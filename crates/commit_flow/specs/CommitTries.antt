@@ -1,5 +1,5 @@
 -- A new head, tried at most ten times.
-use Rattle.std.specs.Prelude.{◌≡◌, ◌<◌, ℕ, List, Option, Result, Ok, Err, IsErrOf, length}
+use Rattle.std.specs.Prelude.{◌≡◌, ◌<◌, ℕ, List, Option, Result, Ok, Err, length}
 use Rattle.lake_model.specs.declared.fault.StepFault.TheVariants as step
 use Rattle.lake_model.specs.declared.history.HistoryEntry.{HistoryEntry}
 use Rattle.lake_core.specs.declared.standing.LakeOrigin.{LakeOrigin}
@@ -9,7 +9,6 @@ use Rattle.call_placement.specs.Points.{Came}
 use Rattle.call_placement.specs.Sessions.{caller}
 use Rattle.lake_calls.specs.LakeRules.{lake_rules}
 use Rattle.flow_steps.specs.FlowSeats.{GoesOn}
-use Rattle.flow_steps.specs.FlowTries.{StoreFailed}
 use Rattle.flow_steps.specs.Retries.{AreEnds, FoundInTurn, HasPaused}
 use Rattle.head_drafts.specs.declared.fault.DraftFault.TheVariants.{Refused as NotDrafted}
 use Rattle.head_drafts.specs.declared.fault.HeadFault.{HeadFault}
@@ -48,7 +47,6 @@ pub record HaveTriedHead (head : NewHead) (call : ℕ) (old new : LakeSeat) (pau
   pub between : List HistoryEntry
   pub found : FoundInTurn (FoundHeadVersions origin (caller old.number call) head) versions old.seen between
   pub ends : HeadTriesEnd origin (caller old.number call) head versions result between new.seen
-  pub store : IsErrOf result (Step step.StoreFault) → StoreFailed origin
   pub pause : HasPaused 10 (length versions) paused pauses
 
 -- what came of a try, told apart

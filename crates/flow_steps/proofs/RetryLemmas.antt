@@ -20,7 +20,7 @@ use Rattle.call_placement.specs.Rules.{Caller}
 use Rattle.call_placement.specs.Points.{Came}
 use Rattle.call_placement.specs.Sessions.{caller}
 use Rattle.call_placement.proofs.WalkLemmas.{came_on, drop_front, further, nothing_came}
-use Rattle.lake_calls.specs.CallExceptions.{CallMet, Counts}
+use Rattle.lake_calls.specs.CallExceptions.{CallMet, Counts, HasRisen}
 use Rattle.lake_calls.specs.CallRefusals.{CallNames, told}
 use Rattle.lake_calls.specs.LakeRules.{lake_rules}
 use Rattle.lake_calls.specs.declared.reply.Refusal.{Refusal}
@@ -45,6 +45,13 @@ met_by store blocks changed = record {
 -- the store of pairs counted nothing that is told
 abbrev pub no_store : Counts
 no_store = record { before = 0; now = 0 }
+
+-- it counted a fault
+abbrev pub one_fault : Counts
+one_fault = record { before = 0; now = 1 }
+
+pub fault_counted : HasRisen one_fault
+fault_counted below = omega arith
 
 -- what a client is told of a step's refusal, which is neither for a version, nor of the store, nor for memory
 pub told_some : (names : CallNames) (fault : StepFault) → IsUnversioned fault → IsRefusal fault → (refused : Refusal) × (told names fault ≡ Some refused)

@@ -1,5 +1,5 @@
 -- A change that no version guards, made by one step.
-use Rattle.std.specs.Prelude.{◌≡◌, ◌++◌, IsErrOf, ℕ, List, [], ◌∷◌, Option, Some, None, Result, Ok, Err}
+use Rattle.std.specs.Prelude.{◌≡◌, ◌++◌, ℕ, List, [], ◌∷◌, Option, Some, None, Result, Ok, Err}
 use Rattle.lake_model.specs.declared.fault.StepFault.{StepFault}
 use Rattle.lake_model.specs.declared.fault.StepFault.TheVariants.{StoreFault, NoMemory}
 use Rattle.lake_model.specs.declared.history.HistoryEntry.{HistoryEntry}
@@ -13,7 +13,6 @@ use Rattle.call_placement.specs.Points.{Came}
 use Rattle.call_placement.specs.Sessions.{caller}
 use Rattle.lake_calls.specs.LakeRules.{by_caller, lake_rules}
 use Rattle.flow_steps.specs.FlowSeats.{GoesOn, state_at}
-use Rattle.flow_steps.specs.FlowTries.{StoreFailed}
 
 module _ {X : Type 0} (origin : LakeOrigin) (by : Caller) (refused_by : State → Option StepFault) (Makes : State → X → Operation → Type 0) where
   -- the step was reached: others' entries came to a state in which nothing refuses it, and there it makes this operation
@@ -32,10 +31,8 @@ module _ {X : Type 0} (origin : LakeOrigin) (by : Caller) (refused_by : State �
   ChangeEnds (Err fault) from next = Came lake_rules by from next × (refused_by (state_at origin next) ≡ Some fault)
 
 -- A CHANGE OF A CALL, between its seat before the step and after it: the seat went on in the call, and the step came to this.
--- Where the store failed its count of faults rose, from no fewer than when the lake was opened.
 pub record HasMade {X : Type 0} (refused_by : State → Option StepFault) (Makes : State → X → Operation → Type 0) (call : ℕ) (old new : LakeSeat)
     (result : Result X StepFault) : Type 0 where
   pub origin : LakeOrigin
   pub goes : GoesOn origin call old new
   pub ends : ChangeEnds origin (caller old.number call) refused_by Makes result old.seen new.seen
-  pub store : IsErrOf result StoreFault → StoreFailed origin

@@ -1,6 +1,6 @@
 -- A change of a branch that is guarded by the branch's version, tried once: a reading gives the version, and a step makes
 -- the change at that version.
-use Rattle.std.specs.Prelude.{◌≡◌, ◌≢◌, ◌≤◌, ◌⊎◌, ◌++◌, IsErrOf, ℕ, List, [], ◌∷◌, Option, Some, None, Result, Ok, Err}
+use Rattle.std.specs.Prelude.{◌≡◌, ◌≢◌, ◌⊎◌, ◌++◌, ℕ, List, [], ◌∷◌, Option, Some, None, Result, Ok, Err}
 use Rattle.lake_values.specs.Entry.{EntryValue}
 use Rattle.lake_values.specs.declared.entry.Change.{Change}
 use Rattle.commit_graph.specs.Expressions.{RefExprValue}
@@ -20,13 +20,8 @@ use Rattle.call_placement.specs.Rules.{Caller}
 use Rattle.shared_lake.specs.SeatSteps.{LakeSeat}
 use Rattle.call_placement.specs.Points.{Came}
 use Rattle.call_placement.specs.Sessions.{caller}
-use Rattle.lake_calls.specs.CallExceptions.{Counts, HasRisen}
 use Rattle.lake_calls.specs.LakeRules.{by_caller, lake_rules}
 use Rattle.flow_steps.specs.FlowSeats.{GoesOn, given_at, state_at}
-
--- the store of pairs failed: its count of faults rose, from no fewer than when the lake was opened
-abbrev pub StoreFailed : LakeOrigin → Type 0
-StoreFailed origin = (counts : Counts) × (origin.faults ≤ counts.before) × HasRisen counts
 
 -- the first of the causes that a step asks before its versions
 abbrev pub first_before_versions : Causes → Option StepFault
@@ -99,10 +94,8 @@ module _ (origin : LakeOrigin) (by : Caller) (guarded : Guarded) where
   TryEnds (Err (Changed version settings)) from next = FoundVersion version from next
   TryEnds (Err fault) from next = IsRefused fault from next
 
--- A TRY OF A CALL, between its seat before it and after it: the seat went on in the call, and the try came to this. Where the
--- store failed its count of faults rose, from no fewer than when the lake was opened.
+-- A TRY OF A CALL, between its seat before it and after it: the seat went on in the call, and the try came to this.
 pub record HasTried (guarded : Guarded) (call : ℕ) (old new : LakeSeat) (result : Result (Option EntryValue) StepFault) : Type 0 where
   pub origin : LakeOrigin
   pub goes : GoesOn origin call old new
   pub ends : TryEnds origin (caller old.number call) guarded result old.seen new.seen
-  pub store : IsErrOf result StoreFault → StoreFailed origin

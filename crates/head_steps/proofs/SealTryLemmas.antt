@@ -100,7 +100,6 @@ module _ {K : Type 0} (view : KeeperView K) (old new : LakeSeat) (call : ℕ) (r
     origin = origin (Ok told) changed;
     goes = goes (Ok told) changed;
     ends = (found (Ok told) changed, (came (Ok told) changed, decides (Ok told) changed), stands (Ok told) changed);
-    store = λ is. absurd cc;
   }
   sealed (Err step.StoreFault) changed = record {
     origin = origin (Err step.StoreFault) changed;
@@ -110,18 +109,12 @@ module _ {K : Type 0} (view : KeeperView K) (old new : LakeSeat) (call : ℕ) (r
       (came (Err step.StoreFault) changed, decides (Err step.StoreFault) changed),
       stands (Err step.StoreFault) changed,
     );
-    store = λ is. (
-      record { before = view.faults changed.found.keeper; now = view.faults changed.left.keeper },
-      changed.finds.holds.keeper.keeper.later,
-      changed.leaves.1.rose,
-    );
   }
   sealed (Err step.NoMemory) changed = record {
     origin = origin (Err step.NoMemory) changed;
     goes = goes (Err step.NoMemory) changed;
     ends = subst (λ es. Came lake_rules (caller old.number call) old.seen es) (nothing_added (Err step.NoMemory) changed refl)
         (came (Err step.NoMemory) changed);
-    store = λ is. absurd cc;
   }
   sealed (Err fault) changed = record {
     origin = origin (Err fault) changed;
@@ -131,7 +124,6 @@ module _ {K : Type 0} (view : KeeperView K) (old new : LakeSeat) (call : ℕ) (r
         (not_sealed (origin (Err fault) changed) fault (found (Err fault) changed)
         (unversioned_by (state_at (origin (Err fault) changed) (found (Err fault) changed)) repo branch why_for fault (decides (Err fault) changed)) tt
         (came (Err fault) changed) (decides (Err fault) changed));
-    store = λ is. absurd cc;
   }
 
 -- ---- an expression that is resolved

@@ -3,7 +3,6 @@ use Rattle.std.proofs.Common.{◌≡◌, ◌+◌, inl, inr, ℕ, List, [], ◌�
 use Rattle.std.proofs.Common.{arith, length, length-append}
 use Rattle.std.specs.Prelude.{IsSomeAnd, option_map}
 use Rattle.std.proofs.lemmas.List.{append-nil}
-use Rattle.lake_base.specs.Outside.{Rose}
 use Rattle.lake_base.specs.declared.digest.Digest.{Digest}
 use Rattle.lake_values.specs.Commit.{AboutValue, CommitRecordValue}
 use Rattle.lake_format.specs.Spelling.{commit_id}
@@ -19,7 +18,7 @@ use Rattle.core_commits.specs.Making.{head_answer, head_making}
 use Rattle.core_commits.specs.Testing.{drafted_in}
 use Rattle.core_puts.specs.KeeperViews.{KeeperView}
 use Rattle.core_changes.specs.LakeChanges.{after_new_head}
-use Rattle.core_puts.specs.KeptChanges.{IsFaulted, Making, Parts, unmade}
+use Rattle.core_puts.specs.KeptChanges.{Making, unmade}
 use Rattle.core_puts.specs.Puts.{new_head_puts}
 use Rattle.core_standing.proofs.PresentLemmas.{present_entries}
 use Rattle.core_state.specs.LakeStates.{lake_value}
@@ -34,7 +33,6 @@ use Rattle.call_placement.specs.Sessions.{caller}
 use Rattle.call_placement.proofs.WalkLemmas.{came_on}
 use Rattle.lake_calls.specs.LakeRules.{by_caller, lake_rules}
 use Rattle.flow_steps.specs.FlowSeats.{GoesOn, given_at, state_at}
-use Rattle.flow_steps.specs.FlowTries.{StoreFailed}
 use Rattle.flow_steps.proofs.SeatFlowLemmas.{answer_changed, answer_read, as_found, came_to_change, came_to_reading, entries_by, entry_stands}
 use Rattle.flow_steps.proofs.SeatFlowLemmas.{goes_by_change, goes_by_reading, goes_further}
 use Rattle.head_drafts.specs.HeadDrafts.{IsReadingReply}
@@ -49,15 +47,9 @@ use Rattle.head_steps.specs.HeadTries.{HasTriedHead, HeadSteps, HeadTryEnds, IsH
 use Rattle.head_steps.specs.NewHeads.{IsClashIn, IsDraftedIn, NewHead, commit_in, early_refusal, operation_of, rule_of}
 use Rattle.head_steps.proofs.HeadCauseLemmas.{IsTold, is_free, reading_told, refused_by, versions_same}
 
-not_store : (fault : StepFault) → IsRefusal fault → fault ≡ step.StoreFault → ⊥
-not_store fault is same = subst IsRefusal same is
-
 -- a refusal, as the result of a try
 abbrev pub refusal_of : HeadFault → Result MadeHead HeadFault
 refusal_of fault = Err fault
-
-same_fault : (one other : StepFault) → refusal_of (Step one) ≡ refusal_of (Step other) → one ≡ other
-same_fault one other is = cc (is)
 
 -- ---- a refusal of a try
 
@@ -76,10 +68,6 @@ module _ (origin : LakeOrigin) (by : Caller) (head : NewHead) (from next : List 
       → Ends (Step fault)
   unread step.NoMemory came says = came
   unread fault came says = refused_as fault (reading_told head (state_at origin next) fault says) (inl (came, says))
-
-  no_store : (fault : StepFault) → IsReadingReply (early_refusal head (state_at origin next)) (Err (Step fault)) → fault ≡ step.StoreFault → ⊥
-  no_store step.NoMemory says is = absurd cc
-  no_store fault says is = not_store fault (reading_told head (state_at origin next) fault says).1 is
 
   undrafted : (fault : DraftFault) → Came lake_rules by from next → IsReadingReply (early_refusal head (state_at origin next)) (Err (Draft fault))
       → Ends (Draft fault)
@@ -112,15 +100,12 @@ module _ {K : Type 0} (view : KeeperView K) (old new : LakeSeat) (head : NewHead
     goes = went_there (Step fault) read;
     ends = unread (unread_origin (Step fault) read) (caller old.number call) head old.seen new.seen fault (came_there (Step fault) read)
         (told_there (Step fault) read);
-    store = λ is. absurd (no_store (unread_origin (Step fault) read) (caller old.number call) head old.seen new.seen fault (told_there (Step fault) read)
-        (same_fault fault step.StoreFault is));
   }
   not_drafted_tried (Draft fault) read = record {
     origin = unread_origin (Draft fault) read;
     goes = went_there (Draft fault) read;
     ends = undrafted (unread_origin (Draft fault) read) (caller old.number call) head old.seen new.seen fault (came_there (Draft fault) read)
         (told_there (Draft fault) read);
-    store = λ is. absurd cc;
   }
 
   -- what its reading is refused for is no version
@@ -237,14 +222,6 @@ module _ {K : Type 0} (view : KeeperView K) (old mid new : LakeSeat) (head : New
         (ap (λ (s : State). s.entries) changed.finds.holds.stands.replayed
         ∙ present_entries (lake_value changed.found.opened) found (lake_value changed.found.present) changed.finds.holds.stands)
 
-    -- the store's count of faults rose, from no fewer than when the lake was opened
-    store_failed : Rose (view.faults changed.found.keeper) (view.faults changed.left.keeper) → StoreFailed origin
-    store_failed rose =
-        let both : Some (origin_of view changed.found) ≡ Some origin = sym changed.finds.origin ∙ mid_origin in
-        let same : origin_of view changed.found ≡ origin = cc (both) in
-        subst StoreFailed same
-        (record { before = view.faults changed.found.keeper; now = view.faults changed.left.keeper }, changed.finds.holds.keeper.keeper.later, rose)
-
     -- where no cause holds, nothing refuses the head at the step
     abbrev NoCause : Option Clash → Type 0
     NoCause clash = first_cause (swap_causes (state_at origin found) (given_at origin found) head.repo head.branch drafted.version drafted.settings
@@ -306,11 +283,6 @@ module _ {K : Type 0} (view : KeeperView K) (old mid new : LakeSeat) (head : New
               (inr (mid.seen, to_reading, was_read.reading, to_step, clash, is_clash, plain.0))
         ]
 
-  fault_rose : (maker : By) (made : Option Making) (one other : Parts K) → IsSomeAnd made (λ m. IsFaulted view maker m one other)
-      → Rose (view.faults one.keeper) (view.faults other.keeper)
-  fault_rose maker (Some m) one other is = is.rose
-  fault_rose maker None one other is = absurd is
-
   pub swap_tried : (result : Result MadeHead StepFault) → Swaps result → SwapsAs result
   swap_tried (Ok made) changed =
       let by : By = record { seat = mid.number; call = call } in
@@ -329,7 +301,6 @@ module _ {K : Type 0} (view : KeeperView K) (old mid new : LakeSeat) (head : New
           commit = commit.0;
           id = commit.1;
         };
-        store = λ is. absurd cc;
       }
   swap_tried (Err step.StoreFault) changed =
       let reply = answered (Err step.StoreFault) changed in
@@ -341,15 +312,12 @@ module _ {K : Type 0} (view : KeeperView K) (old mid new : LakeSeat) (head : New
           steps (Err step.StoreFault) changed reply.0 reply.1 reply.2,
           own_entries (Err step.StoreFault) changed _ changed.leaves.1 (λ by. faulted_entry by (operation_of head)) refl (λ commit. refl),
         );
-        store = λ is. store_failed (Err step.StoreFault) changed
-            (fault_rose (record { seat = mid.number; call = call }) (SwapMaking changed.found) _ _ changed.leaves.1);
       }
   swap_tried (Err step.NoMemory) changed = record {
     origin = origin;
     goes = goes (Err step.NoMemory) changed;
     ends = subst (λ es. Came lake_rules (caller old.number call) old.seen es) (nothing_added (Err step.NoMemory) changed refl)
         (came_further (Err step.NoMemory) changed);
-    store = λ is. absurd cc;
   }
   swap_tried (Err fault) changed =
       let reply = answered (Err fault) changed in
@@ -358,7 +326,6 @@ module _ {K : Type 0} (view : KeeperView K) (old mid new : LakeSeat) (head : New
         goes = goes (Err fault) changed;
         ends = subst (λ es. EndsAt (Err fault) changed fault es) (nothing_added (Err fault) changed refl)
             (not_made (Err fault) changed reply.0 fault tt reply.1 reply.2);
-        store = λ is. absurd (not_store fault tt (same_fault fault step.StoreFault is));
       }
 
   -- so it is of a copy of what is said of it

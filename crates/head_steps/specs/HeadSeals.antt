@@ -1,5 +1,5 @@
 -- What a call of a new head does before its tries: it resolves an expression, and it seals its branch.
-use Rattle.std.specs.Prelude.{◌≡◌, ◌++◌, IsErrOf, ℕ, List, [], ◌∷◌, Some, None, Result, Ok, Err}
+use Rattle.std.specs.Prelude.{◌≡◌, ◌++◌, ℕ, List, [], ◌∷◌, Some, None, Result, Ok, Err}
 use Rattle.commit_graph.specs.Expressions.{RefExprValue}
 use Rattle.lake_model.specs.declared.fault.StepFault.{StepFault}
 use Rattle.lake_model.specs.declared.fault.StepFault.TheVariants as step
@@ -20,7 +20,6 @@ use Rattle.call_placement.specs.Points.{Came}
 use Rattle.call_placement.specs.Sessions.{caller}
 use Rattle.lake_calls.specs.LakeRules.{by_caller, lake_rules}
 use Rattle.flow_steps.specs.FlowSeats.{GoesOn, state_at}
-use Rattle.flow_steps.specs.FlowTries.{StoreFailed}
 
 module _ (origin : LakeOrigin) (by : Caller) (repo branch : List ℕ) (why : SealFor) where
   -- others' entries came to the seal, which nothing refused
@@ -37,13 +36,11 @@ module _ (origin : LakeOrigin) (by : Caller) (repo branch : List ℕ) (why : Sea
   SealEnds (Err (step.Changed version settings)) from next = ⊥
   SealEnds (Err fault) from next = Came lake_rules by from next × (first_cause (seal_causes why (state_at origin next) repo branch) ≡ Some fault)
 
--- A SEAL OF A CALL, between its seat before it and after it: the seat went on in the call, and the seal came to this. Where the
--- store failed its count of faults rose, from no fewer than when the lake was opened.
+-- A SEAL OF A CALL, between its seat before it and after it: the seat went on in the call, and the seal came to this.
 pub record HasSealed (repo branch : List ℕ) (why : SealFor) (call : ℕ) (old new : LakeSeat) (result : Result Versions StepFault) : Type 0 where
   pub origin : LakeOrigin
   pub goes : GoesOn origin call old new
   pub ends : SealEnds origin (caller old.number call) repo branch why result old.seen new.seen
-  pub store : IsErrOf result step.StoreFault → StoreFailed origin
 
 -- what came of the resolving of an expression in a state
 abbrev pub ResolveEnds : State → (repo : List ℕ) → RefExprValue → Result Point StepFault → Type 0

@@ -1,6 +1,6 @@
 -- A new head of a branch, tried once: a reading hands out what it is made from, it is drafted outside of the turn, and a step
 -- makes it by the versions that the reading gave.
-use Rattle.std.specs.Prelude.{◌≡◌, ◌≢◌, ◌⊎◌, ◌++◌, IsErrOf, ℕ, List, [], ◌∷◌, length, Option, Some, None, Result, Ok, Err}
+use Rattle.std.specs.Prelude.{◌≡◌, ◌≢◌, ◌⊎◌, ◌++◌, ℕ, List, [], ◌∷◌, length, Option, Some, None, Result, Ok, Err}
 use Rattle.lake_base.specs.declared.digest.Digest.{Digest}
 use Rattle.lake_values.specs.Commit.{CommitRecordValue}
 use Rattle.lake_format.specs.Spelling.{commit_id}
@@ -22,7 +22,7 @@ use Rattle.call_placement.specs.Points.{Came}
 use Rattle.call_placement.specs.Sessions.{caller}
 use Rattle.lake_calls.specs.LakeRules.{by_caller, lake_rules}
 use Rattle.flow_steps.specs.FlowSeats.{GoesOn, given_at, state_at}
-use Rattle.flow_steps.specs.FlowTries.{StoreFailed, first_before_versions}
+use Rattle.flow_steps.specs.FlowTries.{first_before_versions}
 use Rattle.head_steps.specs.NewHeads.{IsClashIn, IsFree, NewHead, commit_in, early_refusal, late_causes, operation_of}
 
 -- a head that was made: the place of its entry, its id, and what its commit says
@@ -80,10 +80,8 @@ module _ (origin : LakeOrigin) (by : Caller) (head : NewHead) where
   HeadTryEnds (Err (Draft (draft.Refused cause))) from next =
       Came lake_rules by from next × (early_refusal head (state_at origin next) ≡ Some (reading.Head cause))
 
--- A TRY OF A CALL, between its seat before it and after it: the seat went on in the call, and the try came to this. Where the
--- store failed its count of faults rose, from no fewer than when the lake was opened.
+-- A TRY OF A CALL, between its seat before it and after it: the seat went on in the call, and the try came to this.
 pub record HasTriedHead (head : NewHead) (call : ℕ) (old new : LakeSeat) (result : Result MadeHead HeadFault) : Type 0 where
   pub origin : LakeOrigin
   pub goes : GoesOn origin call old new
   pub ends : HeadTryEnds origin (caller old.number call) head result old.seen new.seen
-  pub store : IsErrOf result (Step step.StoreFault) → StoreFailed origin

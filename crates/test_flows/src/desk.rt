@@ -74,9 +74,9 @@ fn words(alloc: Global, answer: FlowAnswer<Done, FlowFault>) -> Result<String, F
 }
 
 impl<'a, W: Wait> Desk<'a, W> {
-    /// The answer to what is asked, in words, with this pause: `put BRANCH` puts five bytes at the path `a`, `link` an
-    /// object of nine bytes there, `copy PATH` copies what stands there to `c`, `delete` deletes `a`, and `reset BRANCH`
-    /// drops all changes. What else is asked is of heads.
+    /// The answer to what is asked, in words, with this pause: `put BRANCH` puts five bytes at the path `a`, `link`
+    /// an object of nine bytes there, `copy PATH` copies what stands there to `c`, `delete` deletes `a`, and
+    /// `reset BRANCH` drops all changes. What else is asked is of heads.
     pub(crate) fn answer(&mut self, sealer: &mut Sealer<'_, W>, ask: &str) -> Result<String, Fail> {
         self.calls = self.calls.saturating_add(1);
         let (verb, name) = ask.split_once(' ').unwrap_or((ask, ""));

@@ -55,8 +55,8 @@ fn words(alloc: Global, answer: Answer) -> Result<String, Fail> {
 
 impl<'a, W: Wait> Desk<'a, W> {
     /// The answer to what is asked of heads, in words, with this pause: `commit BRANCH`; `branch NAME`, made at `main`;
-    /// `merge EXPRESSION` into `main`; `revert EXPRESSION` on `main` and `take EXPRESSION` into it, behind the expression
-    /// the number of a parent; `limit`, at most one change in a commit of the repository.
+    /// `merge EXPRESSION` into `main`; `revert EXPRESSION` on `main` and `take EXPRESSION` into it, behind the
+    /// expression the number of a parent; `limit`, at most one change in a commit of the repository.
     pub(crate) fn answer_head(
         &mut self,
         sealer: &mut Sealer<'_, W>,

@@ -2,7 +2,6 @@
 use Rattle.std.proofs.Common.{◌≡◌, ◌≤◌, inl, inr, ℕ, Bool, List, [], ◌++◌, length, drop, Option, Result, Ok, Err, refl, sym}
 use Rattle.std.proofs.Common.{ap, arith, subst}
 use Rattle.std.specs.Option.{option_or}
-use Rattle.std.specs.Prelude.{IsErrOf}
 use Rattle.lake_values.specs.Entry.{EntryValue}
 use Rattle.lake_model.specs.declared.fault.StepFault.TheVariants as step
 use Rattle.lake_core.specs.declared.standing.LakeOrigin.{LakeOrigin}
@@ -27,7 +26,7 @@ use Rattle.flow_steps.specs.declared.answer.FlowAnswer.{FlowAnswer}
 use Rattle.flow_steps.specs.FlowAnswers.{BlockCounts, asked_at}
 use Rattle.flow_steps.specs.FlowSeats.{opened_state}
 use Rattle.flow_steps.specs.FlowTries.{Guarded}
-use Rattle.flow_steps.proofs.RetryLemmas.{counted_since, met_by, no_store, told_some}
+use Rattle.flow_steps.proofs.RetryLemmas.{counted_since, fault_counted, met_by, no_store, one_fault, told_some}
 use Rattle.flow_steps.proofs.FlowEndLemmas.{HasReached, reached_nothing, served_stopped}
 use Rattle.write_flow.specs.declared.answer.Done.{Done}
 use Rattle.write_flow.specs.declared.answer.FlowFault.{FlowFault}
@@ -42,14 +41,6 @@ use Rattle.write_flow.proofs.ServingLemmas.{Serves, Stops, stops_memory, stops_r
 abbrev pub IsStopping : FlowFault → Type 0
 IsStopping (Step step.StoreFault) = ⊥
 IsStopping fault = Unit {0}
-
-abbrev refusal_by : FlowFault → Result Done FlowFault
-refusal_by fault = Err fault
-
-pub no_store_fault : (fault : FlowFault) → IsStopping fault → IsErrOf (refusal_by fault) (Step step.StoreFault) → ⊥
-no_store_fault (Step step.StoreFault) stopping is = stopping
-no_store_fault (Step fault) stopping is = absurd cc
-no_store_fault fault stopping is = absurd cc
 
 -- counts of a store that isn't touched don't fall
 pub still_later : (faults misses : ℕ) → (faults ≤ faults) × (misses ≤ misses)
@@ -166,7 +157,6 @@ module _ (call : Call) (moment : ℕ) (repo branch : List ℕ) (guarded : Guarde
         missed_last = refl;
         counts = later;
         tries = refl;
-        store = λ is. absurd (no_store_fault fault stopping is);
       }
 
   pub answered : (result : Result (Option EntryValue) FlowFault) (tried : Tried result) → Answer (length tried.versions) result
@@ -184,11 +174,9 @@ module _ (call : Call) (moment : ℕ) (repo branch : List ℕ) (guarded : Guarde
         missed_last = refl;
         counts = later;
         tries = refl;
-        store = λ is. absurd cc;
       }
   answered (Err (Step step.StoreFault)) tried =
-      let failed = tried.store refl in
-      let met = met_by failed.0 blocks (length tried.versions) in
+      let met = met_by one_fault blocks (length tried.versions) in
       record {
         met = met;
         told = reply.Refused refusal.StoreFault;
@@ -197,14 +185,13 @@ module _ (call : Call) (moment : ℕ) (repo branch : List ℕ) (guarded : Guarde
           origin = tried.origin;
           goes = tried.goes;
           served = tries_faulted tried.origin (caller old.number number) call moment [] repo branch guarded Tells serves old.seen old.seen
-              (start (Err (Step step.StoreFault)) tried) new.seen met (ended (Err (Step step.StoreFault)) tried) (failed.2, refl);
+              (start (Err (Step step.StoreFault)) tried) new.seen met (ended (Err (Step step.StoreFault)) tried) (fault_counted, refl);
         };
         faults = refl;
         misses = refl;
         missed_last = refl;
         counts = later;
         tries = refl;
-        store = λ is. failed.1;
       }
   answered (Err fault) tried = refused fault tt tried
 

@@ -42,7 +42,6 @@ use Rattle.write_flow.specs.declared.answer.FlowFault.TheVariants.{NoMemory}
 use Rattle.write_flow.specs.FlowFaults.{IsFlowTold, fault_of_step}
 use Rattle.write_flow.specs.Uploads.{HasTakenNumber, IsUploadTold, refused_at}
 use Rattle.write_flow.specs.WriteFlows.{IsAnswer, NeverFall}
-use Rattle.write_flow.proofs.AnswerLemmas.{IsStopping, no_store_fault}
 use Rattle.write_flow.proofs.UploadLemmas.{fixing}
 
 -- what a client is told of a step's refusal, as a flow answers it
@@ -104,12 +103,11 @@ module _ {K : Type 0} (view : KeeperView K) (old new : LakeSeat) (call : ℕ) (u
     is_next : number ≡ (state_at origin found).next_number
     is_next = sym (ap (λ (s : State). s.next_number) changed.finds.holds.stands.replayed)
 
-    stopped : (flow_fault : FlowFault) (says : CallReply) → IsStopping flow_fault
-        → IsFlowTold (names_of upload) flow_fault says → new.seen ≡ found
+    stopped : (flow_fault : FlowFault) (says : CallReply) → IsFlowTold (names_of upload) flow_fault says → new.seen ≡ found
         → Hinders lake_rules (opened_state origin) by (asked_at upload moment) (met_by no_store blocks 0) (length old.seen)
         (call_course upload moment (fixing u moment number)) found says
         → Answers flow_fault
-    stopped flow_fault says stopping tells same hinders = record {
+    stopped flow_fault says tells same hinders = record {
       met = met_by no_store blocks 0;
       told = says;
       tells = tells;
@@ -127,14 +125,13 @@ module _ {K : Type 0} (view : KeeperView K) (old new : LakeSeat) (call : ℕ) (u
       missed_last = refl;
       counts = later;
       tries = refl;
-      store = λ is. absurd (no_store_fault flow_fault stopping is);
     }
 
     refused : IsRefusal fault → first_cause (write_causes (state_at origin found) u.repo u.branch) ≡ Some fault → new.seen ≡ found
-        → (reply_told : CallReply) → IsStopping (fault_of_step fault)
+        → (reply_told : CallReply)
         → IsFlowTold (names_of upload) (fault_of_step fault) reply_told → IsToldOf (names_of upload) fault reply_told → Answers (fault_of_step fault)
-    refused is first same reply_told stopping tells says =
-        stopped (fault_of_step fault) reply_told stopping tells same
+    refused is first same reply_told tells says =
+        stopped (fault_of_step fault) reply_told tells same
         (ByState (Makes (TicketTake u.repo u.branch number)) _ refl
         (moved (λ s. PointRefused upload (Makes (TicketTake u.repo u.branch number)) s reply_told) (opened_state origin) found
         (record { clash = None; is_clash = refl; fault = fault; first = first; told_so = says })))
@@ -147,7 +144,6 @@ module _ {K : Type 0} (view : KeeperView K) (old new : LakeSeat) (call : ℕ) (u
     ends = subst (Came lake_rules by old.seen)
         (sym (entry_stands view old new call Takes (TakeAnswers step.NoMemory) (Err step.NoMemory) changed ∙ append-nil (found step.NoMemory changed)))
         (came step.NoMemory changed);
-    store = λ is. absurd cc;
   }
   not_taken step.StoreFault changed = record {
     origin = origin step.StoreFault changed;
@@ -159,11 +155,6 @@ module _ {K : Type 0} (view : KeeperView K) (old new : LakeSeat) (call : ℕ) (u
       record { came = came step.StoreFault changed; none = decides step.StoreFault changed; makes = (is_next step.StoreFault changed, refl) },
       entry_stands view old new call Takes (TakeAnswers step.StoreFault) (Err step.StoreFault) changed,
     );
-    store = λ is. (
-      record { before = view.faults changed.found.keeper; now = view.faults changed.left.keeper },
-      changed.finds.holds.keeper.keeper.later,
-      changed.leaves.1.rose,
-    );
   }
   not_taken fault changed =
       let same = entry_stands view old new call Takes (TakeAnswers fault) (Err fault) changed ∙ append-nil (found fault changed) in
@@ -172,12 +163,11 @@ module _ {K : Type 0} (view : KeeperView K) (old new : LakeSeat) (call : ℕ) (u
         goes = goes fault changed;
         ends = subst (λ es. Came lake_rules by old.seen es × (first_cause (write_causes (state_at (origin fault changed) es) u.repo u.branch) ≡ Some fault))
             (sym same) (came fault changed, decides fault changed);
-        store = λ is. absurd cc;
       }
 
   pub early : (fault : StepFault) → Refuses fault → Answers (fault_of_step fault)
   early step.NoMemory changed =
-      stopped step.NoMemory changed NoMemory reply.NoMemory tt refl
+      stopped step.NoMemory changed NoMemory reply.NoMemory refl
       (entry_stands view old new call Takes (TakeAnswers step.NoMemory) (Err step.NoMemory) changed ∙ append-nil (found step.NoMemory changed)) (ByMemory refl)
   early step.StoreFault changed =
       let counts : Counts = record { before = view.faults changed.found.keeper; now = view.faults changed.left.keeper } in
@@ -203,7 +193,6 @@ module _ {K : Type 0} (view : KeeperView K) (old new : LakeSeat) (call : ℕ) (u
         missed_last = refl;
         counts = later;
         tries = refl;
-        store = λ is. changed.finds.holds.keeper.keeper.later;
       }
   early (step.Changed version settings) changed =
       let wrong = refused_for (write_causes (state_at (origin (step.Changed version settings) changed)
@@ -214,5 +203,5 @@ module _ {K : Type 0} (view : KeeperView K) (old new : LakeSeat) (call : ℕ) (u
   early fault changed =
       let says = told_some (names_of upload) fault tt tt in
       refused fault changed tt (decides fault changed)
-      (entry_stands view old new call Takes (TakeAnswers fault) (Err fault) changed ∙ append-nil (found fault changed)) (reply.Refused says.0) tt
+      (entry_stands view old new call Takes (TakeAnswers fault) (Err fault) changed ∙ append-nil (found fault changed)) (reply.Refused says.0)
       (flow_told (names_of upload) fault says.0 says.1 tt tt) (says.0, says.1, refl)

@@ -2,7 +2,7 @@
 use Rattle.std.proofs.Common.{◌≡◌, ◌≢◌, ◌≤◌, ◌+◌, ◌<◌, ℕ, List, ◌++◌, length, drop, Option, Result, Ok, Err, refl, sym, ap}
 use Rattle.std.proofs.Common.{subst, ◌∙◌}
 use Rattle.std.proofs.Common.{inl, inr, arith}
-use Rattle.std.specs.Prelude.{◌==◌, Bool, IfSome, IsErrOf, if◌then◌else◌}
+use Rattle.std.specs.Prelude.{◌==◌, Bool, IfSome, if◌then◌else◌}
 use Rattle.lake_values.specs.Entry.{EntryValue}
 use Rattle.lake_model.specs.declared.fault.StepFault.{StepFault}
 use Rattle.lake_model.specs.declared.fault.StepFault.TheVariants as step
@@ -23,7 +23,7 @@ use Rattle.call_placement.specs.Sessions.{caller}
 use Rattle.call_placement.proofs.WalkLemmas.{came_on, drop_front, further}
 use Rattle.lake_calls.specs.LakeRules.{lake_rules}
 use Rattle.flow_steps.specs.FlowSeats.{given_at}
-use Rattle.flow_steps.specs.FlowTries.{FoundVersion, Guarded, HasTried, IsRefused, Steps, StoreFailed, TryEnds}
+use Rattle.flow_steps.specs.FlowTries.{FoundVersion, Guarded, HasTried, IsRefused, Steps, TryEnds}
 use Rattle.flow_steps.specs.Retries.{FoundInTurn, HasPaused}
 use Rattle.flow_steps.proofs.RetryLemmas.{LastBehind, UnderWay, came_in_turn, changed_behind, finds_then, given_in_turn, last_behind, same_number, ten_tried}
 use Rattle.flow_steps.proofs.VersionCauseLemmas.{IsUnversioned}
@@ -148,27 +148,15 @@ as_tries origin by guarded versions step.NoMemory from next few u ends = (few, e
 as_tries origin by guarded versions (step.Changed version settings) from next few u ends = absurd u
 as_tries origin by guarded versions fault from next few u ends = (few, ends)
 
-abbrev refusal_of : StepFault → Result (Option EntryValue) StepFault
-refusal_of fault = Err fault
-
-abbrev refusal_of_all : FlowFault → Result (Option EntryValue) FlowFault
-refusal_of_all fault = Err fault
-
-store_only : (fault : StepFault) → IsErrOf (refusal_of_all (fault_of_step fault)) (Step step.StoreFault) → IsErrOf (refusal_of fault) step.StoreFault
-store_only step.StoreFault is = refl
-store_only step.NoPath is = absurd cc
-store_only step.NoMemory is = absurd cc
-store_only _ is = absurd cc
-
 module _ (guarded : Guarded) (call changed first last : ℕ) (old now : LakeSeat) (way : UnderWay (Found guarded) call changed first last old now)
     (paused : Option ℕ) where
   abbrev Ended : Result (Option EntryValue) StepFault → LakeOrigin → Caller → List HistoryEntry → List HistoryEntry → Type 0
-  Ended result origin by from next = TryEnds origin by guarded result from next × (IsErrOf result step.StoreFault → StoreFailed origin)
+  Ended result origin by from next = TryEnds origin by guarded result from next
 
   behind : (result : Result (Option EntryValue) StepFault) (next : LakeSeat) → HasTried guarded call now next result
       → LastBehind (Found guarded) call (Ended result) changed old next
   behind result next tried =
-      last_behind (Found guarded) call changed first last old now (Ended result) tried.origin next way tried.goes (tried.ends, tried.store)
+      last_behind (Found guarded) call changed first last old now (Ended result) tried.origin next way tried.goes tried.ends
 
   -- the entry is told
   pub told_behind : (told : Option EntryValue) (next : LakeSeat) (pauses : Option ℕ) → changed < 10 → HasPaused 10 changed paused pauses
@@ -181,8 +169,7 @@ module _ (guarded : Guarded) (call changed first last : ℕ) (old now : LakeSeat
         versions = all.versions;
         between = all.between;
         found = all.found;
-        ends = (subst (λ n. n < 10) (sym all.count) few, all.last.0);
-        store = λ is. absurd cc;
+        ends = (subst (λ n. n < 10) (sym all.count) few, all.last);
         pause = subst (λ n. HasPaused 10 n paused pauses) (sym all.count) pause;
       }
 
@@ -198,8 +185,7 @@ module _ (guarded : Guarded) (call changed first last : ℕ) (old now : LakeSeat
         between = all.between;
         found = all.found;
         ends = as_tries all.origin (caller old.number call) guarded all.versions fault all.between next.seen (subst (λ n. n < 10) (sym all.count) few)
-            unversioned all.last.0;
-        store = λ is. all.last.1 (store_only fault is);
+            unversioned all.last;
         pause = subst (λ n. HasPaused 10 n paused pauses) (sym all.count) pause;
       }
 
@@ -221,7 +207,6 @@ module _ (guarded : Guarded) (call changed first last : ℕ) (old now : LakeSeat
         between = now.seen;
         found = all.have.found;
         ends = (all.have.count, all.have.ends, refl);
-        store = λ is. absurd cc;
         pause = subst (λ n. HasPaused 10 n paused pauses) (ten ∙ sym all.have.count) pause;
       }
 

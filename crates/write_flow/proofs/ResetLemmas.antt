@@ -47,7 +47,6 @@ use Rattle.write_flow.specs.declared.answer.FlowFault.TheVariants.{NoMemory}
 use Rattle.write_flow.specs.FlowFaults.{IsFlowTold, fault_of_step}
 use Rattle.write_flow.specs.Uploads.{refused_at}
 use Rattle.write_flow.specs.WriteFlows.{IsAnswer, IsMadeAnswer, NeverFall, outcome_of, told_of_step}
-use Rattle.write_flow.proofs.AnswerLemmas.{IsStopping, no_store_fault}
 use Rattle.write_flow.proofs.EarlyLemmas.{flow_told}
 
 module _ {K : Type 0} (view : KeeperView K) (old new : LakeSeat) (number : ℕ) (c : ResetCall) (moment : ℕ) (blocks : BlockCounts)
@@ -100,10 +99,10 @@ module _ {K : Type 0} (view : KeeperView K) (old new : LakeSeat) (number : ℕ) 
         → lake_rules.passes by (asked_at call moment) point (along lake_rules (opened_state origin) found)
     passes none = moved (PointPasses call point) (opened_state origin) found (record { none = none; no_clash = refl; worth = tt; fixes = tt })
 
-    stopped : (fault : FlowFault) (says : CallReply) → IsStopping fault → IsFlowTold (names_of call) fault says → new.seen ≡ found
+    stopped : (fault : FlowFault) (says : CallReply) → IsFlowTold (names_of call) fault says → new.seen ≡ found
         → Hinders lake_rules (opened_state origin) by (asked_at call moment) (met_by no_store blocks 0) (length old.seen) (point ∷ []) found says
         → IsAnswer old new number call moment ResetTells blocks 0 (refused_at fault (length new.seen) (length new.seen))
-    stopped fault says stopping tells same hinders = record {
+    stopped fault says tells same hinders = record {
       met = met_by no_store blocks 0;
       told = says;
       tells = tells;
@@ -121,7 +120,6 @@ module _ {K : Type 0} (view : KeeperView K) (old new : LakeSeat) (number : ℕ) 
       missed_last = refl;
       counts = later;
       tries = refl;
-      store = λ is. absurd (no_store_fault fault stopping is);
     }
 
   abbrev Answers : Result ℕ StepFault → Type 0
@@ -151,10 +149,9 @@ module _ {K : Type 0} (view : KeeperView K) (old new : LakeSeat) (number : ℕ) 
         missed_last = refl;
         counts = later;
         tries = refl;
-        store = λ is. absurd cc;
       }
   reset_answered (Err step.NoMemory) changed =
-      stopped (Err step.NoMemory) changed NoMemory reply.NoMemory tt refl
+      stopped (Err step.NoMemory) changed NoMemory reply.NoMemory refl
       (entry_stands view old new number Resets (ResetAnswers (Err step.NoMemory)) (Err step.NoMemory) changed ∙ append-nil (found (Err step.NoMemory) changed))
       (ByMemory refl)
   reset_answered (Err step.StoreFault) changed =
@@ -177,7 +174,6 @@ module _ {K : Type 0} (view : KeeperView K) (old new : LakeSeat) (number : ℕ) 
         missed_last = refl;
         counts = later;
         tries = refl;
-        store = λ is. changed.finds.holds.keeper.keeper.later;
       }
   reset_answered (Err (step.Changed version settings)) changed =
       let s = state_at (origin (Err (step.Changed version settings)) changed) (found (Err (step.Changed version settings)) changed) in
@@ -186,7 +182,7 @@ module _ {K : Type 0} (view : KeeperView K) (old new : LakeSeat) (number : ℕ) 
       elim wrong [ inl other ↦ absurd (let no = other.0 in cc) | inr plain ↦ absurd plain.1 ]
   reset_answered (Err fault) changed =
       let says = told_some (names_of call) fault tt tt in
-      stopped (Err fault) changed (fault_of_step fault) (reply.Refused says.0) tt (flow_told (names_of call) fault says.0 says.1 tt tt)
+      stopped (Err fault) changed (fault_of_step fault) (reply.Refused says.0) (flow_told (names_of call) fault says.0 says.1 tt tt)
       (entry_stands view old new number Resets (ResetAnswers (Err fault)) (Err fault) changed ∙ append-nil (found (Err fault) changed))
       (ByState point [] refl
       (moved (λ s. PointRefused call point s (reply.Refused says.0)) (opened_state (origin (Err fault) changed)) (found (Err fault) changed)
@@ -206,7 +202,6 @@ module _ {K : Type 0} (view : KeeperView K) (old new : LakeSeat) (number : ℕ) 
       record { came = came_to_change view old new number Resets (ResetAnswers (Ok at)) (Ok at) changed; none = decides (Ok at) changed; makes = refl },
       entry_stands view old new number Resets (ResetAnswers (Ok at)) (Ok at) changed,
     );
-    store = λ is. absurd cc;
   }
   reset_made (Err step.NoMemory) changed = record {
     origin = origin (Err step.NoMemory) changed;
@@ -215,7 +210,6 @@ module _ {K : Type 0} (view : KeeperView K) (old new : LakeSeat) (number : ℕ) 
         (sym (entry_stands view old new number Resets (ResetAnswers (Err step.NoMemory)) (Err step.NoMemory) changed
         ∙ append-nil (found (Err step.NoMemory) changed)))
         (came_to_change view old new number Resets (ResetAnswers (Err step.NoMemory)) (Err step.NoMemory) changed);
-    store = λ is. absurd cc;
   }
   reset_made (Err step.StoreFault) changed = record {
     origin = origin (Err step.StoreFault) changed;
@@ -231,11 +225,6 @@ module _ {K : Type 0} (view : KeeperView K) (old new : LakeSeat) (number : ℕ) 
       },
       entry_stands view old new number Resets (ResetAnswers (Err step.StoreFault)) (Err step.StoreFault) changed,
     );
-    store = λ is. (
-      record { before = view.faults changed.found.keeper; now = view.faults changed.left.keeper },
-      changed.finds.holds.keeper.keeper.later,
-      changed.leaves.1.rose,
-    );
   }
   reset_made (Err fault) changed =
       let same = entry_stands view old new number Resets (ResetAnswers (Err fault)) (Err fault) changed ∙ append-nil (found (Err fault) changed) in
@@ -245,7 +234,6 @@ module _ {K : Type 0} (view : KeeperView K) (old new : LakeSeat) (number : ℕ) 
         ends = subst (λ es. Came lake_rules by old.seen es
             × (first_cause (write_causes (state_at (origin (Err fault) changed) es) c.repo c.branch) ≡ Some fault)) (sym same)
             (came_to_change view old new number Resets (ResetAnswers (Err fault)) (Err fault) changed, decides (Err fault) changed);
-        store = λ is. absurd cc;
       }
 
   -- what the step told, as the flow answers it

@@ -20,12 +20,11 @@ use Rattle.lake_model.specs.History.{accepted_entry, faulted_entry}
 use Rattle.lake_model.specs.Readings.{versions_reply}
 use Rattle.lake_model.specs.Refusals.{Causes, GivesOrFails, IsRefusal, first_cause, no_causes, with_branch}
 use Rattle.lake_model.specs.Steps.{IsCopyReply, copied_entry, copy_causes_of, copy_source, in_it, stage_reply, with_current_branch, write_causes}
-use Rattle.lake_base.specs.Outside.{Rose}
 use Rattle.lake_model.specs.Versions.{VersionsGiven, branch_version, settings_version}
 use Rattle.lake_laws.proofs.HeadStepLemmas.{without_versions}
 use Rattle.core_state.specs.LakeStates.{LakeStateValue, lake_value, state_of}
 use Rattle.core_puts.specs.KeeperViews.{KeeperView}
-use Rattle.core_puts.specs.KeptChanges.{IsFaulted, Making, Parts}
+use Rattle.core_puts.specs.KeptChanges.{Making}
 use Rattle.lake_core.specs.declared.standing.LakeOrigin.{LakeOrigin}
 use Rattle.lake_core.specs.Lakes.{LakeValue, state, versions}
 use Rattle.lake_core.specs.Makings.{copy, copy_making, stage}
@@ -35,15 +34,12 @@ use Rattle.call_placement.specs.Sessions.{caller}
 use Rattle.call_placement.proofs.WalkLemmas.{came_on}
 use Rattle.lake_calls.specs.LakeRules.{lake_rules}
 use Rattle.flow_steps.specs.FlowSeats.{GoesOn, given_at, state_at}
-use Rattle.flow_steps.specs.FlowTries.{Guarded, HasTried, StoreFailed, TryEnds, copying, first_before_versions, staging}
+use Rattle.flow_steps.specs.FlowTries.{Guarded, HasTried, TryEnds, copying, first_before_versions, staging}
 use Rattle.flow_steps.proofs.SeatFlowLemmas.{answer_changed, answer_read, came_to_change, came_to_reading, entries_by, entry_stands, goes_by_change}
 use Rattle.flow_steps.proofs.SeatFlowLemmas.{goes_by_reading}
 use Rattle.flow_steps.proofs.SeatFlowLemmas.{as_found, goes_further}
 use Rattle.flow_steps.proofs.TryLemmas.{IsVersionRead, accepted, faulted, not_made, reading_refusal_is, unread, version_read}
 use Rattle.flow_steps.proofs.VersionCauseLemmas.{AsksNone, Decides, copy_asks, current_where_none, decided, write_asks}
-
-not_store : (fault : StepFault) → IsRefusal fault → fault ≡ StoreFault → ⊥
-not_store fault is same = subst IsRefusal same is
 
 -- ---- a reading that was refused
 
@@ -66,7 +62,6 @@ module _ {K : Type 0} (view : KeeperView K) (old new : LakeSeat) (call : ℕ) (g
         goes = goes_by_reading view old new Answers read call origin from;
         ends = unread origin (caller old.number call) guarded old.seen new.seen (came_to_reading view old new Answers read call) fault kind.0 kind.1
             (early (state_at origin new.seen) ∙ first);
-        store = λ is. absurd (not_store fault kind.1 (let same : Err fault ≡ Err StoreFault = is in cc (same)));
       }
 
 -- ---- a step behind a reading
@@ -102,7 +97,7 @@ module _ {K : Type 0} (view : KeeperView K) (old mid new : LakeSeat) (call : ℕ
 
   -- memory ran out behind the reading
   pub stays_read : HasTried guarded call old mid (Err NoMemory)
-  stays_read = record { origin = origin; goes = went; ends = to_reading; store = λ is. absurd cc }
+  stays_read = record { origin = origin; goes = went; ends = to_reading }
 
   module _ {X : Type 0} (making : LakeValue K → Option Making) (StepAnswers : LakeValue K → Type 0) (result : Result X StepFault)
       (changed : IsChanged view (record { seat = mid.number; call = call }) mid new making StepAnswers result)
@@ -158,21 +153,19 @@ module _ {K : Type 0} (view : KeeperView K) (old mid new : LakeSeat) (call : ℕ
       ends = accepted origin (caller old.number call) guarded old.seen mid.seen to_reading reading_none found to_step told operation new.seen
           (late_none none) makes (same_version none)
           (stands ∙ ap (λ es. found ++ es) (is ∙ ap (λ e. e ∷ []) (own_by operation)));
-      store = λ is. absurd cc;
     }
 
     pub step_faulted : (told : Option EntryValue) (operation : Operation)
         → first_cause (with_current_branch (given_at origin found) repo branch read_versions.version (c (state_at origin found))) ≡ None
-        → guarded.Makes (state_at origin found) told operation → StoreFailed origin
+        → guarded.Makes (state_at origin found) told operation
         → entries_by view by (making changed.found) result ≡ faulted_entry by operation ∷ [] → HasTried guarded call old new (Err StoreFault)
-    step_faulted told operation none makes failed is = record {
+    step_faulted told operation none makes is = record {
       origin = origin;
       goes = goes;
       ends = faulted origin (caller old.number call) guarded old.seen mid.seen to_reading reading_none found to_step told operation new.seen
           (late_none none) makes (same_version none)
           (stands
           ∙ ap (λ es. found ++ es) (is ∙ ap (λ n. faulted_entry (record { seat = n; call = call }) operation ∷ []) mid_number));
-      store = λ is. failed;
     }
 
     pub step_without_memory : entries_by view by (making changed.found) result ≡ [] → HasTried guarded call old new (Err NoMemory)
@@ -181,7 +174,6 @@ module _ {K : Type 0} (view : KeeperView K) (old mid new : LakeSeat) (call : ℕ
       goes = goes;
       ends = subst (λ es. Came lake_rules (caller old.number call) old.seen es) (sym (stands ∙ ap (λ es. found ++ es) none ∙ append-nil found))
           (came_on lake_rules (caller old.number call) old.seen mid.seen found to_reading to_step);
-      store = λ is. absurd cc;
     }
 
     pub step_refused : (fault : StepFault) → IsRefusal fault
@@ -196,21 +188,7 @@ module _ {K : Type 0} (view : KeeperView K) (old mid new : LakeSeat) (call : ℕ
           read_versions.version fault is_refusal (asks (state_at origin found)) (late (state_at origin found))
           (ahead (state_at origin found)) guards
           (was_read.1 ∙ sym (guards (given_at origin mid.seen))) first);
-      store = λ is. absurd (not_store fault is_refusal (let same : Err fault ≡ Err StoreFault = is in cc (same)));
     }
-
--- the store's count of faults rose at the step, from no fewer than when the lake was opened
-module _ {K : Type 0} (view : KeeperView K) (old mid new : LakeSeat) (read_versions : Versions) (repo branch : List ℕ)
-    (read : IsRead view old mid (λ (l : LakeValue K). Ok read_versions ≡ versions_reply (state l) (versions l) repo branch))
-    (call : ℕ) {X : Type 0} (making : LakeValue K → Option Making) (StepAnswers : LakeValue K → Type 0) (result : Result X StepFault)
-    (changed : IsChanged view (record { seat = mid.number; call = call }) mid new making StepAnswers result) where
-  store_failed : Rose (view.faults changed.found.keeper) (view.faults changed.left.keeper) → StoreFailed (origin_of view read.found)
-  store_failed rose =
-      let both : Some (origin_of view changed.found) ≡ Some (origin_of view read.found) =
-      sym changed.finds.origin ∙ ap (λ (s : LakeSeat). s.origin) read.seat ∙ read.finds.origin in
-      let same : origin_of view changed.found ≡ origin_of view read.found = cc (both) in
-      subst StoreFailed same
-      (record { before = view.faults changed.found.keeper; now = view.faults changed.left.keeper }, changed.finds.holds.keeper.keeper.later, rose)
 
 -- ---- a change that is staged
 
@@ -250,8 +228,7 @@ module _ {K : Type 0} (view : KeeperView K) (old mid new : LakeSeat) (call : ℕ
       step_faulted view old mid new call (staging repo branch path change) repo branch read_versions (λ s. refl) (λ given. refl) read
       (λ (l : LakeValue K). Some (stage repo branch path change (lake_value l.present))) _ (Err StoreFault) changed
       (λ s. write_causes s repo branch) (λ s. write_asks s repo branch) (λ s. refl) (λ s. refl) (decides_stage (Err StoreFault) changed)
-      None (Stage repo branch path change) (decides_stage (Err StoreFault) changed) (refl, refl)
-      (store_failed view old mid new read_versions repo branch read call _ _ (Err StoreFault) changed changed.leaves.1.rose) refl
+      None (Stage repo branch path change) (decides_stage (Err StoreFault) changed) (refl, refl) refl
   stage_tried (Err NoMemory) changed =
       step_without_memory view old mid new call (staging repo branch path change) repo branch read_versions (λ s. refl) (λ given. refl) read
       (λ (l : LakeValue K). Some (stage repo branch path change (lake_value l.present))) _ (Err NoMemory) changed
@@ -263,12 +240,6 @@ module _ {K : Type 0} (view : KeeperView K) (old mid new : LakeSeat) (call : ℕ
       fault tt (decides_stage (Err fault) changed) refl
 
 -- ---- an entry that is copied
-
--- where a change noted a fault, the count rose
-fault_rose : {K : Type 0} (view : KeeperView K) (by : By) (made : Option Making) (old new : Parts K) → IsSomeAnd made (λ m. IsFaulted view by m old new)
-    → Rose (view.faults old.keeper) (view.faults new.keeper)
-fault_rose view maker (Some m) old new is = is.rose
-fault_rose view maker None old new is = absurd is
 
 module _ {K : Type 0} (view : KeeperView K) (by : By) (repo branch path from : List ℕ) (e : RefExprValue) (l : LakeStateValue) where
   -- what is copied from where, and the entry by which it is, whether it was accepted or the store failed
@@ -371,8 +342,6 @@ module _ {K : Type 0} (view : KeeperView K) (old mid new : LakeSeat) (call : ℕ
       (λ s. refl) (λ s. refl) (decided_copy (Err StoreFault) changed) (copied_entry (state_of l) repo e from) where_from.operation
       (decided_copy (Err StoreFault) changed)
       (makes_found (Err StoreFault) changed (copied_entry (state_of l) repo e from) where_from.operation where_from.makes)
-      (store_failed view old mid new read_versions repo branch read call CopyMaking (CopyAnswers (Err StoreFault)) (Err StoreFault) changed
-      (fault_rose view by (copy repo branch path e from l) _ _ changed.leaves.1))
       (ap (λ m. entries_by view {X = ℕ × EntryValue} by m (Err StoreFault)) where_from.made ∙ ap (λ o. faulted_entry by o ∷ []) where_from.is)
   copy_tried (Err NoMemory) changed =
       step_without_memory view old mid new call (copying repo branch path e from) repo branch read_versions (λ s. refl) (λ given. refl) read

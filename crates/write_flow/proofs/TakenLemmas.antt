@@ -95,7 +95,6 @@ module _ {K : Type 0} (view : KeeperView K) (old mid : LakeSeat) (call at number
       record { came = came; none = given_here.0; makes = (given_here.1, refl) },
       entry_is,
     );
-    store = λ is. absurd cc;
   }
 
   pub taken_reached : HasReached (opened_state taken_origin) (caller old.number call) (asked_at (Objects (object.Upload u)) moment)

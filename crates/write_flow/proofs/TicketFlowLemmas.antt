@@ -107,11 +107,7 @@ module _ {K : Type 0} (view : KeeperView K) (old new : LakeSeat) (call number : 
       → GaveUp call number old new fault answer
   gave_faulted changed is =
       StoreFailing (origin_of view changed.found) changed.found.history (drop_goes view old new call number (Err step.StoreFault) changed)
-      (drop_came view old new call number (Err step.StoreFault) changed) (drop_decides view old new call number (Err step.StoreFault) changed) (
-        record { before = view.faults changed.found.keeper; now = view.faults changed.left.keeper },
-        changed.finds.holds.keeper.keeper.later,
-        changed.leaves.1.rose,
-      )
+      (drop_came view old new call number (Err step.StoreFault) changed) (drop_decides view old new call number (Err step.StoreFault) changed)
       (entry_stands view old new call DropMaking (DropAnswers (Err step.StoreFault)) (Err step.StoreFault) changed) is
 
   pub gave_starved : (changed : Drops (Err step.NoMemory)) → answer ≡ refused_at NoMemory (length new.seen) (length new.seen)

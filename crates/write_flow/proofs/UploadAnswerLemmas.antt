@@ -103,7 +103,7 @@ module _ {K : Type 0} (view : KeeperView K) (old mid : LakeSeat) (call at number
       → Holds (Err fault) → GaveUp call number behind new fault answer → Uploads new answer
   upload_refused fault new answer stopping was holds gave =
       with_number (Err fault) new answer was holds (ends fault stopping gave)
-      (put_refused u moment number call origin old mid took blocks later reached paused pauses behind new (length versions) fault stopping answer
+      (put_refused u moment number call origin old mid took blocks later reached paused pauses behind new (length versions) fault answer
       (stopped_at u moment number call origin old mid took blocks later reached paused pauses behind versions fault stopping was) gave)
     where
       ends : (fault : FlowFault) → IsStopping fault → GaveUp call number behind new fault answer → UploadEnds call number behind new (Err fault) answer

@@ -1,6 +1,5 @@
 -- How an upload is answered.
 use Rattle.std.proofs.Common.{◌≡◌, inl, inr, ℕ, true, List, [], ◌∷◌, ◌++◌, length, Option, Some, None, Result, Ok, Err, refl, sym, ap, subst, ◌∙◌}
-use Rattle.std.specs.Prelude.{IsErrOf}
 use Rattle.lake_values.specs.Entry.{EntryValue}
 use Rattle.lake_values.specs.declared.entry.Change.TheVariants as change
 use Rattle.lake_model.specs.declared.fault.StepFault.TheVariants as step
@@ -33,9 +32,9 @@ use Rattle.lake_calls.specs.declared.reply.Refusal.TheVariants as refusal
 use Rattle.flow_steps.specs.declared.answer.FlowAnswer.{FlowAnswer}
 use Rattle.flow_steps.specs.FlowAnswers.{BlockCounts, asked_at}
 use Rattle.flow_steps.specs.FlowSeats.{GoesOn, opened_state, state_at}
-use Rattle.flow_steps.specs.FlowTries.{Guarded, IsRefused, StoreFailed, staging}
+use Rattle.flow_steps.specs.FlowTries.{Guarded, IsRefused, staging}
 use Rattle.flow_steps.proofs.FlowEndLemmas.{HasReached}
-use Rattle.flow_steps.proofs.RetryLemmas.{met_by, no_store, one_origin}
+use Rattle.flow_steps.proofs.RetryLemmas.{fault_counted, met_by, no_store, one_fault, one_origin}
 use Rattle.flow_steps.proofs.SeatFlowLemmas.{finds_since, goes_further}
 use Rattle.write_flow.specs.declared.answer.Done.{Done}
 use Rattle.write_flow.specs.declared.answer.FlowFault.{FlowFault}
@@ -89,9 +88,6 @@ module _ (u : UploadCall) (moment number call : ℕ) (origin : LakeOrigin) (old 
         (ends_of tried.origin (caller mid.number call) guarded u.repo u.branch (uploads u moment number).guards tried.versions result mid.seen tried.between
         new.seen tried.found tried.ends))
 
-    tried_store : IsErrOf result (Step step.StoreFault) → StoreFailed origin
-    tried_store is = subst StoreFailed same (tried.store is)
-
   abbrev Answers : LakeSeat → (changed : ℕ) → FlowAnswer Done FlowFault → Type 0
   Answers new changed answer = IsAnswer old new call (Objects (object.Upload u)) moment (IsUploadTold u moment) blocks changed answer
 
@@ -112,15 +108,13 @@ module _ (u : UploadCall) (moment number call : ℕ) (origin : LakeOrigin) (old 
         missed_last = refl;
         counts = later;
         tries = refl;
-        store = λ is. absurd cc;
       }
 
   -- the store failed as it was staged
   pub put_faulted : (new : LakeSeat) (tried : Tried new (Err (Step step.StoreFault))) → Answers new (length tried.versions)
       (refused_at (Step step.StoreFault) (length new.seen) (length new.seen))
   put_faulted new tried =
-      let failed = tried_store new (Err (Step step.StoreFault)) tried refl in
-      let met = met_by failed.0 blocks (length tried.versions) in
+      let met = met_by one_fault blocks (length tried.versions) in
       record {
         met = met;
         told = reply.Refused refusal.StoreFault;
@@ -130,14 +124,13 @@ module _ (u : UploadCall) (moment number call : ℕ) (origin : LakeOrigin) (old 
           goes = tried_goes new (Err (Step step.StoreFault)) tried;
           served = tries_faulted origin by (Objects (object.Upload u)) moment (to_take u moment number) u.repo u.branch
               guarded (Staged u moment number) (uploads u moment number) old.seen mid.seen reached new.seen met
-              (tried_ends new (Err (Step step.StoreFault)) tried) (failed.2, refl);
+              (tried_ends new (Err (Step step.StoreFault)) tried) (fault_counted, refl);
         };
         faults = refl;
         misses = refl;
         missed_last = refl;
         counts = later;
         tries = refl;
-        store = λ is. failed.1;
       }
 
   -- ---- it was refused behind its ticket
@@ -198,8 +191,7 @@ module _ (u : UploadCall) (moment number call : ℕ) (origin : LakeOrigin) (old 
 
   -- ---- and gave its number up
 
-  module _ (now new : LakeSeat) (changed : ℕ) (fault : FlowFault) (stopping : IsStopping fault) (answer : FlowAnswer Done FlowFault)
-      (at : StoppedAt now changed fault) where
+  module _ (now new : LakeSeat) (changed : ℕ) (fault : FlowFault) (answer : FlowAnswer Done FlowFault) (at : StoppedAt now changed fault) where
     now_number : now.number ≡ old.number
     now_number = ap (λ (s : LakeSeat). s.number) at.goes.seat
 
@@ -215,14 +207,14 @@ module _ (u : UploadCall) (moment number call : ℕ) (origin : LakeOrigin) (old 
     pub put_refused : GaveUp call number now new fault answer → Answers new changed answer
     put_refused (Dropped other found goes came none is answered) =
         subst (Answers new changed) (sym answered)
-        (dropped u moment number origin call old mid now new at.goes blocks later reached changed fault at.told found stopping at.tells at.stops
+        (dropped u moment number origin call old mid now new at.goes blocks later reached changed fault at.told found at.tells at.stops
         (goes_here other goes) (came_here found came)
         (subst (λ (o : LakeOrigin). first_cause (causes_of_change (state_at o found)) ≡ None) (here other goes.from) none)
         (is ∙ ap (λ n. found ++ accepted_entry (by_caller (caller n call)) (TicketDrop number) ∷ []) now_number))
-    put_refused (StoreFailing other found goes came none failed is answered) =
+    put_refused (StoreFailing other found goes came none is answered) =
         subst (Answers new changed) (sym answered)
-        (broken u moment number origin call old mid now new at.goes blocks later reached changed _ at.told found
-        (subst StoreFailed (here other goes.from) failed) at.stops (goes_here other goes) (came_here found came)
+        (broken u moment number origin call old mid now new at.goes blocks later reached changed _ at.told found at.stops
+        (goes_here other goes) (came_here found came)
         (subst (λ (o : LakeOrigin). first_cause (causes_of_change (state_at o found)) ≡ None) (here other goes.from) none)
         (is ∙ ap (λ n. found ++ faulted_entry (by_caller (caller n call)) (TicketDrop number) ∷ []) now_number))
     put_refused (Starved other goes came answered) =
@@ -231,7 +223,7 @@ module _ (u : UploadCall) (moment number call : ℕ) (origin : LakeOrigin) (old 
         (came_here new.seen came))
     put_refused (Closed other goes came shut answered) =
         subst (Answers new changed) (sym answered)
-        (closed u moment number origin call old mid now new at.goes blocks later reached changed fault at.told stopping at.tells at.stops (goes_here other goes)
+        (closed u moment number origin call old mid now new at.goes blocks later reached changed fault at.told at.tells at.stops (goes_here other goes)
         (came_here new.seen came) (subst (λ (o : LakeOrigin). is_closed (state_at o new.seen) ≡ true) (here other goes.from) shut))
 
 -- ---- a seat whose call was refused in its tries saw only others' entries

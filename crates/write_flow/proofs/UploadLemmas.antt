@@ -32,9 +32,9 @@ use Rattle.lake_calls.specs.declared.reply.Refusal.TheVariants as refusal
 use Rattle.flow_steps.specs.declared.answer.FlowAnswer.{FlowAnswer}
 use Rattle.flow_steps.specs.FlowAnswers.{BlockCounts, asked_at}
 use Rattle.flow_steps.specs.FlowSeats.{GoesOn, opened_state, state_at}
-use Rattle.flow_steps.specs.FlowTries.{StoreFailed, staging}
+use Rattle.flow_steps.specs.FlowTries.{staging}
 use Rattle.flow_steps.proofs.FlowEndLemmas.{HasReached, moved, reached_nothing, reached_on, reached_step, served_broken, served_stopped}
-use Rattle.flow_steps.proofs.RetryLemmas.{met_by, no_store}
+use Rattle.flow_steps.proofs.RetryLemmas.{fault_counted, met_by, no_store, one_fault}
 use Rattle.flow_steps.proofs.SeatFlowLemmas.{goes_further}
 use Rattle.write_flow.specs.declared.answer.Done.{Done}
 use Rattle.write_flow.specs.declared.answer.FlowFault.{FlowFault}
@@ -42,7 +42,6 @@ use Rattle.write_flow.specs.declared.answer.FlowFault.TheVariants.{Step, NoMemor
 use Rattle.write_flow.specs.FlowFaults.{IsFlowTold}
 use Rattle.write_flow.specs.Uploads.{IsUploadTold, refused_at}
 use Rattle.write_flow.specs.WriteFlows.{IsAnswer, NeverFall}
-use Rattle.write_flow.proofs.AnswerLemmas.{IsStopping, no_store_fault}
 use Rattle.write_flow.proofs.InstanceLemmas.{stages}
 use Rattle.write_flow.proofs.ServingLemmas.{Serves, Stops}
 use Rattle.write_flow.proofs.TicketFlowLemmas.{open_of}
@@ -96,11 +95,11 @@ module _ (u : UploadCall) (moment number : ℕ) where
       abbrev Answers : FlowAnswer Done FlowFault → Type 0
       Answers answer = IsAnswer old new call upload moment (IsUploadTold u moment) blocks changed answer
 
-      refusal_answered : (fault : FlowFault) (told : CallReply) (position edge : ℕ) → IsStopping fault → IsFlowTold (names_of upload) fault told
+      refusal_answered : (fault : FlowFault) (told : CallReply) (position edge : ℕ) → IsFlowTold (names_of upload) fault told
           → GoesOn origin call old new
           → IsServed lake_rules (opened_state origin) by old.seen new.seen (asked_at upload moment) (met_by no_store blocks changed) told position edge
           → Answers (refused_at fault position edge)
-      refusal_answered fault told position edge stopping tells all served = record {
+      refusal_answered fault told position edge tells all served = record {
         met = met_by no_store blocks changed;
         told = told;
         tells = tells;
@@ -110,17 +109,16 @@ module _ (u : UploadCall) (moment number : ℕ) where
         missed_last = refl;
         counts = later;
         tries = refl;
-        store = λ is. absurd (no_store_fault fault stopping is);
       }
 
       -- the drop stood
-      pub dropped : (fault : FlowFault) (told : CallReply) (found : List HistoryEntry) → IsStopping fault → IsFlowTold (names_of upload) fault told
+      pub dropped : (fault : FlowFault) (told : CallReply) (found : List HistoryEntry) → IsFlowTold (names_of upload) fault told
           → StopsHere (met_by no_store blocks changed) told → GoesOn origin call now new → Came lake_rules by now.seen found
           → first_cause (causes_of_change (state_at origin found)) ≡ None
           → new.seen ≡ found ++ accepted_entry (by_caller by) (TicketDrop number) ∷ []
           → Answers (refused_at fault (length now.seen) (length new.seen))
-      dropped fault told found stopping tells stops more came none is =
-          refusal_answered fault told (length now.seen) (length new.seen) stopping tells (goes_further origin call old now new goes more)
+      dropped fault told found tells stops more came none is =
+          refusal_answered fault told (length now.seen) (length new.seen) tells (goes_further origin call old now new goes more)
           (served_stopped (opened_state origin) by (asked_at upload moment)
           (met_by no_store blocks changed) told uploads.some_fixed old.seen stops.passed stops.left now.seen
           new.seen (length new.seen) stops.course stops.reaches stops.hinders
@@ -128,11 +126,11 @@ module _ (u : UploadCall) (moment number : ℕ) where
           (moved (λ s. is_closed s ≡ false) (opened_state origin) found (open_of (state_at origin found) none)) is refl))
 
       -- the lake takes no more changes
-      pub closed : (fault : FlowFault) (told : CallReply) → IsStopping fault → IsFlowTold (names_of upload) fault told
+      pub closed : (fault : FlowFault) (told : CallReply) → IsFlowTold (names_of upload) fault told
           → StopsHere (met_by no_store blocks changed) told → GoesOn origin call now new → Came lake_rules by now.seen new.seen
           → is_closed (state_at origin new.seen) ≡ true → Answers (refused_at fault (length now.seen) (length now.seen))
-      closed fault told stopping tells stops more came is =
-          refusal_answered fault told (length now.seen) (length now.seen) stopping tells (goes_further origin call old now new goes more)
+      closed fault told tells stops more came is =
+          refusal_answered fault told (length now.seen) (length now.seen) tells (goes_further origin call old now new goes more)
           (served_stopped (opened_state origin) by (asked_at upload moment)
           (met_by no_store blocks changed) told uploads.some_fixed old.seen stops.passed stops.left now.seen
           new.seen (length now.seen) stops.course stops.reaches stops.hinders
@@ -142,7 +140,7 @@ module _ (u : UploadCall) (moment number : ℕ) where
       pub starved : (met : CallMet) (told : CallReply) → StopsHere met told → GoesOn origin call now new → Came lake_rules by now.seen new.seen
           → Answers (refused_at NoMemory (length new.seen) (length new.seen))
       starved met told stops more came =
-          refusal_answered NoMemory reply.NoMemory (length new.seen) (length new.seen) tt refl (goes_further origin call old now new goes more)
+          refusal_answered NoMemory reply.NoMemory (length new.seen) (length new.seen) refl (goes_further origin call old now new goes more)
           (served_stopped (opened_state origin) by (asked_at upload moment)
           (met_by no_store blocks changed) reply.NoMemory uploads.some_fixed old.seen stops.passed stops.left new.seen
           new.seen (length new.seen) stops.course
@@ -150,28 +148,26 @@ module _ (u : UploadCall) (moment number : ℕ) where
           (Keeps refl refl refl))
 
       -- the store failed
-      pub broken : (met : CallMet) (told : CallReply) (found : List HistoryEntry) (failed : StoreFailed origin) → StopsHere met told
-          → GoesOn origin call now new
+      pub broken : (met : CallMet) (told : CallReply) (found : List HistoryEntry) → StopsHere met told → GoesOn origin call now new
           → Came lake_rules by now.seen found → first_cause (causes_of_change (state_at origin found)) ≡ None
           → new.seen ≡ found ++ faulted_entry (by_caller by) (TicketDrop number) ∷ []
           → Answers (refused_at (Step step.StoreFault) (length new.seen) (length new.seen))
-      broken met told found failed stops more came none is = record {
-        met = met_by failed.0 blocks changed;
+      broken met told found stops more came none is = record {
+        met = met_by one_fault blocks changed;
         told = reply.Refused refusal.StoreFault;
         tells = refl;
         flow = record {
           origin = origin;
           goes = goes_further origin call old now new goes more;
-          served = served_broken (opened_state origin) by (asked_at upload moment) (met_by failed.0 blocks changed)
+          served = served_broken (opened_state origin) by (asked_at upload moment) (met_by one_fault blocks changed)
               (reply.Refused refusal.StoreFault) uploads.some_fixed old.seen
               reply.NoMemory stops.passed stops.left (TicketDrop number) now.seen found new.seen stops.course stops.reaches (ByMemory refl)
               (owes met told stops) came (moved (λ s. is_closed s ≡ false) (opened_state origin) found (open_of (state_at origin found) none))
-              (inl (failed.2, refl)) is;
+              (inl (fault_counted, refl)) is;
         };
         faults = refl;
         misses = refl;
         missed_last = refl;
         counts = later;
         tries = refl;
-        store = λ is. failed.1;
       }

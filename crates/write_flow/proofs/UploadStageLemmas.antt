@@ -122,7 +122,7 @@ module _ (seat : ℕ) (P : ℕ → Type 0) where
   gave_only call number behind new fault answer is (Dropped origin found goes came none stands answered) =
       both_only behind.seen found new.seen (came_only behind.number call behind.seen found is came)
       (entry_only found new.seen _ (λ staged stages. absurd stages) stands)
-  gave_only call number behind new fault answer is (StoreFailing origin found goes came none failed stands answered) =
+  gave_only call number behind new fault answer is (StoreFailing origin found goes came none stands answered) =
       both_only behind.seen found new.seen (came_only behind.number call behind.seen found is came)
       (entry_only found new.seen _ (λ staged stages. absurd stages) stands)
   gave_only call number behind new fault answer is (Starved origin goes came answered) = came_only behind.number call behind.seen new.seen is came

@@ -32,7 +32,7 @@ use Rattle.flow_steps.specs.declared.answer.FlowAnswer.{FlowAnswer}
 use Rattle.flow_steps.specs.FlowAnswers.{BlockCounts}
 use Rattle.flow_steps.specs.FlowChanges.{HasMade}
 use Rattle.flow_steps.specs.FlowSeats.{GoesOn, state_at}
-use Rattle.flow_steps.specs.FlowTries.{StoreFailed, staging}
+use Rattle.flow_steps.specs.FlowTries.{staging}
 use Rattle.write_flow.specs.declared.answer.Done.{Done}
 use Rattle.write_flow.specs.declared.answer.FlowFault.{FlowFault}
 use Rattle.write_flow.specs.declared.answer.FlowFault.TheVariants.{Step, BlockFault, NoMemory}
@@ -109,7 +109,7 @@ pub data GaveUp (call number : ℕ) (old new : LakeSeat) (fault : FlowFault) (an
       → new.seen ≡ found ++ accepted_entry (by_caller (caller old.number call)) (TicketDrop number) ∷ []
       → answer ≡ refused_at fault (length old.seen) (length new.seen) → GaveUp call number old new fault answer
   StoreFailing : (origin : LakeOrigin) (found : List HistoryEntry) → GoesOn origin call old new → Came lake_rules (caller old.number call) old.seen found
-      → first_cause (causes_of_change (state_at origin found)) ≡ None → StoreFailed origin
+      → first_cause (causes_of_change (state_at origin found)) ≡ None
       → new.seen ≡ found ++ faulted_entry (by_caller (caller old.number call)) (TicketDrop number) ∷ []
       → answer ≡ refused_at (Step step.StoreFault) (length new.seen) (length new.seen) → GaveUp call number old new fault answer
   Starved : (origin : LakeOrigin) → GoesOn origin call old new → Came lake_rules (caller old.number call) old.seen new.seen

@@ -1,11 +1,10 @@
 -- What a flow of objects promises of its answer.
-use Rattle.std.specs.Prelude.{◌≡◌, ◌≤◌, ℕ, List, Option, Some, None, Result, Ok, Err, IsErrOf, length}
+use Rattle.std.specs.Prelude.{◌≡◌, ◌≤◌, ℕ, List, Option, Some, None, Result, Ok, Err, length}
 use Rattle.std.specs.Option.{option_or}
 use Rattle.lake_values.specs.Entry.{EntryValue}
 use Rattle.lake_values.specs.declared.entry.Change.{Change}
 use Rattle.lake_values.specs.declared.entry.Change.TheVariants.{Delete, Put}
 use Rattle.lake_model.specs.declared.fault.StepFault.{StepFault}
-use Rattle.lake_model.specs.declared.fault.StepFault.TheVariants as step
 use Rattle.lake_model.specs.declared.history.Operation.{Operation}
 use Rattle.lake_model.specs.State.{State}
 use Rattle.shared_lake.specs.SeatSteps.{LakeSeat}
@@ -23,7 +22,6 @@ use Rattle.flow_steps.specs.Flows.{IsFlow}
 use Rattle.flow_steps.specs.FlowTries.{Guarded}
 use Rattle.write_flow.specs.declared.answer.Done.{Done}
 use Rattle.write_flow.specs.declared.answer.FlowFault.{FlowFault}
-use Rattle.write_flow.specs.declared.answer.FlowFault.TheVariants.{Step}
 use Rattle.write_flow.specs.FlowFaults.{IsFlowTold, fault_of_step}
 use Rattle.write_flow.specs.WriteTries.{HaveTried}
 
@@ -61,8 +59,8 @@ abbrev pub NeverFall : BlockCounts → Type 0
 NeverFall blocks = (blocks.faults.before ≤ blocks.faults.now) × (blocks.misses.before ≤ blocks.misses.now)
 
 -- A FLOW ANSWERED A CALL: it served it, at the position and with the edge that it answers, by what its client is told of what
--- came of it; what the call met of the store of objects is what that counted, whose counts don't fall, and so many of its tries found another version.
--- Where the store of pairs failed, its count of faults rose from no fewer than when the lake was opened.
+-- came of it; what the call met of the store of objects is what that counted, whose counts don't fall, and so many of its tries
+-- found another version. Of the store of pairs nothing is said but its note.
 pub record IsAnswer (old new : LakeSeat) (number : ℕ) (call : Call) (moment : ℕ) (Tells : Option EntryValue → DoneReply → Type 0)
     (blocks : BlockCounts) (changed : ℕ) (answer : FlowAnswer Done FlowFault) : Type 0 where
   pub met : CallMet
@@ -74,7 +72,6 @@ pub record IsAnswer (old new : LakeSeat) (number : ℕ) (call : Call) (moment : 
   pub missed_last : met.missed_last ≡ blocks.missed_last
   pub counts : NeverFall blocks
   pub tries : met.changed ≡ changed
-  pub store : IsErrOf answer.outcome (Step step.StoreFault) → flow.origin.faults ≤ met.store_faults.before
 
 -- A FLOW OF A GUARDED CHANGE ANSWERED A CALL: the change was tried, and what came of that is the answer, at the place of all that
 -- the seat has seen then; and so it answered the call, of whose tries as many found another version as these.

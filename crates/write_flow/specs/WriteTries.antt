@@ -1,5 +1,5 @@
 -- A guarded change, tried at most ten times.
-use Rattle.std.specs.Prelude.{◌≡◌, ◌<◌, ℕ, List, Option, None, Result, Ok, Err, IsErrOf, length}
+use Rattle.std.specs.Prelude.{◌≡◌, ◌<◌, ℕ, List, Option, None, Result, Ok, Err, length}
 use Rattle.lake_values.specs.Entry.{EntryValue}
 use Rattle.lake_model.specs.declared.fault.StepFault.TheVariants as step
 use Rattle.lake_model.specs.declared.fault.StepFault.{StepFault}
@@ -9,7 +9,7 @@ use Rattle.shared_lake.specs.SeatSteps.{LakeSeat}
 use Rattle.call_placement.specs.Rules.{Caller}
 use Rattle.call_placement.specs.Sessions.{caller}
 use Rattle.flow_steps.specs.FlowSeats.{GoesOn}
-use Rattle.flow_steps.specs.FlowTries.{FoundVersion, Guarded, StoreFailed, TryEnds, copying, staging}
+use Rattle.flow_steps.specs.FlowTries.{FoundVersion, Guarded, TryEnds, copying, staging}
 use Rattle.flow_steps.specs.Retries.{AreEnds, FoundInTurn, HasPaused}
 use Rattle.lake_model.specs.Uncommitted.{put_number}
 use Rattle.write_flow.specs.declared.tries.What.{What}
@@ -53,7 +53,6 @@ pub record HaveTried (guarded : Guarded) (call : ℕ) (old new : LakeSeat) (paus
   pub between : List HistoryEntry
   pub found : FoundInTurn (FoundVersion origin (caller old.number call) guarded) versions old.seen between
   pub ends : TriesEnd origin (caller old.number call) guarded versions result between new.seen
-  pub store : IsErrOf result (Step step.StoreFault) → StoreFailed origin
   pub pause : HasPaused 10 (length versions) paused pauses
 
 -- what is made at a path
