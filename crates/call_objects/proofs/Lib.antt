@@ -1,0 +1,5 @@
+pub mod AnsweredLemmas
+pub mod ReadingLemmas
+pub mod ToldLemmas
+pub mod WriteLemmas
+pub mod ReadLemmas

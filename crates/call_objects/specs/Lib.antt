@@ -1,0 +1,3 @@
+pub mod AnsweredCalls
+pub mod HeldReplies
+pub mod ToldFlows
