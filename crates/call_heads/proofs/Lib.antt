@@ -1,0 +1,2 @@
+pub mod ToldHeadLemmas
+pub mod AnsweredHeadLemmas
