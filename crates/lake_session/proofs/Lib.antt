@@ -1,0 +1,13 @@
+pub mod ItemLemmas
+pub mod SeatLemmas
+pub mod SoFarLemmas
+pub mod EndLemmas
+pub mod TextLemmas
+pub mod FormLemmas
+pub mod TurnLemmas
+pub mod FaultTexts
+pub mod SentReplies
+pub mod AnsweredRequests
+pub mod TakenLemmas
+pub mod ClockLemmas
+pub mod LoopLemmas

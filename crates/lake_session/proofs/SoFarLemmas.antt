@@ -1,0 +1,212 @@
+-- A session so far: requests were served, each reply was written, and no client asked for the connection to close.
+use Rattle.std.proofs.Common.{◌≡◌, ◌+◌, ◌≤◌, ℕ, true, false, List, [], ◌∷◌, ◌++◌, map, length, max, Option, Some, None, IfSome, Ok}
+use Rattle.std.proofs.Common.{refl, sym, ap, subst, ◌∙◌, append_assoc, append-nil, arith}
+use Rattle.std.proofs.lemmas.List.Elements.{All-append, All-cons, All-nil}
+use Rattle.block_store.specs.Blocks.{HeldObjects}
+use Rattle.http_wire.specs.Messages.{ReadsRequestAt}
+use Rattle.http_wire.specs.SinkFronts.{Wrote}
+use Rattle.lake_core.specs.declared.standing.LakeOrigin.{LakeOrigin}
+use Rattle.shared_lake.specs.SeatSteps.{LakeSeat}
+use Rattle.call_placement.specs.Sessions.{AreServed, IsItemServed, caller}
+use Rattle.call_placement.proofs.ServedLemmas.{one_more}
+use Rattle.lake_calls.specs.LakeRules.{lake_rules}
+use Rattle.lake_calls.specs.Requests.{form_of}
+use Rattle.flow_steps.specs.FlowSeats.{opened_state}
+use Rattle.body_laws.specs.BodiesKept.{KeepsFitting}
+use Rattle.api_forms.specs.CallForms.{asked}
+use Rattle.lake_session.specs.SessionItems.{AreFirst, NoneCloses, SessionItem, call_item, item_text, moments, placed_item, placed_items, texts}
+use Rattle.lake_session.specs.SessionTurns.{ServesWhole, Tally}
+use Rattle.lake_session.specs.SessionViews.{HasCounted, ServesItem, SessionView, StoreView}
+use Rattle.lake_session.specs.WholeSessions.{AllTellHeld, AreCounted, GoesThrough, TellsHeld}
+use Rattle.lake_session.proofs.ItemLemmas.{calls_long, calls_more, first_more, moments_more, placed_more, texts_more}
+use Rattle.lake_session.proofs.SeatLemmas.{fits_at_first, fits_further, goes_further, stays}
+
+-- the calls of items were served, from one seat to the other
+abbrev pub AreAllServed : (old now : LakeSeat) → List SessionItem → (edge : ℕ) → Type 0
+AreAllServed old now items edge = (origin : LakeOrigin) → old.origin ≡ Some origin
+    → AreServed lake_rules (opened_state origin) old.number 1 (length old.seen) old.seen (map call_item items) now.seen edge
+
+-- the requests of items are first in the bytes, of which these are left
+abbrev pub HasRead : (unread left : Option (List ℕ)) → List SessionItem → Type 0
+HasRead unread left items = IfSome unread (λ bytes. (rest : List ℕ) × (left ≡ Some rest) × AreFirst items bytes rest)
+
+-- the clock gave their moments
+abbrev pub HasTold : (readings readings_now : Option (List ℕ)) → List SessionItem → Type 0
+HasTold readings readings_now items = IfSome readings_now (λ now. (before : List ℕ) × (readings ≡ Some before) × (now ≡ before ++ moments items))
+
+pub record SoFar (old now : SessionView) (tally : Tally) (items : List SessionItem) : Type 0 where
+  pub read : HasRead old.unread now.unread items
+  pub told : HasTold old.readings now.readings items
+  pub goes : GoesThrough old.seat now.seat
+  pub served : AreAllServed old.seat now.seat items tally.edge
+  pub counted : AreCounted old.store items now.store
+  pub fitting : KeepsFitting old.seat now.seat old.store.held now.store.held
+  pub tells : AllTellHeld old.seat old.store.held items
+  pub wrote : Wrote old.written now.written (texts 1 items)
+  pub placed : tally.placed ≡ placed_items 1 items
+  pub none : NoneCloses items
+  pub rose : (old.read_faults ≤ now.read_faults) × (old.write_faults ≤ now.write_faults)
+
+-- ---- pieces
+
+pub read_none : (unread : Option (List ℕ)) → HasRead unread unread []
+read_none None = tt
+read_none (Some bytes) = (bytes, refl, refl)
+
+read_more : (unread left next : Option (List ℕ)) (items : List SessionItem) (item : SessionItem) → HasRead unread left items
+    → IfSome left (λ bytes. (rest : List ℕ) × (next ≡ Some rest) × ReadsRequestAt bytes (Ok (item.request, rest)))
+    → HasRead unread next (items ++ item ∷ [])
+read_more None left next items item read one = tt
+read_more (Some bytes) left next items item read one =
+    let here = subst (λ l. IfSome l (λ b. (rest : List ℕ) × (next ≡ Some rest) × ReadsRequestAt b (Ok (item.request, rest)))) read.1 one in
+    (here.0, here.1, first_more items item bytes read.0 here.0 read.2 here.2)
+
+pub told_none : (readings : Option (List ℕ)) → HasTold readings readings []
+told_none None = tt
+told_none (Some now) = (now, refl, sym (append-nil now))
+
+told_more : (readings between next : Option (List ℕ)) (items : List SessionItem) (item : SessionItem) → HasTold readings between items
+    → IfSome next (λ now. IfSome between (λ before. now ≡ before ++ item.moment ∷ []))
+    → IfSome next (λ now. (before : List ℕ) × (between ≡ Some before)) → HasTold readings next (items ++ item ∷ [])
+told_more readings between None items item told one clock = tt
+told_more readings between (Some now) items item told one clock =
+    let was = subst (λ b. HasTold readings b items) clock.1 told in
+    let is = subst (λ b. IfSome b (λ before. now ≡ before ++ item.moment ∷ [])) clock.1 one in (
+      was.0,
+      was.1,
+      is ∙ ap (λ b. b ++ item.moment ∷ []) was.2 ∙ append_assoc was.0 (moments items) (item.moment ∷ [])
+          ∙ ap (λ m. was.0 ++ m) (sym (moments_more items item)),
+    )
+
+pub wrote_none : (written : Option (List ℕ)) → Wrote written written []
+wrote_none None = tt
+wrote_none (Some before) = sym (ap Some (append-nil before))
+
+pub wrote_more : (written between next : Option (List ℕ)) (one more : List ℕ) → Wrote written between one → Wrote between next more
+    → Wrote written next (one ++ more)
+wrote_more None between next one more first behind = tt
+wrote_more (Some before) between next one more first behind =
+    let is = subst (λ b. Wrote b next more) first behind in
+    is ∙ ap Some (append_assoc before one more)
+
+counted_more : (before between next : StoreView) (items : List SessionItem) (item : SessionItem) → AreCounted before items between
+    → HasCounted between next item.met → AreCounted before (items ++ item ∷ []) next
+counted_more before between next [] item counted one = (next, subst (λ b. HasCounted b next item.met) counted one, refl)
+counted_more before between next (first ∷ items) item counted one =
+    (counted.0, counted.1, counted_more counted.0 between next items item counted.2 one)
+
+served_more : (number : ℕ) (old now next : LakeSeat) (items : List SessionItem) (item : SessionItem) (edge call_edge edge_now : ℕ)
+    → number ≡ length items + 1 → now.number ≡ old.number → now.origin ≡ old.origin → edge_now ≡ max edge call_edge
+    → AreAllServed old now items edge
+    → ((origin : LakeOrigin) → now.origin ≡ Some origin → IsItemServed lake_rules (opened_state origin) (caller now.number number) edge now.seen
+    next.seen (call_item item) call_edge (form_of (asked item.request)))
+    → AreAllServed old next (items ++ item ∷ []) edge_now
+served_more number old now next items item edge call_edge edge_now at number_is origin_is edge_is served one origin from =
+    let opened = opened_state origin in
+    let numbered : number ≡ 1 + length (map call_item items) = at ∙ ap (λ n. n + 1) (sym (calls_long items)) ∙ omega arith in
+    subst (λ e. AreServed lake_rules opened old.number 1 (length old.seen) old.seen (map call_item (items ++ item ∷ [])) next.seen e) (sym edge_is)
+    (subst (λ calls. AreServed lake_rules opened old.number 1 (length old.seen) old.seen calls next.seen (max edge call_edge)) (sym (calls_more items item))
+    (one_more lake_rules opened old.number 1 (length old.seen) edge call_edge old.seen now.seen next.seen (map call_item items) (call_item item)
+    (served origin from)
+    (subst (λ n. IsItemServed lake_rules opened (caller old.number n) edge now.seen next.seen (call_item item) call_edge (form_of (asked item.request)))
+    numbered
+    (subst (λ s. IsItemServed lake_rules opened (caller s number) edge now.seen next.seen (call_item item) call_edge (form_of (asked item.request))) number_is
+    (one origin (origin_is ∙ from))))))
+
+-- an item behind others tells of bytes as they are held, as they do
+tells_more : (number edge next_edge : ℕ) (old : LakeSeat) (held : Option HeldObjects) (now next : SessionView) (items : List SessionItem) (item : SessionItem)
+    → now.seat.alone ≡ old.alone → now.seat.origin ≡ old.origin → KeepsFitting old now.seat held now.store.held
+    → AllTellHeld old held items → ServesItem number edge next_edge now next item → AllTellHeld old held (items ++ item ∷ [])
+tells_more number edge next_edge old held now next items item alone_is origin_is fitting tells serves origin objects alone from is fits =
+    let here = fitting origin objects alone from is fits in
+    All-append (TellsHeld origin) items (item ∷ []) (tells origin objects alone from is fits)
+    (All-cons (TellsHeld origin) item []
+    (λ c asks.
+    let read = serves.reads _ asks c origin here.0 refl (alone_is ∙ alone) (origin_is ∙ from) here.1 here.2 in
+    (now.seat.seen, read.0, here.0, here.2, read.1))
+    (All-nil (TellsHeld origin)))
+
+-- ---- so far
+
+pub begins : (at : SessionView) → SoFar at at (record { placed = []; edge = length at.seat.seen }) []
+begins at = record {
+  read = read_none at.unread;
+  told = told_none at.readings;
+  goes = stays at.seat;
+  served = λ origin from. (refl, refl);
+  counted = refl;
+  fitting = fits_at_first at.seat at.store.held;
+  tells = λ origin objects alone from is fits. All-nil (TellsHeld origin);
+  wrote = wrote_none at.written;
+  placed = refl;
+  none = All-nil (λ (item : SessionItem). item.request.close ≡ false);
+  rose = (omega arith, omega arith);
+}
+
+-- what an item that was served leaves, but for its reply
+pub record Behind (number : ℕ) (old next : SessionView) (tally_next : Tally) (items : List SessionItem) (item : SessionItem) : Type 0 where
+  pub read : HasRead old.unread next.unread (items ++ item ∷ [])
+  pub told : HasTold old.readings next.readings (items ++ item ∷ [])
+  pub goes : GoesThrough old.seat next.seat
+  pub served : AreAllServed old.seat next.seat (items ++ item ∷ []) tally_next.edge
+  pub counted : AreCounted old.store (items ++ item ∷ []) next.store
+  pub fitting : KeepsFitting old.seat next.seat old.store.held next.store.held
+  pub tells : AllTellHeld old.seat old.store.held (items ++ item ∷ [])
+
+pub goes_behind : (number : ℕ) (old now next : SessionView) (tally tally_next : Tally) (items : List SessionItem) (item : SessionItem)
+    → number ≡ length items + 1 → SoFar old now tally items → ServesItem number tally.edge tally_next.edge now next item
+    → Behind number old next tally_next items item
+goes_behind number old now next tally tally_next items item at so serves =
+    let number_is = ap (λ (s : LakeSeat). s.number) so.goes.seat in
+    let origin_is = ap (λ (s : LakeSeat). s.origin) so.goes.seat in
+    let alone_is = ap (λ (s : LakeSeat). s.alone) so.goes.seat in
+    record {
+      read = read_more old.unread now.unread next.unread items item so.read serves.request;
+      told = told_more old.readings now.readings next.readings items item so.told serves.moment serves.clock_told;
+      goes = goes_further number old.seat now.seat next.seat so.goes serves.moves;
+      served = served_more number old.seat now.seat next.seat items item tally.edge serves.call_edge tally_next.edge at number_is origin_is
+          serves.edge_is so.served serves.served;
+      counted = counted_more old.store now.store next.store items item so.counted serves.counted;
+      fitting = fits_further old.seat now.seat next.seat old.store.held now.store.held next.store.held alone_is origin_is so.fitting serves.fitting;
+      tells = tells_more number tally.edge tally_next.edge old.seat old.store.held now next items item alone_is origin_is so.fitting so.tells serves;
+    }
+
+-- its reply is written whole behind those of the others
+pub wrote_whole : (number : ℕ) (old now next : SessionView) (tally tally_next : Tally) (items : List SessionItem) (item : SessionItem)
+    → number ≡ length items + 1 → SoFar old now tally items → ServesWhole number now next tally tally_next item
+    → Wrote old.written next.written (texts 1 (items ++ item ∷ [])) × (tally_next.placed ≡ placed_items 1 (items ++ item ∷ []))
+wrote_whole number old now next tally tally_next items item at so serves =
+    let n : number ≡ 1 + length items = at ∙ omega arith in (
+      subst (Wrote old.written next.written) (sym (texts_more 1 items item))
+          (wrote_more old.written now.written next.written (texts 1 items) (item_text (1 + length items) item) so.wrote
+          (subst (λ k. Wrote now.written next.written (item_text k item)) n serves.wrote)),
+      serves.placed ∙ ap (λ placed. placed ++ placed_item number item true ∷ []) so.placed
+          ∙ ap (λ k. placed_items 1 items ++ placed_item k item true ∷ []) n ∙ sym (placed_more 1 items item),
+    )
+
+-- an item more, whose client didn't ask for the connection to close
+pub one_further : (number : ℕ) (old now next : SessionView) (tally tally_next : Tally) (items : List SessionItem) (item : SessionItem)
+    → number ≡ length items + 1 → SoFar old now tally items → ServesWhole number now next tally tally_next item → item.request.close ≡ false
+    → (now.read_faults ≤ next.read_faults) × (now.write_faults ≤ next.write_faults)
+    → SoFar old next tally_next (items ++ item ∷ [])
+one_further number old now next tally tally_next items item at so serves stays_open rose =
+    let behind = goes_behind number old now next tally tally_next items item at so serves.serves in
+    let wrote = wrote_whole number old now next tally tally_next items item at so serves in
+    record {
+      read = behind.read;
+      told = behind.told;
+      goes = behind.goes;
+      served = behind.served;
+      counted = behind.counted;
+      fitting = behind.fitting;
+      tells = behind.tells;
+      wrote = wrote.0;
+      placed = wrote.1;
+      none = All-append (λ (i : SessionItem). i.request.close ≡ false) items (item ∷ []) so.none
+          (All-cons (λ (i : SessionItem). i.request.close ≡ false) item [] stays_open (All-nil (λ (i : SessionItem). i.request.close ≡ false)));
+      rose = (omega (arith, so.rose.0, rose.0), omega (arith, so.rose.1, rose.1));
+    }
+
+-- so many items were served so far
+abbrev pub AreUnderWay : (number : ℕ) → (old now : SessionView) → Tally → Type 0
+AreUnderWay number old now tally = (items : List SessionItem) × (number ≡ length items) × SoFar old now tally items

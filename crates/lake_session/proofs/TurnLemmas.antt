@@ -1,0 +1,152 @@
+-- One turn of a session, of what its steps tell.
+use Rattle.std.proofs.Common.{◌≡◌, inl, inr, ℕ, Bool, true, false, List, [], ◌∷◌, ◌++◌, max, Some, IfSome, Result, Ok, Err}
+use Rattle.std.proofs.Common.{OnErr, is_ok, refl, sym, ap, subst, ◌∙◌}
+use Rattle.lake_base.specs.Outside.{Rose}
+use Rattle.lake_base.specs.declared.outside.Failed.{Failed}
+use Rattle.http_wire.specs.Messages.{ReadsRequestAt}
+use Rattle.http_wire.specs.ReplyText.{reply_text}
+use Rattle.http_wire.specs.declared.fault.WireFault.{WireFault}
+use Rattle.http_wire.specs.declared.fault.WireFault.TheVariants.{BadHead, BadLength, BodyTooLong, Chunked, Ended, HeadTooLong, NoMemory, ReadFault, Truncated}
+use Rattle.http_wire.specs.declared.message.Reply.{Reply}
+use Rattle.http_wire.specs.declared.message.Request.{Request}
+use Rattle.lake_core.specs.declared.standing.LakeOrigin.{LakeOrigin}
+use Rattle.call_placement.specs.Sessions.{caller}
+use Rattle.lake_calls.specs.Requests.{Asked, Asks}
+use Rattle.lake_calls.specs.declared.call.Call.{Call}
+use Rattle.lake_calls.specs.declared.reply.CallReply.{CallReply}
+use Rattle.flow_steps.specs.FlowSeats.{opened_state}
+use Rattle.api_forms.specs.CallForms.{asked}
+use Rattle.call_objects.specs.HeldReplies.{ReadsHeld}
+use Rattle.call_readings.specs.declared.answers.Answered.{Answered}
+use Rattle.lake_session.specs.declared.replies.Printed.{Printed}
+use Rattle.lake_session.specs.declared.report.End.{End}
+use Rattle.lake_session.specs.declared.report.End.TheVariants as end
+use Rattle.lake_session.specs.FaultEnds.{EndsBehind, EndsByFault}
+use Rattle.lake_session.specs.RequestTaking.{IsPrinted, IsUntaken, Starved, StarvedForm, Whole, sent_by, told_by}
+use Rattle.lake_session.specs.SessionItems.{SessionItem, item_text, placed_item}
+use Rattle.lake_session.specs.SessionTexts.{Writes, last_reply, reply_to_fault, told_text}
+use Rattle.lake_session.specs.SessionTurns.{NothingServed, ServesWhole, Tally, TurnEnds, end_behind}
+use Rattle.lake_session.specs.SessionViews.{IsRequestAnswered, ServesItem, SessionView}
+use Rattle.lake_session.proofs.FormLemmas.{IsServedSo, no_form, starves_form, starves_item}
+use Rattle.lake_session.proofs.TextLemmas.{starved_text}
+
+-- ---- a message that isn't read
+
+module _ (number : ℕ) (old now : SessionView) (tally : Tally) (nothing : NothingServed old now) where
+  answered : (fault : WireFault) (sent : Reply) (answer : End) → IfSome old.unread (λ bytes. ReadsRequestAt bytes (Err fault))
+      → reply_to_fault fault ≡ Some sent → EndsBehind (end.Wire fault) sent old.written now.written old.write_faults now.write_faults answer
+      → TurnEnds number old now tally tally (Some answer)
+  answered fault sent answer reads due (inl (is, wrote)) =
+      subst (λ e. TurnEnds number old now tally tally (Some e)) (sym is)
+      (record { nothing = nothing; tally_is = refl; ends = (reads, inr (sent, due, wrote)) })
+  answered fault sent answer reads due (inr (is, rose, front)) =
+      subst (λ e. TurnEnds number old now tally tally (Some e)) (sym is)
+      (inr (record { nothing = nothing; tally_is = refl; ends = (rose, sent, inl (fault, reads, due), front) }))
+
+  pub fault_turn : (fault : WireFault) (answer : End) → IsUntaken fault old.unread → (fault ≡ ReadFault → Rose old.read_faults now.read_faults)
+      → EndsByFault fault old.written now.written old.write_faults now.write_faults answer → TurnEnds number old now tally tally (Some answer)
+  fault_turn Ended answer untaken rose ends =
+      subst (λ e. TurnEnds number old now tally tally (Some e)) (sym ends.0) (record { nothing = nothing; tally_is = refl; ends = (untaken, ends.1) })
+  fault_turn ReadFault answer untaken rose ends =
+      subst (λ e. TurnEnds number old now tally tally (Some e)) (sym ends.0)
+      (record { nothing = nothing; tally_is = refl; ends = (rose refl, untaken, ends.1) })
+  fault_turn (Truncated n) answer untaken rose ends =
+      subst (λ e. TurnEnds number old now tally tally (Some e)) (sym ends.0)
+      (record { nothing = nothing; tally_is = refl; ends = (untaken, inl (n, refl, ends.1)) })
+  fault_turn NoMemory answer untaken rose (inl (is, wrote)) =
+      subst (λ e. TurnEnds number old now tally tally (Some e)) (sym is) (record { nothing = nothing; tally_is = refl; ends = wrote })
+  fault_turn NoMemory answer untaken rose (inr (is, failed, front)) =
+      subst (λ e. TurnEnds number old now tally tally (Some e)) (sym is)
+      (inr (record { nothing = nothing; tally_is = refl; ends = (failed, last_reply, inr refl, front) }))
+  fault_turn HeadTooLong answer untaken rose ends = answered HeadTooLong ends.0 answer untaken ends.1 ends.2
+  fault_turn BadHead answer untaken rose ends = answered BadHead ends.0 answer untaken ends.1 ends.2
+  fault_turn Chunked answer untaken rose ends = answered Chunked ends.0 answer untaken ends.1 ends.2
+  fault_turn BadLength answer untaken rose ends = answered BadLength ends.0 answer untaken ends.1 ends.2
+  fault_turn (BodyTooLong n) answer untaken rose ends = answered (BodyTooLong n) ends.0 answer untaken ends.1 ends.2
+
+-- ---- a request that was answered
+
+module _ (number edge moment : ℕ) (request : Request) (old now : SessionView) (answer : Answered)
+    (answers : IsRequestAnswered number edge request moment old.store now.store old.seat now.seat answer) (printed : Printed) where
+  abbrev pub told : CallReply
+  told = told_by answer.reply printed.reply
+
+  -- what was printed is placed
+  is_placed : IsPrinted now.seat answer printed → (origin : LakeOrigin) → old.seat.origin ≡ Some origin
+      → IsServedSo (opened_state origin) (caller old.seat.number number) edge old.seat.seen now.seat.seen moment answers.met (asked request) told
+      printed.position printed.edge
+  is_placed (Whole is) origin from =
+      subst (λ (p : Printed). IsServedSo (opened_state origin) (caller old.seat.number number) edge old.seat.seen now.seat.seen moment answers.met
+      (asked request) (told_by answer.reply p.reply) p.position p.edge) (sym is) (answers.served origin from)
+  is_placed (Starved none is) origin from =
+      subst (λ (p : Printed). IsServedSo (opened_state origin) (caller old.seat.number number) edge old.seat.seen now.seat.seen moment answers.met
+      (asked request) (told_by answer.reply p.reply) p.position p.edge) (sym is)
+      (starves_item (opened_state origin) (caller old.seat.number number) edge old.seat.seen now.seat.seen moment answers.met (asked request) answer.reply
+      answer.position answer.edge none (answers.served origin from))
+  is_placed (StarvedForm form is) origin from =
+      subst (λ (p : Printed). IsServedSo (opened_state origin) (caller old.seat.number number) edge old.seat.seen now.seat.seen moment answers.met
+      (asked request) (told_by answer.reply p.reply) p.position p.edge) (sym is)
+      (starves_form (opened_state origin) (caller old.seat.number number) edge old.seat.seen now.seat.seen moment answers.met (asked request) answer.reply
+      answer.position answer.edge form (answers.served origin from))
+
+  reads_so : IsPrinted now.seat answer printed → (call : Call) → asked request ≡ Asks call
+      → ReadsHeld old.seat old.store.held call told printed.position
+  reads_so (Whole is) call asks =
+      subst (λ (p : Printed). ReadsHeld old.seat old.store.held call (told_by answer.reply p.reply) p.position) (sym is) (answers.reads call asks)
+  reads_so (Starved none is) call asks =
+      subst (λ (p : Printed). ReadsHeld old.seat old.store.held call (told_by answer.reply p.reply) p.position) (sym is)
+      (λ c origin objects one alone from held fits. let read = answers.reads call asks c origin objects one alone from held fits in (read.0, tt))
+  reads_so (StarvedForm form is) call asks =
+      subst (λ (p : Printed). ReadsHeld old.seat old.store.held call (told_by answer.reply p.reply) p.position) (sym is)
+      (λ c origin objects one alone from held fits.
+      let served = subst (λ (a : Asked). IsServedSo (opened_state origin) (caller old.seat.number number) edge old.seat.seen now.seat.seen moment answers.met a
+      answer.reply answer.position answer.edge) asks (answers.served origin from) in
+      absurd (no_form call moment (opened_state origin) (caller old.seat.number number) old.seat.seen now.seat.seen answers.met answer.reply answer.position
+      answer.edge served.0 form))
+
+  abbrev pub item : SessionItem
+  item = record { request = request; moment = moment; met = answers.met; told = told; position = printed.position }
+
+  -- the item of the request
+  pub serves : (next_edge : ℕ) → IsPrinted now.seat answer printed → next_edge ≡ max edge printed.edge
+      → IfSome old.unread (λ bytes. (rest : List ℕ) × (now.unread ≡ Some rest) × ReadsRequestAt bytes (Ok (request, rest)))
+      → IfSome now.readings (λ readings. IfSome old.readings (λ before. readings ≡ before ++ moment ∷ []))
+      → IfSome now.readings (λ readings. (before : List ℕ) × (old.readings ≡ Some before)) → ServesItem number edge next_edge old now item
+  serves next_edge is_printed edge_is reads clock clock_told = record {
+    request = reads;
+    moment = clock;
+    clock_told = clock_told;
+    call_edge = printed.edge;
+    served = is_placed is_printed;
+    edge_is = edge_is;
+    moves = answers.moves;
+    counted = answers.counted;
+    fitting = answers.fitting;
+    reads = reads_so is_printed;
+  }
+
+  -- the text that is sent is the item's
+  pub sends : IsPrinted now.seat answer printed → (close : Bool) → reply_text (sent_by close printed.reply) ≡ told_text close told
+  sends (Whole is) close =
+      ap (λ (p : Printed). reply_text (sent_by close p.reply)) is ∙ sym (ap (λ (p : Printed). told_text close (told_by answer.reply p.reply)) is)
+  sends (Starved none is) close =
+      ap (λ (p : Printed). reply_text (sent_by close p.reply)) is ∙ sym (starved_text close)
+      ∙ sym (ap (λ (p : Printed). told_text close (told_by answer.reply p.reply)) is)
+  sends (StarvedForm form is) close =
+      ap (λ (p : Printed). reply_text (sent_by close p.reply)) is ∙ sym (starved_text close)
+      ∙ sym (ap (λ (p : Printed). told_text close (told_by answer.reply p.reply)) is)
+
+-- what came of the turn, by whether the reply was written and its client asks for the connection to close
+module _ {T : Type 0} (number : ℕ) (old now : SessionView) (tally tally_now : Tally) (item : SessionItem)
+    (serves : ServesItem number tally.edge tally_now.edge old now item) where
+  by_close : (close : Bool) (done : T) → item.request.close ≡ close → ServesWhole number old now tally tally_now item
+      → TurnEnds number old now tally tally_now (end_behind {T = T} (Ok done) close)
+  by_close true done is whole = (item, whole, is)
+  by_close false done is whole = (item, whole, is)
+
+  pub served_turn : (sent : Result T Failed) → tally_now.placed ≡ tally.placed ++ placed_item number item (is_ok sent) ∷ []
+      → Writes old.written now.written (item_text number item) sent → OnErr sent (Rose old.write_faults now.write_faults)
+      → TurnEnds number old now tally tally_now (end_behind sent item.request.close)
+  served_turn (Ok done) placed wrote failed =
+      by_close item.request.close done refl (record { serves = serves; placed = placed; wrote = wrote })
+  served_turn (Err fault) placed wrote failed = inl (item, record { serves = serves; placed = placed; wrote = wrote; failed = failed })

@@ -1,0 +1,145 @@
+-- A session, whole.
+use Rattle.std.specs.Prelude.{◌≡◌, ◌<◌, ◌⊎◌, ◌++◌, ℕ, true, false, List, [], ◌∷◌, map, All, length, Option, Some, IfSome, ⊤}
+use Rattle.std.specs.FinMap.{get}
+use Rattle.lake_base.specs.Outside.{Rose}
+use Rattle.block_store.specs.Blocks.{HeldObjects}
+use Rattle.http_wire.specs.ReplyText.{reply_text}
+use Rattle.http_wire.specs.SinkFronts.{IsPrefix, Wrote}
+use Rattle.http_wire.specs.declared.fault.WireFault.TheVariants.{Ended, Truncated}
+use Rattle.http_wire.specs.declared.message.Reply.{Reply}
+use Rattle.lake_model.specs.declared.history.HistoryEntry.{HistoryEntry}
+use Rattle.lake_model.specs.History.{IsLegal}
+use Rattle.lake_model.specs.Soundness.{IsSound}
+use Rattle.lake_core.specs.declared.standing.LakeOrigin.{LakeOrigin}
+use Rattle.shared_lake.specs.SeatSteps.{LakeSeat}
+use Rattle.turn_lock.specs.Seats.{seat_after}
+use Rattle.call_placement.specs.Placed.{ArePlaced}
+use Rattle.call_placement.specs.Sessions.{AreServed}
+use Rattle.lake_calls.specs.HeldBodies.{FitsState}
+use Rattle.lake_calls.specs.LakeRules.{lake_rules}
+use Rattle.lake_calls.specs.Requests.{Asks}
+use Rattle.lake_calls.specs.declared.call.Call.TheVariants.{Objects}
+use Rattle.lake_calls.specs.declared.objects.ObjectCall.TheVariants as object
+use Rattle.lake_calls.specs.declared.objects.ReadCall.{ReadCall}
+use Rattle.flow_steps.specs.FlowSeats.{opened_state, state_at}
+use Rattle.body_laws.specs.BodiesKept.{KeepsFitting}
+use Rattle.api_forms.specs.CallForms.{asked}
+use Rattle.call_objects.specs.HeldReplies.{IsHeldReply}
+use Rattle.lake_session.specs.declared.report.End.{End}
+use Rattle.lake_session.specs.declared.report.End.TheVariants as end
+use Rattle.lake_session.specs.declared.report.Placed.{Placed}
+use Rattle.lake_session.specs.declared.report.SessionReport.{SessionReport}
+use Rattle.lake_session.specs.SessionItems.{AreFirst, NoneCloses, SessionItem, call_item, item_text, moments, placed_item, placed_items, texts}
+use Rattle.lake_session.specs.SessionTexts.{last_reply, reply_to_fault}
+use Rattle.lake_session.specs.SessionTurns.{FailedBehind, IsFaultOf, IsLastReply}
+use Rattle.lake_session.specs.SessionViews.{HasCounted, SessionView, StoreView}
+
+-- ---- the history
+
+-- A SEAT WENT ON IN A SESSION: nothing changed, or what it has seen then begins with what it had seen before, and is legal from a sound
+-- opened state; where it is alone, what came is its own; and nothing else of it changed.
+pub record GoesThrough (old now : LakeSeat) : Type 0 where
+  pub turn : now.turn ≡ old.turn
+  pub seat : now ≡ seat_after old now.seen now.mine
+  pub added : List HistoryEntry
+  pub seen : now.seen ≡ old.seen ++ added
+  pub alone : old.alone ≡ true → All (λ (e : HistoryEntry). e.by.seat ≡ old.number) added
+  pub legal : (origin : LakeOrigin) → old.origin ≡ Some origin
+      → (added ≡ []) ⊎ (IsSound (opened_state origin) × IsLegal (opened_state origin) now.seen)
+
+-- THE CALLS OF ITEMS, numbered from 1, were served one after the other behind what their seat had seen, and are placed in all that it
+-- has seen then; this is the last edge.
+pub record ServesAll (origin : LakeOrigin) (old now : LakeSeat) (items : List SessionItem) (edge : ℕ) : Type 0 where
+  pub served : AreServed lake_rules (opened_state origin) old.number 1 (length old.seen) old.seen (map call_item items) now.seen edge
+  pub stand : ArePlaced lake_rules (opened_state origin) old.number 1 (length old.seen) old.seen now.seen (map call_item items)
+
+-- ---- what the store of objects counted and held
+
+-- what calls met of the store of objects, one after the other, is what that counted between two moments
+abbrev pub AreCounted : StoreView → List SessionItem → StoreView → Type 0
+AreCounted before [] now = now ≡ before
+AreCounted before (item ∷ items) now = (between : StoreView) × HasCounted before between item.met × AreCounted between items now
+
+-- An item tells of bytes as they are held: at some moment of the session the store's bodies fitted the state at the item's position,
+-- and the bytes are theirs; too many tries never come, and bytes are lost or damaged only of a commit that is expired.
+abbrev pub TellsHeld : LakeOrigin → SessionItem → Type 0
+TellsHeld origin item = (c : ReadCall) → asked item.request ≡ Asks (Objects (object.Read c))
+    → (seen : List HistoryEntry) × (item.position ≡ length seen) × (objects : HeldObjects) × FitsState (state_at origin seen) (get objects)
+    × IsHeldReply c (state_at origin seen) objects item.told
+
+-- so do all items, where the seat is alone, and the store tells what it holds, which fits what the seat had seen
+abbrev pub AllTellHeld : (old : LakeSeat) → (held : Option HeldObjects) → List SessionItem → Type 0
+AllTellHeld old held items = (origin : LakeOrigin) (objects : HeldObjects) → old.alone ≡ true → old.origin ≡ Some origin → held ≡ Some objects
+    → FitsState (state_at origin old.seen) (get objects) → All (TellsHeld origin) items
+
+-- ---- how it ended
+
+-- WHAT IS LEFT of the bytes behind the requests of a session that ended so: all whole requests that stood first were answered, unless it
+-- ended before them.
+abbrev pub IsLeft : End → (rest : List ℕ) → Type 0
+IsLeft end.SourceEnded rest = IsFaultOf Ended (Some rest)
+IsLeft (end.Wire fault) rest = IsFaultOf fault (Some rest)
+IsLeft end.ReadFault rest = FailedBehind (Some rest)
+IsLeft _ rest = ⊤
+
+-- WHAT WAS WRITTEN by a session that ended so: the reply to each item, whole, in order; and behind these the reply to a message that isn't
+-- read, or that of want of memory. Where the sink failed, of the reply then due a front, which may be that to the last item.
+abbrev pub IsWritten : List SessionItem → End → (rest : Option (List ℕ)) → (out : List ℕ) → Type 0
+IsWritten items (end.Wire fault) rest out =
+    ((n : ℕ) × (fault ≡ Truncated n) × (out ≡ texts 1 items))
+    ⊎ ((sent : Reply) × (reply_to_fault fault ≡ Some sent) × (out ≡ texts 1 items ++ reply_text sent))
+IsWritten items end.NoMemory rest out = out ≡ texts 1 items ++ reply_text last_reply
+IsWritten items end.WriteFault rest out = (whole : List SessionItem) × (text front : List ℕ) × IsPrefix front text × (out ≡ texts 1 whole ++ front)
+    × (((item : SessionItem) × (items ≡ whole ++ item ∷ []) × (text ≡ item_text (length items) item))
+    ⊎ ((items ≡ whole) × (sent : Reply) × IsLastReply rest sent × (text ≡ reply_text sent)))
+IsWritten items ended rest out = out ≡ texts 1 items
+
+-- WHICH CLIENT ASKED for the connection to close: of a session that ended so the last, or none; and there were fewer than 10,000, or
+-- just so many.
+abbrev pub IsEnded : List SessionItem → End → Type 0
+IsEnded items end.Closed = (before : List SessionItem) × (last : SessionItem) × (items ≡ before ++ last ∷ []) × NoneCloses before × (last.request.close ≡ true)
+IsEnded items end.RequestLimit = NoneCloses items × (length items ≡ 10000)
+IsEnded items end.WriteFault =
+    (NoneCloses items × (length items < 10000))
+    ⊎ ((before : List SessionItem) × (last : SessionItem) × (items ≡ before ++ last ∷ []) × NoneCloses before)
+IsEnded items ended = NoneCloses items × (length items < 10000)
+
+-- what is reported of the items: all were written, but the last where the sink failed in its reply
+abbrev pub IsReported : List SessionItem → End → List Placed → Type 0
+IsReported items end.WriteFault placed =
+    (placed ≡ placed_items 1 items)
+    ⊎ ((whole : List SessionItem) × (item : SessionItem) × (items ≡ whole ++ item ∷ [])
+    × (placed ≡ placed_items 1 whole ++ placed_item (length items) item false ∷ []))
+IsReported items ended placed = placed ≡ placed_items 1 items
+
+-- a fault of a stream is told only where its count rose
+abbrev pub HasCause : (old now : SessionView) → End → Type 0
+HasCause old now end.ReadFault = Rose old.read_faults now.read_faults
+HasCause old now end.WriteFault = Rose old.write_faults now.write_faults
+HasCause old now ended = ⊤
+
+-- ---- the headline
+
+-- A SESSION, between what it works on before it and after it: its items, of which each is a request with the moment at which it was
+-- answered, and what its client was told.
+--
+-- The requests are the first messages of the bytes that the source had, and all of them unless the session ended before. The moments
+-- are the clock's next readings. The calls are placed in one legal history, in which each accepted change of theirs stands once, and
+-- none lies before anything that their client had seen. What was written is the printed replies, in order.
+pub record IsSession (old now : SessionView) (report : SessionReport) : Type 0 where
+  pub items : List SessionItem
+  pub rest : Option (List ℕ)
+  pub requests : IfSome old.unread (λ bytes. (left : List ℕ) × (rest ≡ Some left) × AreFirst items bytes left × IsLeft report.end left)
+  pub moment : IfSome now.readings (λ readings. (before : List ℕ) × (old.readings ≡ Some before) × (readings ≡ before ++ moments items))
+  pub goes : GoesThrough old.seat now.seat
+  pub edge : ℕ
+  pub history : (origin : LakeOrigin) → old.seat.origin ≡ Some origin → ServesAll origin old.seat now.seat items edge
+  pub counted : AreCounted old.store items now.store
+  pub fitting : KeepsFitting old.seat now.seat old.store.held now.store.held
+  pub tells : AllTellHeld old.seat old.store.held items
+  pub written : (out : List ℕ) × IsWritten items report.end rest out × Wrote old.written now.written out
+  pub ended : IsEnded items report.end
+  pub cause : HasCause old now report.end
+  pub from : report.from ≡ length old.seat.seen
+  pub to : report.to ≡ length now.seat.seen
+  pub reported : IsReported items report.end report.placed
