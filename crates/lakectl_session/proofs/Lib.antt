@@ -1,0 +1,5 @@
+pub mod ExchangeLemmas
+pub mod ClosingTexts
+pub mod LongLines
+pub mod CommandLemmas
+pub mod SessionLemmas
