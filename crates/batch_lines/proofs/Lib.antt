@@ -1,0 +1,11 @@
+pub mod CauseLemmas
+pub mod ClosingLemmas
+pub mod EffectsLemmas
+pub mod FeedingLemmas
+pub mod LineBufferLemmas
+pub mod LinesLemmas
+pub mod OutcomeLemmas
+pub mod OutputLemmas
+pub mod PrefixLemmas
+pub mod ReadingLemmas
+pub mod SeenOutcomes

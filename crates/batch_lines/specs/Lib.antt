@@ -1,0 +1,9 @@
+pub mod Feeding
+pub mod Lines
+pub mod Outcome
+pub mod Progress
+pub mod ResultsView
+pub mod ServedLines
+pub mod Serving
+pub mod SourceReading
+pub mod Status
