@@ -1,0 +1,4 @@
+pub mod Connections
+pub mod ServedConnections
+pub mod WorkerSteps
+pub mod MemoryListeners
