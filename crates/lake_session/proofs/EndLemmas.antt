@@ -30,7 +30,7 @@ pub record Items (old next : SessionView) (items : List SessionItem) (rest : Opt
   pub served : AreAllServed old.seat next.seat items edge
   pub counted : AreCounted old.store items next.store
   pub fitting : KeepsFitting old.seat next.seat old.store.held next.store.held
-  pub tells : AllTellHeld old.seat old.store.held items
+  pub tells : AllTellHeld old.seat next.seat old.store.held items
 
 -- how it ended
 pub record Ending (old next : SessionView) (items : List SessionItem) (rest : Option (List ℕ)) (ended : End) (placed : List Placed) : Type 0 where
@@ -85,7 +85,7 @@ unserved_items old now next tally tally_next items ended so ends = record {
   counted = subst (AreCounted old.store items) (sym ends.nothing.store) so.counted;
   fitting = subst (λ s. KeepsFitting old.seat s old.store.held next.store.held) (sym ends.nothing.seat)
       (subst (λ store. KeepsFitting old.seat now.seat old.store.held store.held) (sym ends.nothing.store) so.fitting);
-  tells = so.tells;
+  tells = subst (λ s. AllTellHeld old.seat s old.store.held items) (sym ends.nothing.seat) so.tells;
 }
 
 -- the sink has what it had

@@ -1,5 +1,5 @@
 -- A seat, and the bodies that its store holds, over one more call.
-use Rattle.std.proofs.Common.{◌≡◌, inl, inr, ℕ, [], ◌++◌, All, Option, Some, refl, sym, ap, subst, ◌∙◌, append_assoc, append-nil}
+use Rattle.std.proofs.Common.{◌≡◌, inl, inr, ℕ, List, [], ◌++◌, All, Option, Some, refl, sym, ap, subst, ◌∙◌, append_assoc, append-nil}
 use Rattle.std.specs.Option.{unwrap_or}
 use Rattle.std.proofs.lemmas.List.Elements.{All-append, All-nil}
 use Rattle.block_store.specs.Blocks.{HeldObjects}
@@ -51,6 +51,11 @@ goes_further number old now next goes (inr (origin, on, turn)) = record {
 pub moved_origin : (number : ℕ) (old now : LakeSeat) → Moves number old now → now.origin ≡ old.origin
 moved_origin number old now (inl same) = ap (λ (s : LakeSeat). s.origin) same
 moved_origin number old now (inr moves) = ap (λ (s : LakeSeat). s.origin) moves.1.seat
+
+-- what a seat that moved has seen begins with what it had seen
+pub seen_more : (number : ℕ) (old now : LakeSeat) → Moves number old now → (added : List HistoryEntry) × (now.seen ≡ old.seen ++ added)
+seen_more number old now (inl same) = ([], ap (λ (s : LakeSeat). s.seen) same ∙ sym (append-nil old.seen))
+seen_more number old now (inr moves) = (moves.1.added, moves.1.seen)
 
 -- bodies that fitted fit behind one call and then another
 pub fits_further : (old now next : LakeSeat) (held held_now held_next : Option HeldObjects) → now.alone ≡ old.alone → now.origin ≡ old.origin

@@ -1,10 +1,11 @@
 -- A session so far: requests were served, each reply was written, and no client asked for the connection to close.
-use Rattle.std.proofs.Common.{◌≡◌, ◌+◌, ◌≤◌, ℕ, true, false, List, [], ◌∷◌, ◌++◌, map, length, max, Option, Some, None, IfSome, Ok}
+use Rattle.std.proofs.Common.{◌≡◌, ◌+◌, ◌≤◌, ℕ, true, false, List, [], ◌∷◌, ◌++◌, All, map, length, max, Option, Some, None, IfSome, Ok}
 use Rattle.std.proofs.Common.{refl, sym, ap, subst, ◌∙◌, append_assoc, append-nil, arith}
-use Rattle.std.proofs.lemmas.List.Elements.{All-append, All-cons, All-nil}
+use Rattle.std.proofs.lemmas.List.Elements.{All-append, All-cons, All-head, All-nil, All-tail}
 use Rattle.block_store.specs.Blocks.{HeldObjects}
 use Rattle.http_wire.specs.Messages.{ReadsRequestAt}
 use Rattle.http_wire.specs.SinkFronts.{Wrote}
+use Rattle.lake_model.specs.declared.history.HistoryEntry.{HistoryEntry}
 use Rattle.lake_core.specs.declared.standing.LakeOrigin.{LakeOrigin}
 use Rattle.shared_lake.specs.SeatSteps.{LakeSeat}
 use Rattle.call_placement.specs.Sessions.{AreServed, IsItemServed, caller}
@@ -19,7 +20,7 @@ use Rattle.lake_session.specs.SessionTurns.{ServesWhole, Tally}
 use Rattle.lake_session.specs.SessionViews.{HasCounted, ServesItem, SessionView, StoreView}
 use Rattle.lake_session.specs.WholeSessions.{AllTellHeld, AreCounted, GoesThrough, TellsHeld}
 use Rattle.lake_session.proofs.ItemLemmas.{calls_long, calls_more, first_more, moments_more, placed_more, texts_more}
-use Rattle.lake_session.proofs.SeatLemmas.{fits_at_first, fits_further, goes_further, stays}
+use Rattle.lake_session.proofs.SeatLemmas.{fits_at_first, fits_further, goes_further, seen_more, stays}
 
 -- the calls of items were served, from one seat to the other
 abbrev pub AreAllServed : (old now : LakeSeat) → List SessionItem → (edge : ℕ) → Type 0
@@ -41,7 +42,7 @@ pub record SoFar (old now : SessionView) (tally : Tally) (items : List SessionIt
   pub served : AreAllServed old.seat now.seat items tally.edge
   pub counted : AreCounted old.store items now.store
   pub fitting : KeepsFitting old.seat now.seat old.store.held now.store.held
-  pub tells : AllTellHeld old.seat old.store.held items
+  pub tells : AllTellHeld old.seat now.seat old.store.held items
   pub wrote : Wrote old.written now.written (texts 1 items)
   pub placed : tally.placed ≡ placed_items 1 items
   pub none : NoneCloses items
@@ -113,18 +114,31 @@ served_more number old now next items item edge call_edge edge_now at number_is 
     (subst (λ s. IsItemServed lake_rules opened (caller s number) edge now.seen next.seen (call_item item) call_edge (form_of (asked item.request))) number_is
     (one origin (origin_is ∙ from))))))
 
+-- what was told stays told of all that is seen later
+tell_later : (origin : LakeOrigin) (all added next : List HistoryEntry) → next ≡ all ++ added → (items : List SessionItem)
+    → All (TellsHeld origin all) items → All (TellsHeld origin next) items
+tell_later origin all added next is [] tells = All-nil (TellsHeld origin next)
+tell_later origin all added next is (item ∷ items) tells =
+    All-cons (TellsHeld origin next) item items
+    (λ c asks.
+    let told = All-head (TellsHeld origin all) item items tells c asks in
+    (told.0, told.1 ++ added, is ∙ ap (λ l. l ++ added) told.2 ∙ append_assoc told.0 told.1 added, told.3, told.4, told.5, told.6))
+    (tell_later origin all added next is items (All-tail (TellsHeld origin all) item items tells))
+
 -- an item behind others tells of bytes as they are held, as they do
 tells_more : (number edge next_edge : ℕ) (old : LakeSeat) (held : Option HeldObjects) (now next : SessionView) (items : List SessionItem) (item : SessionItem)
     → now.seat.alone ≡ old.alone → now.seat.origin ≡ old.origin → KeepsFitting old now.seat held now.store.held
-    → AllTellHeld old held items → ServesItem number edge next_edge now next item → AllTellHeld old held (items ++ item ∷ [])
+    → AllTellHeld old now.seat held items → ServesItem number edge next_edge now next item → AllTellHeld old next.seat held (items ++ item ∷ [])
 tells_more number edge next_edge old held now next items item alone_is origin_is fitting tells serves origin objects alone from is fits =
     let here = fitting origin objects alone from is fits in
-    All-append (TellsHeld origin) items (item ∷ []) (tells origin objects alone from is fits)
-    (All-cons (TellsHeld origin) item []
+    let more = seen_more number now.seat next.seat serves.moves in
+    let all = next.seat.seen in
+    All-append (TellsHeld origin all) items (item ∷ []) (tell_later origin now.seat.seen more.0 all more.1 items (tells origin objects alone from is fits))
+    (All-cons (TellsHeld origin all) item []
     (λ c asks.
     let read = serves.reads _ asks c origin here.0 refl (alone_is ∙ alone) (origin_is ∙ from) here.1 here.2 in
-    (now.seat.seen, read.0, here.0, here.2, read.1))
-    (All-nil (TellsHeld origin)))
+    (now.seat.seen, more.0, more.1, read.0, here.0, here.2, read.1))
+    (All-nil (TellsHeld origin all)))
 
 -- ---- so far
 
@@ -136,7 +150,7 @@ begins at = record {
   served = λ origin from. (refl, refl);
   counted = refl;
   fitting = fits_at_first at.seat at.store.held;
-  tells = λ origin objects alone from is fits. All-nil (TellsHeld origin);
+  tells = λ origin objects alone from is fits. All-nil (TellsHeld origin at.seat.seen);
   wrote = wrote_none at.written;
   placed = refl;
   none = All-nil (λ (item : SessionItem). item.request.close ≡ false);
@@ -151,7 +165,7 @@ pub record Behind (number : ℕ) (old next : SessionView) (tally_next : Tally) (
   pub served : AreAllServed old.seat next.seat (items ++ item ∷ []) tally_next.edge
   pub counted : AreCounted old.store (items ++ item ∷ []) next.store
   pub fitting : KeepsFitting old.seat next.seat old.store.held next.store.held
-  pub tells : AllTellHeld old.seat old.store.held (items ++ item ∷ [])
+  pub tells : AllTellHeld old.seat next.seat old.store.held (items ++ item ∷ [])
 
 pub goes_behind : (number : ℕ) (old now next : SessionView) (tally tally_next : Tally) (items : List SessionItem) (item : SessionItem)
     → number ≡ length items + 1 → SoFar old now tally items → ServesItem number tally.edge tally_next.edge now next item

@@ -60,17 +60,19 @@ abbrev pub AreCounted : StoreView → List SessionItem → StoreView → Type 0
 AreCounted before [] now = now ≡ before
 AreCounted before (item ∷ items) now = (between : StoreView) × HasCounted before between item.met × AreCounted between items now
 
--- An item tells of bytes as they are held: at some moment of the session the store's bodies fitted the state at the item's position,
--- and the bytes are theirs; too many tries never come, and bytes are lost or damaged only of a commit that is expired.
-abbrev pub TellsHeld : LakeOrigin → SessionItem → Type 0
-TellsHeld origin item = (c : ReadCall) → asked item.request ≡ Asks (Objects (object.Read c))
-    → (seen : List HistoryEntry) × (item.position ≡ length seen) × (objects : HeldObjects) × FitsState (state_at origin seen) (get objects)
-    × IsHeldReply c (state_at origin seen) objects item.told
+-- An item tells of bytes as they are held: the store's bodies fitted the state at the item's position, which comes of the first of all
+-- these entries, and the bytes are theirs; too many tries never come, and bytes are lost or damaged only of a commit that is expired
+-- there.
+abbrev pub TellsHeld : LakeOrigin → (all : List HistoryEntry) → SessionItem → Type 0
+TellsHeld origin all item = (c : ReadCall) → asked item.request ≡ Asks (Objects (object.Read c))
+    → (seen later : List HistoryEntry) × (all ≡ seen ++ later) × (item.position ≡ length seen)
+    × (objects : HeldObjects) × FitsState (state_at origin seen) (get objects) × IsHeldReply c (state_at origin seen) objects item.told
 
--- so do all items, where the seat is alone, and the store tells what it holds, which fits what the seat had seen
-abbrev pub AllTellHeld : (old : LakeSeat) → (held : Option HeldObjects) → List SessionItem → Type 0
-AllTellHeld old held items = (origin : LakeOrigin) (objects : HeldObjects) → old.alone ≡ true → old.origin ≡ Some origin → held ≡ Some objects
-    → FitsState (state_at origin old.seen) (get objects) → All (TellsHeld origin) items
+-- so do all items, of what the seat has seen now, where it is alone, and the store tells what it holds, which fits what the seat had
+-- seen before
+abbrev pub AllTellHeld : (old now : LakeSeat) → (held : Option HeldObjects) → List SessionItem → Type 0
+AllTellHeld old now held items = (origin : LakeOrigin) (objects : HeldObjects) → old.alone ≡ true → old.origin ≡ Some origin
+    → held ≡ Some objects → FitsState (state_at origin old.seen) (get objects) → All (TellsHeld origin now.seen) items
 
 -- ---- how it ended
 
@@ -136,7 +138,7 @@ pub record IsSession (old now : SessionView) (report : SessionReport) : Type 0 w
   pub history : (origin : LakeOrigin) → old.seat.origin ≡ Some origin → ServesAll origin old.seat now.seat items edge
   pub counted : AreCounted old.store items now.store
   pub fitting : KeepsFitting old.seat now.seat old.store.held now.store.held
-  pub tells : AllTellHeld old.seat old.store.held items
+  pub tells : AllTellHeld old.seat now.seat old.store.held items
   pub written : (out : List ℕ) × IsWritten items report.end rest out × Wrote old.written now.written out
   pub ended : IsEnded items report.end
   pub cause : HasCause old now report.end

@@ -1,2 +1,3 @@
 pub mod SendingLemmas
 pub mod ReplyLemmas
+pub mod SavingLemmas

@@ -17,7 +17,8 @@ abbrev pub Saves : (save : Option (List ℕ)) → Option Reply → (status : ℕ
 Saves (Some name) (Some reply) zero before now = IfSome before (λ files. now ≡ Some (insert files name reply.body))
 Saves save reply status before now = now ≡ before
 
--- no file changed but the one that is to be saved
+-- no file changed but the one that is to be saved; and they are told where they were
 abbrev pub MayHaveSaved : (save : Option (List ℕ)) → (before now : Option HeldFiles) → Type 0
 MayHaveSaved None before now = now ≡ before
-MayHaveSaved (Some name) before now = (now ≡ before) ⊎ IfSome before (λ files. IfSome now (KeepsOthers name files))
+MayHaveSaved (Some name) before now =
+    (now ≡ before) ⊎ IfSome before (λ files. (left : HeldFiles) × (now ≡ Some left) × KeepsOthers name files left)

@@ -32,6 +32,12 @@ picked_request false false request r rest is =
     let both : (request, []) ≡ (r, rest) = cc is in
     sym (ap (λ (p : Request × List ℕ). p.0) both)
 
+picked_whole : (long large : Bool) (request r : Request) (rest : List ℕ) → picked long large request ≡ Ok (r, rest)
+    → picked long large request ≡ Ok (request, [])
+picked_whole true large request r rest is = let never : ⊥ = cc is in absurd never
+picked_whole false true request r rest is = let never : ⊥ = cc is in absurd never
+picked_whole false false request r rest is = refl
+
 picked_fault : (long large : Bool) (request : Request) (fault : WireFault) → picked long large request ≡ Err fault
     → (fault ≡ HeadTooLong) ⊎ ((n : ℕ) × (fault ≡ BodyTooLong n))
 picked_fault true large request fault is = let same : HeadTooLong ≡ fault = cc is in inl (sym same)
@@ -42,6 +48,11 @@ picked_fault false false request fault is = let never : ⊥ = cc is in absurd ne
 read_request : (request r : Request) (rest : List ℕ) → read_back request [] ≡ Ok (r, rest) → r ≡ request
 read_request request r rest is =
     picked_request (nat_lt 16384 (length (head_text request))) (nat_lt 67108864 (length request.body)) request r rest is
+
+-- what is read of a request that is read at all
+read_whole : (request r : Request) (rest : List ℕ) → read_back request [] ≡ Ok (r, rest) → read_back request [] ≡ Ok (request, [])
+read_whole request r rest is =
+    picked_whole (nat_lt 16384 (length (head_text request))) (nat_lt 67108864 (length request.body)) request r rest is
 
 read_fault : (request : Request) (fault : WireFault) → read_back request [] ≡ Err fault
     → (fault ≡ HeadTooLong) ⊎ ((n : ℕ) × (fault ≡ BodyTooLong n))
@@ -98,6 +109,10 @@ module _ (request : Request) (text : List ℕ) (closing : IsClosingText request 
   its_request : (item : SessionItem) (items : List SessionItem) (left : List ℕ) → AreFirst (item ∷ items) text left → item.request ≡ request
   its_request item items left first = read_request request item.request first.0 (same_read (Ok (item.request, first.0)) first.1)
 
+  its_bytes : (item : SessionItem) (items : List SessionItem) (left : List ℕ) → AreFirst (item ∷ items) text left
+      → read_back request [] ≡ Ok (request, [])
+  its_bytes item items left first = read_whole request item.request first.0 (same_read (Ok (item.request, first.0)) first.1)
+
   never_open : (item : SessionItem) (items : List SessionItem) (left : List ℕ) → AreFirst (item ∷ items) text left
       → item.request.close ≡ false → ⊥
   never_open item items left first stays =
@@ -140,13 +155,14 @@ module _ (request : Request) (text : List ℕ) (closing : IsClosingText request 
   one : (item : SessionItem) (ended : End) (out : List ℕ) → Course (item ∷ []) ended out → (written : Option (List ℕ)) → IsTold ended out written
       → Exchanges request old now written
   one item end.Closed out course written told = elim told [
-    | inl whole ↦ Answered item (its_request item [] course.left course.first) course.serves
+    | inl whole ↦ Answered item (its_request item [] course.left course.first) (its_bytes item [] course.left course.first) course.serves
         (whole.0 ∙ ap Some (course.written ∙ append-nil (item_text 1 item)))
     | inr part ↦ let never : ⊥ = cc part.1 in absurd never
   ]
   one item end.WriteFault out course written told = elim told [
     | inl whole ↦ absurd (whole.1 refl)
-    | inr part ↦ AnsweredUnwritten item (its_request item [] course.left course.first) course.serves part.0
+    | inr part ↦ AnsweredUnwritten item (its_request item [] course.left course.first) (its_bytes item [] course.left course.first)
+        course.serves part.0
   ]
   one item end.SourceEnded out course written told = absurd (open_item item [] course.left course.first course.is_end.0)
   one item end.ReadFault out course written told = absurd (course.quiet refl)

@@ -1,5 +1,5 @@
 -- What comes of a request that a session of its own serves.
-use Rattle.std.specs.Prelude.{◌≡◌, ◌++◌, ℕ, List, [], ◌∷◌, Option, Some, None, IfSome, Err}
+use Rattle.std.specs.Prelude.{◌≡◌, ◌++◌, ℕ, List, [], ◌∷◌, Option, Some, None, IfSome, Ok, Err}
 use Rattle.http_wire.specs.ReplyText.{reply_text}
 use Rattle.http_wire.specs.declared.fault.WireFault.{WireFault}
 use Rattle.http_wire.specs.declared.message.Reply.{Reply}
@@ -28,20 +28,20 @@ pub record ServesItems (old now : LakeView) (items : List SessionItem) : Type 0 
   pub history : (origin : LakeOrigin) → old.seat.origin ≡ Some origin → ServesAll origin old.seat now.seat items edge
   pub counted : AreCounted old.store items now.store
   pub fitting : KeepsFitting old.seat now.seat old.store.held now.store.held
-  pub tells : AllTellHeld old.seat old.store.held items
+  pub tells : AllTellHeld old.seat now.seat old.store.held items
 
 -- WHAT CAME OF A REQUEST, and what was written back: its reply, of which none is told where no memory was left for it.
 pub data Exchanges (request : Request) (old now : LakeView) (written : Option (List ℕ)) : Type 0 where
-  -- it was answered
-  Answered : (item : SessionItem) → item.request ≡ request → ServesItems old now (item ∷ []) → written ≡ Some (item_text 1 item)
-      → Exchanges request old now written
+  -- it is within the reader's limits, and was answered
+  Answered : (item : SessionItem) → item.request ≡ request → read_back request [] ≡ Ok (request, []) → ServesItems old now (item ∷ [])
+      → written ≡ Some (item_text 1 item) → Exchanges request old now written
   -- its head or its body is above the limit: it isn't served
   Unread : (fault : WireFault) (reply : Reply) → read_back request [] ≡ Err fault → reply_to_fault fault ≡ Some reply → ServesItems old now []
       → written ≡ Some (reply_text reply) → Exchanges request old now written
   -- no memory was left for it
   Starved : ServesItems old now [] → written ≡ Some (reply_text last_reply) → Exchanges request old now written
   -- it was answered, and no memory was left to write the reply
-  AnsweredUnwritten : (item : SessionItem) → item.request ≡ request → ServesItems old now (item ∷ []) → written ≡ None
-      → Exchanges request old now written
+  AnsweredUnwritten : (item : SessionItem) → item.request ≡ request → read_back request [] ≡ Ok (request, [])
+      → ServesItems old now (item ∷ []) → written ≡ None → Exchanges request old now written
   -- it wasn't served, and no memory was left to say why
   UnservedUnwritten : ServesItems old now [] → written ≡ None → Exchanges request old now written
