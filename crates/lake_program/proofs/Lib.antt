@@ -1,12 +1,7 @@
 pub mod BatchLemmas
-pub mod ClosingLemmas
-pub mod EffectsLemmas
-pub mod FeedingLemmas
-pub mod LineBufferLemmas
-pub mod LinesLemmas
-pub mod OutcomeLemmas
-pub mod OutputLemmas
-pub mod ReadingLemmas
+pub mod FreshBodies
+pub mod FreshLemmas
+pub mod MomentLemmas
 pub mod RunLemmas
-pub mod ServingLemmas
+pub mod SeatLemmas
 pub mod StatusLemmas

@@ -3,33 +3,23 @@ use Rattle.std.proofs.Common.{◌≡◌, ◌≢◌, ◌<◌, ◌≤◌, ◌++◌
 use Rattle.std.proofs.Common.{subst, arith}
 use Rattle.std.proofs.lemmas.List.{append-nil}
 use Rattle.lake_base.specs.Outside.{Rose, Quiet}
-use Rattle.batch_session.specs.declared.timing.Timing.{Timing}
-use Rattle.lake_program.specs.declared.batch.End.{End}
-use Rattle.lake_program.specs.declared.batch.End.TheVariants.{Source, TooLong, SourceFailed, SinkFailed}
-use Rattle.lake_program.specs.declared.status.ExitStatus.{ExitStatus}
-use Rattle.lake_program.specs.declared.status.ExitStatus.TheVariants as exit
-use Rattle.lake_program.specs.Words.{timing_of}
-use Rattle.lake_program.specs.Outcome.{Outcome}
-use Rattle.lake_program.specs.Status.{ShowsUsage}
-use Rattle.lake_program.specs.Streams.{Streams, trace_of}
-use Rattle.lake_program.specs.Lines.{batch_lines}
-use Rattle.batch_session.specs.Batch.{first_lake, AreServed}
-use Rattle.lake_program.specs.Outcome.{IsWhole}
+use Rattle.lakectl_session.specs.ServedCommands.{LineEnds}
+use Rattle.batch_lines.specs.Lines.{batch_lines}
+use Rattle.batch_lines.specs.Outcome.{IsWhole}
+use Rattle.batch_lines.specs.ServedLines.{AreServed}
+use Rattle.batch_lines.specs.declared.status.ExitStatus.{ExitStatus}
+use Rattle.batch_lines.specs.declared.status.ExitStatus.TheVariants as exit
+use Rattle.lake_program.specs.declared.words.Timing.{Timing}
+use Rattle.lake_program.specs.Batches.{IsServedBatch}
 use Rattle.lake_program.specs.Run.{IsBatchRun, IsUnbegun, Run}
-use Rattle.lake_program.proofs.ReadingLemmas.{told_then, told_all}
-
-pub sink_cause : (end : End) (a b c : ℕ) (status : ExitStatus) → (a ≤ b) × (end ≡ SinkFailed → Rose a b)
-    → (b ≤ c) × (status ≡ exit.SinkFailed → end ≢ SinkFailed → Rose b c)
-    → (a ≤ c) × (status ≡ exit.SinkFailed → Rose a c)
-sink_cause SinkFailed a b c status read finish = (omega (arith, read.0, finish.0), λ is low. omega (arith, read.0, finish.0, read.1 refl))
-sink_cause Source a b c status read finish = (omega (arith, read.0, finish.0), λ is low. omega (arith, read.0, finish.0, finish.1 is (λ e. cc) low))
-sink_cause TooLong a b c status read finish = (omega (arith, read.0, finish.0), λ is low. omega (arith, read.0, finish.0, finish.1 is (λ e. cc) low))
-sink_cause SourceFailed a b c status read finish = (omega (arith, read.0, finish.0), λ is low. omega (arith, read.0, finish.0, finish.1 is (λ e. cc) low))
+use Rattle.lake_program.specs.Usage.{ShowsUsage}
+use Rattle.lake_program.specs.Views.{BatchView, RunView}
+use Rattle.lake_program.specs.Words.{timing_of}
 
 quiet_rose : (a b : ℕ) → Quiet a b → Rose a b → ⊥
 quiet_rose a b quiet rose = let risen : a < b = rose quiet.counting in omega (arith, quiet.same, risen)
 
-pub has_timing : (found : Option Timing) (timing : Timing) → found ≡ Some timing → IsNone found → ⊥
+has_timing : (found : Option Timing) (timing : Timing) → found ≡ Some timing → IsNone found → ⊥
 has_timing found timing is none = let some : is_some found ≡ true = ap is_some is in cc
 
 for_timing : (found : Option Timing) (timing : Timing) → found ≡ Some timing → (P : Timing → Type 0) → P timing → IfSome found P
@@ -38,54 +28,68 @@ for_timing found timing is P p = subst (λ (o : Option Timing). IfSome o P) (sym
 without_timing : (found : Option Timing) → found ≡ None → (P : Timing → Type 0) → IfSome found P
 without_timing found is P = subst (λ (o : Option Timing). IfSome o P) (sym is) tt
 
-whole_run : (timing : Timing) (input : List ℕ) (before after : Streams) (status : ExitStatus)
-    → (o : Outcome timing 1073741824 65536 (trace_of before) (trace_of after) input after.left status)
-    → IsWhole 1073741824 65536 input after.left o.extent status → IfSome before.written (λ written. IsBatchRun timing input written before after status)
-whole_run timing input before after status o whole =
-    let all : o.extent.served ≡ batch_lines 1073741824 input =
-    sym (append-nil o.extent.served) ∙ ap (λ (l : List (List ℕ)). o.extent.served ++ l) (sym whole.all) ∙ o.lines in
-    told_then before.written (λ written. after.written ≡ Some (written ++ o.extent.out)) _ (λ written wrote. record {
-      effects = o.extent.effects;
-      each = subst (λ (l : List (List ℕ)). AreServed l first_lake o.extent.effects) all o.each;
-      took = o.took;
-      read = whole.read;
-      text = wrote ∙ ap (λ (t : List ℕ). Some (written ++ t)) whole.text;
-      tells = whole.tells;
-    }) o.wrote
+-- what is told whatever an option holds, and what follows where that is told
+told_all : (found : Option (List ℕ)) (P : List ℕ → Type 0) → ((value : List ℕ) → P value) → IfSome found P
+told_all None P all = tt
+told_all (Some value) P all = all value
 
--- what a run without a failed stream came to
-quiet_run : (timing : Timing) (input : List ℕ) (before after : Streams) (status : ExitStatus) → before.left ≡ Some input → (status ≡ exit.SourceFailed → ⊥)
-    → (status ≡ exit.SinkFailed → ⊥)
-    → Outcome timing 1073741824 65536 (trace_of before) (trace_of after) input after.left status
-    → IfSome before.written (λ written. IsBatchRun timing input written before after status ⊎ IsUnbegun before after status)
-quiet_run timing input before after exit.Done told source sink o =
-    told_then before.written _ _ (λ written r. inl r) (whole_run timing input before after exit.Done o o.ended)
-quiet_run timing input before after exit.Refused told source sink o =
-    told_then before.written _ _ (λ written r. inl r) (whole_run timing input before after exit.Refused o o.ended)
-quiet_run timing input before after exit.Usage told source sink o = absurd o.ended
-quiet_run timing input before after exit.SourceFailed told source sink o = absurd (source refl)
-quiet_run timing input before after exit.SinkFailed told source sink o = absurd (sink refl)
-quiet_run timing input before after exit.OutOfMemory told source sink o =
-    told_then before.written _ _ (λ written r. inl r) (whole_run timing input before after exit.OutOfMemory o o.ended)
+pub told_then : (found : Option (List ℕ)) (P Q : List ℕ → Type 0) → ((value : List ℕ) → found ≡ Some value → P value → Q value) → IfSome found P
+    → IfSome found Q
+told_then None P Q f p = tt
+told_then (Some value) P Q f p = f value refl p
 
--- where the source tells what is left of it
-pub told_run : (left : Option (List ℕ)) (P Q : List ℕ → Type 0) → ((input : List ℕ) → left ≡ Some input → P input → Q input) → IfSome left P → IfSome left Q
-told_run None P Q f p = tt
-told_run (Some input) P Q f p = f input refl p
+module _ (timing : Timing) (input : List ℕ) (before after : BatchView) (status : ExitStatus)
+    (o : IsServedBatch timing 1073741824 65536 before after input status) where
+  -- a batch of which all lines were served
+  whole_run : IsWhole 1073741824 65536 input after.left o.outcome.extent status → IfSome before.written (λ written. IsBatchRun timing input written before after status)
+  whole_run whole =
+      let all : o.outcome.extent.served ≡ batch_lines 1073741824 input =
+      sym (append-nil o.outcome.extent.served) ∙ ap (λ (l : List (List ℕ)). o.outcome.extent.served ++ l) (sym whole.all) ∙ o.outcome.lines in
+      told_then before.written (λ written. after.written ≡ Some (written ++ o.outcome.extent.out)) _ (λ written is wrote. record {
+        begin = o.begin;
+        end = o.end;
+        fresh = o.fresh;
+        effects = o.outcome.extent.effects;
+        each = subst (λ (l : List (List ℕ)). AreServed LineEnds l o.begin o.outcome.extent.effects o.end) all o.outcome.each;
+        sound = whole.sound;
+        files = o.files;
+        timed = o.timed;
+        text = wrote ∙ ap (λ (t : List ℕ). Some (written ++ t)) whole.text;
+        read = whole.read;
+        tells = whole.tells;
+        goes = o.goes;
+        bodies = o.bodies;
+        calm = o.calm;
+      }) o.outcome.wrote
+
+-- what a run came to in which nothing failed
+quiet_run : (timing : Timing) (input : List ℕ) (before after : BatchView) (status : ExitStatus) → (status ≡ exit.SourceFailed → ⊥)
+    → (status ≡ exit.SinkFailed → ⊥) → (status ≡ exit.HostFailed → ⊥)
+    → IsServedBatch timing 1073741824 65536 before after input status → IfSome before.written (λ written. IsBatchRun timing input written before after status)
+quiet_run timing input before after exit.Done source sink host o = whole_run timing input before after exit.Done o o.outcome.ended
+quiet_run timing input before after exit.Refused source sink host o = whole_run timing input before after exit.Refused o o.outcome.ended
+quiet_run timing input before after exit.Usage source sink host o = absurd o.outcome.ended
+quiet_run timing input before after exit.SourceFailed source sink host o = absurd (source refl)
+quiet_run timing input before after exit.SinkFailed source sink host o = absurd (sink refl)
+quiet_run timing input before after exit.HostFailed source sink host o = absurd (host refl)
+quiet_run timing input before after exit.OutOfMemory source sink host o = whole_run timing input before after exit.OutOfMemory o o.outcome.ended
 
 -- a batch was served
-pub run_of_batch : (words : List (List ℕ)) (before after : Streams) (timing : Timing) (status : ExitStatus) → timing_of words ≡ Some timing
+pub run_of_batch : (words : List (List ℕ)) (before after : RunView) (timing : Timing) (status : ExitStatus) → timing_of words ≡ Some timing
     → status ≢ exit.Usage
-    → IsUnbegun before after status ⊎ IfSome before.left (λ input. Outcome timing 1073741824 65536 (trace_of before) (trace_of after) input after.left status)
+    → IsUnbegun before after status ⊎ IfSome before.batch.left (λ input. IsServedBatch timing 1073741824 65536 before.batch after.batch input status)
     → (before.source_faults ≤ after.source_faults) × (status ≡ exit.SourceFailed → Rose before.source_faults after.source_faults)
-    → (before.sink_faults ≤ after.sink_faults) × (status ≡ exit.SinkFailed → Rose before.sink_faults after.sink_faults)
-    → before.errors_faults ≤ after.errors_faults → Run words before after status
-run_of_batch words before after timing status is no_usage outcome source sink errors = record {
+    → (before.batch.sink_faults ≤ after.batch.sink_faults) × (status ≡ exit.SinkFailed → Rose before.batch.sink_faults after.batch.sink_faults)
+    → (before.file_faults ≤ after.file_faults) × (status ≡ exit.HostFailed → Rose before.file_faults after.file_faults)
+    → (after.errors ≡ before.errors) × (after.errors_faults ≡ before.errors_faults) → Run words before after status
+run_of_batch words before after timing status is no_usage outcome source sink host errors = record {
   batch = λ quiet. for_timing (timing_of words) timing is _ (⊎_elim
-      (λ unbegun. told_all before.left _ (λ input. told_all before.written _ (λ written. inr unbegun)))
-      (λ some. told_run before.left _ _ (λ input told o. quiet_run timing input before after status told
+      (λ unbegun. told_all before.batch.left _ (λ input. told_all before.batch.written _ (λ written. inr unbegun)))
+      (λ some. told_then before.batch.left _ _ (λ input told o. told_then before.batch.written _ _ (λ written written_is r. inl r)
+      (quiet_run timing input before.batch after.batch status
       (λ failed. quiet_rose before.source_faults after.source_faults quiet.source (source.1 failed))
-      (λ failed. quiet_rose before.sink_faults after.sink_faults quiet.sink (sink.1 failed)) o) some)
+      (λ failed. quiet_rose before.batch.sink_faults after.batch.sink_faults quiet.sink (sink.1 failed))
+      (λ failed. quiet_rose before.file_faults after.file_faults quiet.files (host.1 failed)) o)) some)
       outcome);
   prefix = for_timing (timing_of words) timing is _ outcome;
   usage = λ none. absurd (has_timing (timing_of words) timing is none);
@@ -93,18 +97,22 @@ run_of_batch words before after timing status is no_usage outcome source sink er
   source_failed = source.1;
   sink_failed = λ failed some. sink.1 failed;
   errors_failed = λ failed none. absurd (has_timing (timing_of words) timing is none);
+  usage_alone = λ none. absurd (has_timing (timing_of words) timing is none);
+  batch_alone = λ some. errors;
+  file_failed = host.1;
   source_later = source.0;
   sink_later = sink.0;
-  errors_later = errors;
+  errors_later = let same = errors.1 in omega (arith, same);
+  files_later = host.0;
 }
 
 -- a usage fault was shown
-pub run_of_usage : (words : List (List ℕ)) (before after : Streams) (status : ExitStatus) → timing_of words ≡ None
+pub run_of_usage : (words : List (List ℕ)) (before after : RunView) (status : ExitStatus) → timing_of words ≡ None
     → ShowsUsage before.errors after.errors status
     → (status ≡ exit.Usage) ⊎ ((status ≡ exit.SinkFailed) × Rose before.errors_faults after.errors_faults)
-    → before.source_faults ≤ after.source_faults → before.sink_faults ≤ after.sink_faults → before.errors_faults ≤ after.errors_faults
+    → after ≡ record before { errors = after.errors; errors_faults = after.errors_faults } → before.errors_faults ≤ after.errors_faults
     → Run words before after status
-run_of_usage words before after status is shows ended source sink errors = record {
+run_of_usage words before after status is shows ended same errors = record {
   batch = λ quiet. without_timing (timing_of words) is _;
   prefix = without_timing (timing_of words) is _;
   usage = λ none. shows;
@@ -112,7 +120,11 @@ run_of_usage words before after status is shows ended source sink errors = recor
   source_failed = λ failed. ⊎_elim (λ usage. absurd cc) (λ sink. let other = sink.0 in absurd cc) ended;
   sink_failed = λ failed some. let none = ap is_some is in absurd cc;
   errors_failed = λ failed none. ⊎_elim (λ usage. absurd cc) (λ sink. sink.1) ended;
-  source_later = source;
-  sink_later = sink;
+  usage_alone = λ none. same;
+  batch_alone = λ some. let none = ap is_some is in absurd cc;
+  file_failed = λ failed. ⊎_elim (λ usage. absurd cc) (λ sink. let other = sink.0 in absurd cc) ended;
+  source_later = let count = ap (λ (v : RunView). v.source_faults) same in omega (arith, count);
+  sink_later = let count = ap (λ (v : RunView). v.batch.sink_faults) same in omega (arith, count);
   errors_later = errors;
+  files_later = let count = ap (λ (v : RunView). v.file_faults) same in omega (arith, count);
 }

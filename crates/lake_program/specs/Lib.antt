@@ -1,12 +1,6 @@
-pub mod Feeding
-pub mod ServedLines
-pub mod Lines
-pub mod Outcome
-pub mod Progress
+pub mod Batches
+pub mod FreshLakes
 pub mod Run
-pub mod ServerView
-pub mod Serving
-pub mod SourceReading
-pub mod Status
-pub mod Streams
+pub mod Usage
+pub mod Views
 pub mod Words

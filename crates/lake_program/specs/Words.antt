@@ -4,10 +4,10 @@ use Rattle.std.specs.Prelude.{List, [], ◌∷◌, length, Option, Some, None}
 use Rattle.std.specs.Char.{is_ascii_digit}
 use Rattle.std.specs.List.{list_all}
 use Rattle.std.specs.Str.{bytes_eq}
-use Rattle.batch_session.specs.declared.timing.Timing.{Timing}
-use Rattle.batch_session.specs.declared.timing.Timing.TheVariants.{Clock, At}
+use Rattle.lake_program.specs.declared.words.Timing.{Timing}
+use Rattle.lake_program.specs.declared.words.Timing.TheVariants.{Clock, At}
 
--- the number that stands behind n in decimal digits
+-- the number whose decimal digits are those of n and then these
 abbrev pub number_after : ℕ → List ℕ → ℕ
 number_after n [] = n
 number_after n (digit ∷ digits) = number_after (10 * n + (digit - 48)) digits

@@ -77,24 +77,24 @@ impl<W: Write + Drop> Sink for StdSink<W> {
 
 /// The system's clock. A moment before 1970, or one that can't be told, is 0.
 #[derive(Drop)]
-pub struct SystemClock<R: std::time::Clock + Drop> {
-    rt: R,
+pub struct SystemClock<'a, R: std::time::Clock> {
+    rt: &'a R,
 }
 
-impl<R: std::time::Clock + Drop> SystemClock<R> {
+impl<'a, R: std::time::Clock> SystemClock<'a, R> {
     /// The clock of a runtime.
-    pub fn new(rt: R) -> SystemClock<R> {
+    pub fn new(rt: &'a R) -> SystemClock<'a, R> {
         SystemClock { rt }
     }
 }
 
-impl<R: std::time::Clock + Drop> Clock for SystemClock<R> {
+impl<'a, R: std::time::Clock> Clock for SystemClock<'a, R> {
     ghost use Rattle.std.specs.Prelude.{None};
 
     ghost readings = { λ _. None };
 
     fn now(&mut self) -> u64 {
-        let Ok(time) = SystemTime::now(&self.rt) else {
+        let Ok(time) = SystemTime::now(self.rt) else {
             return 0;
         };
         match time.duration_since(SystemTime::UNIX_EPOCH) {

@@ -1,75 +1,94 @@
 //! The program as one call.
-ghost use Rattle.std.specs.Prelude.{◌≡◌, ◌≢◌, ◌≤◌, ◌<◌, ◌^◌, ◌⊎◌, IfSome, IsSome, IsNone, IfOk, length};
+ghost use Rattle.std.specs.Prelude.{◌≡◌, ◌≤◌, ◌⊎◌, IsSome, IsNone};
 ghost use Rattle.lake_base.specs.Outside.{Rose};
 ghost use Rattle.lake_base.specs.declared.limits.TheConstants.{PATH_LIMIT};
 ghost use Rattle.lake_model.specs.declared.history.TheConstants.{HISTORY_LIMIT};
-ghost use Rattle.batch_session.specs.declared.limits.TheConstants.{LINE_LIMIT};
+ghost use Rattle.lakectl_verbs.specs.declared.line.TheConstants.{LINE_LIMIT};
 ghost use Rattle.lake_program.specs.Words.{timing_of};
-ghost use Rattle.lake_program.specs.Outcome.{Outcome};
-ghost use Rattle.lake_program.specs.Status.{ShowsUsage};
+ghost use Rattle.lake_program.specs.Usage.{ShowsUsage};
 ghost use Rattle.lake_program.specs.Run.{Runs};
 
-use crate::batch::Batch;
-use crate::host::Host;
+use crate::batch::serve_batch;
 use crate::limits::BATCH_LIMIT;
-use crate::status::ExitStatus;
+use crate::status::number_of;
 use crate::words::batch_timing;
-use batch_session::text::USAGE;
-use batch_session::timing::Timing;
+use batch_lines::ExitStatus;
 use http_wire::write::write_all;
-use lake_base::{Clock, NoMemory, Sink, Source, Text};
+use lake_base::{Clock, Sink, Source, Text};
+use lakectl_commands::Files;
 use std::alloc::Global;
+use std::sync::Wait;
 
-// How many bytes are read at once.
-const ROOM: usize = 65_536;
+// What is said of words that are none of the program's.
+const USAGE: &[u8] = b"Error: usage\n";
 
-/// Runs the program with these words: `batch`, or `batch --at N`. Each line of the source is a command;
-/// what it shows goes to the sink. All other words are a usage fault, which is shown on `errors`.
+/// Runs the program with these words: `batch`, or `batch --at N`. Each line of the source is a command of `lakectl`,
+/// served on a fresh lake in memory; what it shows goes to the sink. All other words are a usage fault, which is shown
+/// on `errors`. It waits.
 ///
-/// The answer is the number of the run's `ExitStatus`.
-pub fn run<R, S: Source, W: Sink, E: Sink, C: Clock, H: Host>(
-    _rt: &R,
+/// The answer is the number of the run's `ExitStatus`, and the clock and the files, which are handed back.
+pub fn run<R: Wait, S: Source, O: Sink, E: Sink, C: Clock, F: Files>(
+    rt: &R,
     alloc: Global,
     words: &[Text],
     source: &mut S,
-    sink: &mut W,
+    sink: &mut O,
     errors: &mut E,
-    clock: &mut C,
-    _host: &mut H,
-) -> u8
+    clock: C,
+    files: F,
+) -> (u8, C, F)
     ensures run { Runs words.now
         (record {
-          left = S.left source.old;
-          written = W.written sink.old;
+          batch = record {
+            left = S.left source.old;
+            written = O.written sink.old;
+            sink_faults = O.faults sink.old;
+            readings = C.readings clock;
+            files = F.files files;
+          };
           errors = E.written errors.old;
-          readings = C.readings clock.old;
           source_faults = S.faults source.old;
-          sink_faults = W.faults sink.old;
           errors_faults = E.faults errors.old;
+          file_faults = F.faults files;
         })
         (record {
-          left = S.left source.new;
-          written = W.written sink.new;
+          batch = record {
+            left = S.left source.new;
+            written = O.written sink.new;
+            sink_faults = O.faults sink.new;
+            readings = C.readings result.1;
+            files = F.files result.2;
+          };
           errors = E.written errors.new;
-          readings = C.readings clock.new;
           source_faults = S.faults source.new;
-          sink_faults = W.faults sink.new;
           errors_faults = E.faults errors.new;
+          file_faults = F.faults result.2;
         })
-        result }
+        result.0 }
 
     // A usage fault touches `errors` alone, and a batch everything but that.
-    ensures usage { IsNone (timing_of words.now)
-        → (sink.new ≡ sink.old) × (source.new ≡ source.old) × (clock.new ≡ clock.old) }
+    ensures usage { IsNone (timing_of words.now) → (sink.new ≡ sink.old) × (source.new ≡ source.old)
+        × (result.1 ≡ clock) × (result.2 ≡ files) }
     ensures no_errors { IsSome (timing_of words.now) → errors.new ≡ errors.old }
-    ensures host { _host.new ≡ _host.old }
 
     ensures limits { (BATCH_LIMIT ≡ 1073741824) × (LINE_LIMIT ≡ 65536)
         × (HISTORY_LIMIT ≡ 4194304) × (PATH_LIMIT ≡ 1024) }
 {
     match batch_timing(words) {
-        Some(timing) => serve_batch(alloc, BATCH_LIMIT, timing, source, sink, clock).number(),
-        None => show_usage(errors).number(),
+        Some(timing) => {
+            let (status, clock, files) = serve_batch(
+                rt,
+                alloc,
+                BATCH_LIMIT,
+                timing,
+                source,
+                sink,
+                clock,
+                files,
+            );
+            (number_of(status), clock, files)
+        }
+        None => (number_of(show_usage(errors)), clock, files),
     }
 }
 
@@ -84,43 +103,4 @@ fn show_usage<E: Sink>(errors: &mut E) -> ExitStatus
         Ok(()) => ExitStatus::Usage,
         Err(_) => ExitStatus::SinkFailed,
     }
-}
-
-/// Serves the lines of a source that end in the first `limit` bytes of it, on a fresh lake in memory.
-pub fn serve_batch<S: Source, W: Sink, C: Clock>(
-    alloc: Global,
-    limit: u64,
-    timing: Timing,
-    source: &mut S,
-    sink: &mut W,
-    clock: &mut C,
-) -> ExitStatus
-    requires { limit < 2 ^ 63 }
-    ensures outcome { ((result ≡ ExitStatus.OutOfMemory) × (source.new ≡ source.old) × (sink.new ≡ sink.old)
-        × (clock.new ≡ clock.old)) ⊎ IfSome (S.left source.old) (λ input.
-        Outcome timing limit 65536
-        (record { readings = C.readings clock.old; written = W.written sink.old })
-        (record { readings = C.readings clock.new; written = W.written sink.new })
-        input (S.left source.new) result) }
-    ensures source { (S.faults source.old ≤ S.faults source.new)
-        × (result ≡ ExitStatus.SourceFailed → Rose (S.faults source.old) (S.faults source.new)) }
-    ensures sink { (W.faults sink.old ≤ W.faults sink.new)
-        × (result ≡ ExitStatus.SinkFailed → Rose (W.faults sink.old) (W.faults sink.new)) }
-    ensures statuses { result ≢ ExitStatus.Usage }
-{
-    let Ok(mut batch) = Batch::new(alloc, timing) else {
-        return ExitStatus::OutOfMemory;
-    };
-    let Ok(mut room) = room_of(alloc, ROOM) else {
-        return ExitStatus::OutOfMemory;
-    };
-    let end = batch.read(limit, source, clock, sink, room.as_mut_slice());
-    batch.finish(end, clock, sink)
-}
-
-// Room for so many bytes.
-fn room_of(alloc: Global, len: usize) -> Result<Vec<u8>, NoMemory>
-    ensures { IfOk result (λ room. length room.items ≡ len) }
-{
-    Ok(vec![in alloc; 0u8; len]?)
 }

@@ -4,8 +4,16 @@ ghost use Rattle.std.specs.Char.{is_ascii_digit};
 ghost use Rattle.std.specs.List.{list_all};
 ghost use Rattle.lake_program.specs.Words.{timing_of, is_number, number_after};
 
-use batch_session::timing::Timing;
 use lake_base::Text;
+
+/// When the requests of a batch are made.
+#[derive(Clone, Copy, Debug, PartialEq, Eq)]
+pub enum Timing {
+    /// Each at the clock's next reading.
+    Clock,
+    /// All at this moment, in seconds since 1970.
+    At(u64),
+}
 
 /// Reads the words `batch` and `batch --at N`, where N has 1 to 19 decimal digits. None where the words
 /// are none of these. It takes no memory.

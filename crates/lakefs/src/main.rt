@@ -1,13 +1,14 @@
 //! The program `lakefs`: a lake of objects with Git-like branches, driven by lakectl's commands.
 //!
-//! What it does is `lake_program::run::run`; here are only the real streams, clock and words.
+//! What it does is `lake_program::run::run`; here are only the real streams, clock, files and words.
 #![tactic(auto)]
 
+use batch_lines::ExitStatus;
 use lake_base::{NoMemory, Text};
 use lake_program::adapters::{StdSink, StdSource, SystemClock};
-use lake_program::host::NoHost;
+use lake_program::files::StdFiles;
 use lake_program::run::run;
-use lake_program::status::ExitStatus;
+use lake_program::status::number_of;
 use std::env;
 use std::io::ErrorKind;
 use std::process::ExitCode;
@@ -29,21 +30,21 @@ fn words<R: Env + AllocGlobal>(rt: &R) -> Result<Vec<Text>, NoMemory> {
 
 fn main(rt: HostRuntime) -> ExitCode {
     let Ok(words) = words(&rt) else {
-        return ExitCode::from(ExitStatus::OutOfMemory.number());
+        return ExitCode::from(number_of(ExitStatus::OutOfMemory));
     };
+    let alloc = rt.alloc();
     let mut source = StdSource::new(rt.stdin());
     let mut sink = StdSink::new(rt.stdout());
     let mut errors = StdSink::new(rt.stderr());
-    let mut clock = SystemClock::new(rt);
-    let status = run(
-        &(),
-        rt.alloc(),
+    let (status, _, _) = run(
+        &rt,
+        alloc,
         words.as_slice(),
         &mut source,
         &mut sink,
         &mut errors,
-        &mut clock,
-        &mut NoHost,
+        SystemClock::new(&rt),
+        StdFiles::new(&rt, alloc),
     );
     ExitCode::from(status)
 }

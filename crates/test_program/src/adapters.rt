@@ -1,7 +1,9 @@
 //! Real files and the real clock.
 
-use lake_base::{Clock, Sink, Source};
+use lake_base::{Clock, Sink, Source, Text, Trouble};
 use lake_program::adapters::{StdSink, StdSource, SystemClock};
+use lake_program::files::StdFiles;
+use lakectl_commands::Files;
 use std::fs;
 use std::test::Fail;
 
@@ -25,4 +27,22 @@ fn the_clock_is_after_2020_and_goes_on(rt: HostRuntime) {
     let second = clock.now();
     assert!(rt; first > 1_577_836_800);
     assert!(rt; first <= second);
+}
+
+#[test]
+fn a_named_file_is_written_and_read(rt: HostRuntime) -> Result<(), Fail> {
+    let alloc = rt.alloc();
+    let mut files = StdFiles::new(&rt, alloc);
+    let name = Text::of(String::from_str(alloc, "named.txt")?);
+    let other = Text::of(String::from_str(alloc, "none.txt")?);
+    let folder = Text::of(String::from_str(alloc, "none/named.txt")?);
+    assert_eq!(rt; files.write_file(&name, b"bytes"), Ok(()));
+    assert_eq!(rt; files.write_file(&name, b"less"), Ok(()));
+    assert_eq!(rt; files.write_file(&folder, b"bytes"), Err(Trouble::Failed));
+    let read = files.read_file(&name).ok().ok_or("it isn't read")?;
+    let bytes = read.ok_or("it isn't there")?;
+    assert_eq!(rt; bytes.as_slice(), b"less".as_slice());
+    let read = files.read_file(&other).ok().ok_or("it isn't read")?;
+    assert!(rt; read.is_none());
+    Ok(())
 }

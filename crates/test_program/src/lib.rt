@@ -3,8 +3,8 @@
 //! turn.
 //!
 //! - `streams`: a run of the program over streams in memory, and what it comes to.
-//! - `batches`, `failures`, `words`: tables of such runs. `limits`: how long lines, texts and batches may be.
-//! - `adapters`: the real streams and the real clock.
+//! - `batches`, `commands`, `failures`, `words`: tables of such runs. `limits`: how long lines, texts and batches may be.
+//! - `files`: files in memory. `adapters`: the real streams, files and clock.
 //! - `objects`: a block store, and one that fails where it is told to.
 //! - `turns`: a turn over a log. `small_lake`: a turn over a small lake, the form to copy for a value under a turn; it
 //!   is proved without its tests too, since its definitions cite its types.
@@ -15,7 +15,11 @@ mod adapters;
 #[cfg(test)]
 mod batches;
 #[cfg(test)]
+mod commands;
+#[cfg(test)]
 mod failures;
+#[cfg(test)]
+mod files;
 #[cfg(test)]
 mod limits;
 #[cfg(test)]

@@ -1,13 +1,16 @@
 //! How long a line, a text that is held back and a batch may be.
 ghost use Rattle.std.specs.Prelude.{◌<◌};
 
+use crate::files::MemoryFiles;
 use crate::streams::{DEMO, DEMO_PRINTS, SURE, Streams, run_batch, sink_of, source_of};
-use batch_session::timing::Timing;
+use batch_lines::output::PendingOutput;
 use lake_base::FixedClock;
-use lake_program::output::PendingOutput;
-use lake_program::run::serve_batch;
+use lake_program::batch::serve_batch;
+use lake_program::status::number_of;
+use lake_program::words::Timing;
 use std::alloc::Global;
 use std::process::Abort;
+use std::sync::Wait;
 use std::test::Fail;
 
 // A text, so many bytes after it, and another text.
@@ -33,17 +36,17 @@ static NO_PATH: &[u8] = b"Error: path not found: b [404]\n";
 
 static NEXT_NO_PATH: &[u8] = b"Error: path not found: c [404]\n";
 
-static NOT_BUILT: &[u8] = b"Error: not built yet\n";
+static BAD_LINE: &[u8] = b"Error: bad line\n";
 
 // A line of 33 bytes and so many spaces prints this, and the next line is served.
 fn check_long_line(
-    rt: &impl Abort,
+    rt: &(impl Abort + Wait),
     alloc: Global,
     spaces: usize,
     prints: &[u8],
 ) -> Result<(), Fail> {
     let line = padded(alloc, CAT, b' ', spaces, NEXT_CAT)?;
-    let came = run_batch(alloc, line.as_slice())?;
+    let came = run_batch(rt, alloc, line.as_slice())?;
     assert!(rt;
         came.out.as_slice().starts_with(prints),
         "after {spaces} spaces"
@@ -58,14 +61,14 @@ fn check_long_line(
 #[test]
 fn a_long_line_is_refused(rt: HostRuntime) -> Result<(), Fail> {
     check_long_line(&rt, rt.alloc(), 65_503, NO_PATH)?;
-    check_long_line(&rt, rt.alloc(), 65_504, NOT_BUILT)?;
-    check_long_line(&rt, rt.alloc(), 135_503, NOT_BUILT)
+    check_long_line(&rt, rt.alloc(), 65_504, BAD_LINE)?;
+    check_long_line(&rt, rt.alloc(), 135_503, BAD_LINE)
 }
 
 #[test]
 fn a_long_comment_is_passed_over(rt: HostRuntime) -> Result<(), Fail> {
     let line = padded(rt.alloc(), b"#", b'x', 70_000, b"")?;
-    let came = run_batch(rt.alloc(), line.as_slice())?;
+    let came = run_batch(&rt, rt.alloc(), line.as_slice())?;
     assert_eq!(rt; came.out.len(), 0);
     assert_eq!(rt; came.status, 0);
     Ok(())
@@ -108,7 +111,7 @@ Error: batch too long\n";
 
 // Under this limit the demonstration prints this and has this status.
 fn check_limit(
-    rt: &impl Abort,
+    rt: &(impl Abort + Wait),
     alloc: Global,
     limit: u64,
     status: u8,
@@ -118,16 +121,17 @@ fn check_limit(
 {
     let mut source = source_of(alloc, DEMO, &SMALL_PIECES)?;
     let mut sink = sink_of(alloc, &SMALL_PIECES)?;
-    let mut clock = FixedClock::new(0);
-    let found = serve_batch(
+    let (found, _, _) = serve_batch(
+        rt,
         alloc,
         limit,
         Timing::Clock,
         &mut source,
         &mut sink,
-        &mut clock,
+        FixedClock::new(0),
+        MemoryFiles::new(alloc),
     );
-    assert_eq!(rt; found.number(), status, "at {limit}");
+    assert_eq!(rt; number_of(found), status, "at {limit}");
     assert_eq!(rt; sink.written(), prints, "at {limit}");
     Ok(())
 }

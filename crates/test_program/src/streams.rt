@@ -1,10 +1,11 @@
 //! A run of the program over streams in memory, and what it comes to.
 
+use crate::files::MemoryFiles;
 use lake_base::{MemorySink, MemorySource, ScriptClock, Text};
-use lake_program::host::NoHost;
 use lake_program::run::run;
 use std::alloc::Global;
 use std::process::Abort;
+use std::sync::Wait;
 use std::test::Fail;
 
 /// The demonstration: an upload, and what it uploaded.
@@ -65,8 +66,9 @@ pub(crate) fn sink_of(alloc: Global, streams: &Streams) -> Result<MemorySink, Fa
     Ok(MemorySink::new(alloc, streams.piece.max(1), fails))
 }
 
-/// What a run of the program with these words over an input comes to.
+/// What a run of the program with these words over an input comes to, with no files at first.
 pub(crate) fn run_over(
+    rt: &impl Wait,
     alloc: Global,
     words: &[&str],
     input: &[u8],
@@ -76,15 +78,15 @@ pub(crate) fn run_over(
     let mut source = source_of(alloc, input, streams)?;
     let mut sink = sink_of(alloc, streams)?;
     let mut errors = sink_of(alloc, streams)?;
-    let status = run(
-        &(),
+    let (status, _, _) = run(
+        rt,
         alloc,
         texts.as_slice(),
         &mut source,
         &mut sink,
         &mut errors,
-        &mut ScriptClock::new(Vec::new(alloc)),
-        &mut NoHost,
+        ScriptClock::new(Vec::new(alloc)),
+        MemoryFiles::new(alloc),
     );
     Ok(Came {
         status,
@@ -96,8 +98,8 @@ pub(crate) fn run_over(
 static AT_ZERO: [&str; 3] = ["batch", "--at", "0"];
 
 /// What a batch at moment 0 comes to.
-pub(crate) fn run_batch(alloc: Global, input: &[u8]) -> Result<Came, Fail> {
-    run_over(alloc, &AT_ZERO, input, &SURE)
+pub(crate) fn run_batch(rt: &impl Wait, alloc: Global, input: &[u8]) -> Result<Came, Fail> {
+    run_over(rt, alloc, &AT_ZERO, input, &SURE)
 }
 
 /// Checks that a run came to a status and these bytes of both sinks.

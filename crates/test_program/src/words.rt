@@ -20,7 +20,7 @@ static USAGE: &[u8] = b"Error: usage\n";
 #[test]
 fn other_words_are_a_usage_fault(rt: HostRuntime) -> Result<(), Fail> {
     for words in &OTHER_WORDS {
-        let came = run_over(rt.alloc(), words, DEMO, &SURE)?;
+        let came = run_over(&rt, rt.alloc(), words, DEMO, &SURE)?;
         check_came(&rt, &came, 2, b"", USAGE);
     }
     Ok(())
@@ -40,9 +40,9 @@ static SECOND_WRITE: Streams = Streams {
 
 #[test]
 fn words_at_their_edges(rt: HostRuntime) -> Result<(), Fail> {
-    let most = run_over(rt.alloc(), &LATEST, DEMO, &SURE)?;
+    let most = run_over(&rt, rt.alloc(), &LATEST, DEMO, &SURE)?;
     check_came(&rt, &most, 0, DEMO_PRINTS, b"");
-    let cut = run_over(rt.alloc(), &HELP, DEMO, &SECOND_WRITE)?;
+    let cut = run_over(&rt, rt.alloc(), &HELP, DEMO, &SECOND_WRITE)?;
     check_came(&rt, &cut, 4, b"", USAGE_FRONT);
     Ok(())
 }
