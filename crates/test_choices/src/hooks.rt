@@ -1,5 +1,4 @@
-//! Hooks and protection that are read and kept, and patterns that would cost a walk much. The stored vectors of
-//! `check_vectors` have more of them, and what they decide.
+//! Hooks and protection that are read and kept, and patterns that would cost a walk much.
 use crate::settings::fault_told;
 use hook_rules::pattern::matches;
 use hook_rules::{read_hooks, read_protection, write_hooks, write_protection};

@@ -1,4 +1,4 @@
-//! The calls on a branch's record and its tokens. The vectors of `check_vectors` have scripts of many.
+//! The calls on a branch's record and its tokens.
 use branch_record::{BranchRecord, ResetWhat, Tokens, are_distinct};
 use lake_base::Digest;
 use lake_values::Change;
