@@ -1,4 +1,3 @@
-pub mod EffectLemmas
 pub mod RefusedLemmas
 pub mod CourseLemmas
 pub mod RuleLemmas
@@ -7,5 +6,4 @@ pub mod AlikeLemmas
 pub mod DeterminedLemmas
 pub mod ShownLemmas
 pub mod OneSeatLemmas
-pub mod LineLemmas
 pub mod NothingMetLemmas

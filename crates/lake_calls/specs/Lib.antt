@@ -12,8 +12,3 @@ pub mod LakeRules
 pub mod NoClashes
 pub mod ServedAlone
 pub mod StateCodes
-pub mod LineCalls
-pub mod LineCourses
-pub mod LineReplies
-pub mod LineEffects
-pub mod LineAlone

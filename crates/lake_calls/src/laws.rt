@@ -1,18 +1,15 @@
 //! What holds of the replies to calls, and of what calls add.
-ghost use Rattle.std.specs.Prelude.{◌≡◌, Option, List, [], Bool, ℕ, All, true, drop, length};
+ghost use Rattle.std.specs.Prelude.{◌≡◌, List, [], Bool, ℕ, All, drop, length};
 ghost use Rattle.lake_model.specs.declared.history.HistoryEntry.{HistoryEntry};
 ghost use Rattle.lake_model.specs.State.{State};
-ghost use Rattle.lake_model.specs.History.{replay};
 ghost use Rattle.call_placement.specs.Rules.{Caller};
 ghost use Rattle.call_placement.specs.Placed.{ArePlaced, Lawful, TellsDone, TellsFault};
 ghost use Rattle.call_placement.specs.Sessions.{Item, AreServed};
 ghost use Rattle.call_placement.specs.Alone.{GoesAlone, IsDetermined};
-ghost use Rattle.lake_calls.specs.Calls.{UploadCall};
-ghost use Rattle.lake_calls.specs.CallExceptions.{CallMet, FindsNumber, HasMissedEnough, HasTriedEnough, IsException};
+ghost use Rattle.lake_calls.specs.CallExceptions.{CallMet, HasMissedEnough, HasTriedEnough, IsException};
 ghost use Rattle.lake_calls.specs.Courses.{CallPoint};
 ghost use Rattle.lake_calls.specs.DoneReplies.{MakesNoCommit};
 ghost use Rattle.lake_calls.specs.LakeRules.{lake_rules};
-ghost use Rattle.lake_calls.specs.LineAlone.{IsLineTold, line_read, line_request, object_request, upload_request};
 ghost use Rattle.lake_calls.specs.NoClashes.{AreOneButForClash, NothingClashes};
 ghost use Rattle.lake_calls.specs.NothingMet.{GaveFew, MeetsNothing};
 ghost use Rattle.lake_calls.specs.OutsideCounts.{AreMet, AreStill, CountedNothing, OutsideCounts};
@@ -21,10 +18,6 @@ ghost use Rattle.lake_calls.specs.ServedAlone.{IsServedAlone};
 ghost use Rattle.lake_calls.specs.declared.call.Call.{Call};
 ghost use Rattle.lake_calls.specs.declared.objects.ReadCall.{ReadCall};
 ghost use Rattle.lake_calls.specs.declared.reply.CallReply.{CallReply};
-ghost use Rattle.lake_calls.specs.LineCalls.{Request, ObjectCall, Object, Upload};
-ghost use Rattle.lake_calls.specs.LineCourses.{course_entries};
-ghost use Rattle.lake_calls.specs.LineEffects.{nothing, effect};
-ghost use Rattle.lake_calls.specs.LineReplies.{is_done, reply};
 
 use crate::rules::LakeCalls;
 use call_placement::laws::law_of_placement;
@@ -80,31 +73,6 @@ pub fn law_of_one_value_with_commits()
         → IsServedAlone opened by before (record { asked = Asks call; moment = moment }) met told added
         → IsServedAlone opened by before (record { asked = Asks call; moment = moment }) met other more
         → (told ≡ other) × (added ≡ more) }
-{}
-
-/// The one-seat course of an upload, and of a call that reads an object, is what a batch's line shows and leaves, where
-/// the bytes that are held are those that the call met.
-pub fn law_of_lines()
-    ensures upload { (opened : State) (by : Caller) (seen : List HistoryEntry) (u : UploadCall) (moment : ℕ)
-        (met : CallMet) (told : CallReply) (added : List HistoryEntry) (held : ℕ → Option (List ℕ))
-        → GoesAlone lake_rules opened by seen (upload_request u moment) met told added
-        → IsLineTold (Upload u) (reply (replay opened seen) held (line_request by (Upload u) moment)) told
-        × (added ≡ (effect (replay opened seen) (line_request by (Upload u) moment)).entries) }
-    ensures object { (opened : State) (by : Caller) (seen : List HistoryEntry) (o : ObjectCall) (moment : ℕ)
-        (met : CallMet) (told : CallReply) (added : List HistoryEntry) (held : ℕ → Option (List ℕ))
-        → ((number : ℕ) → FindsNumber (line_read o) (replay opened seen) number → held number ≡ met.bytes)
-        → GoesAlone lake_rules opened by seen (object_request o moment) met told added
-        → IsLineTold (Object o) (reply (replay opened seen) held (line_request by (Object o) moment)) told
-        × (added ≡ (effect (replay opened seen) (line_request by (Object o) moment)).entries) }
-{}
-
-/// A call that was done added the entries of its course, all of them and no other. To read an object adds nothing.
-pub fn laws_of_effects()
-    ensures done { (state : State) (held : ℕ → Option (List ℕ)) (request : Request)
-        → is_done (reply state held request) ≡ true
-        → (effect state request).entries ≡ course_entries request state.next_number }
-    ensures object { (state : State) (request : Request) (o : ObjectCall)
-        → request.call ≡ Object o → effect state request ≡ nothing }
 {}
 
 /// A call that met nothing has no exception, where other seats gave fewer than ten versions that its last step is
