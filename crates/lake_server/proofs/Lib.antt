@@ -1,1 +1,2 @@
 pub mod ServedConnectionsLemmas
+pub mod WorkersLemmas

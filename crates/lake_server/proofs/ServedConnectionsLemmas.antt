@@ -1,5 +1,5 @@
 -- Connections that were served one after the other, and what a worker shows then.
-use Rattle.std.proofs.Common.{◌≡◌, ◌⊎◌, inl, inr, ◌+◌, ◌<◌, ◌≤◌, ◌≢◌, ℕ, Bool, true, false, List, [], ◌∷◌, ◌++◌, map, min, length, take, All}
+use Rattle.std.proofs.Common.{◌≡◌, ◌⊎◌, inl, inr, ◌+◌, ◌<◌, ◌≤◌, ◌≢◌, ℕ, true, false, List, [], ◌∷◌, ◌++◌, map, min, length, take, All}
 use Rattle.std.proofs.Common.{Option, Some, None, IfSome, MatchBool, Result, Ok, Err, is_err, true≢false, refl, sym, ap, subst, ◌∙◌, append_assoc, append-nil, arith, length-append}
 use Rattle.std.proofs.Math.Seq.{take-append_seam}
 use Rattle.std.proofs.lemmas.List.Elements.{All-append}
@@ -8,7 +8,6 @@ use Rattle.lake_base.specs.Outside.{Rose, last_count}
 use Rattle.lake_model.specs.declared.history.HistoryEntry.{HistoryEntry}
 use Rattle.lake_model.specs.History.{IsLegal}
 use Rattle.lake_model.specs.Soundness.{IsSound}
-use Rattle.lake_core.specs.declared.standing.LakeOrigin.{LakeOrigin}
 use Rattle.shared_lake.specs.SeatSteps.{LakeSeat}
 use Rattle.turn_lock.specs.Seats.{seat_after}
 use Rattle.flow_steps.specs.FlowSeats.{opened_state}
@@ -79,7 +78,7 @@ fronts_of old now (one ∷ others) chain =
 -- ---- a worker
 
 -- what is told of these, and one more
-told_more : {A X : Type 0} (f : X → A) (old now next : Option (List A)) (xs : List X) (x : X)
+pub told_more : {A X : Type 0} (f : X → A) (old now next : Option (List A)) (xs : List X) (x : X)
     → IfSome old (λ before. now ≡ Some (before ++ map f xs)) → IfSome now (λ before. next ≡ Some (before ++ f x ∷ []))
     → IfSome old (λ before. next ≡ Some (before ++ map f (xs ++ x ∷ [])))
 told_more f None now next xs x told one = tt
@@ -87,7 +86,7 @@ told_more {A} f (Some before) now next xs x told one =
     let here : next ≡ Some ((before ++ map f xs) ++ f x ∷ []) = subst (λ n. IfSome n (λ b. next ≡ Some (b ++ f x ∷ []))) told one in
     here ∙ ap Some (append_assoc before (map f xs) (f x ∷ []) ∙ ap (λ m. before ++ m) (sym (map-append f xs (x ∷ []))))
 
-told_none : {A X : Type 0} (f : X → A) (old : Option (List A)) → IfSome old (λ before. old ≡ Some (before ++ map f []))
+pub told_none : {A X : Type 0} (f : X → A) (old : Option (List A)) → IfSome old (λ before. old ≡ Some (before ++ map f []))
 told_none f None = tt
 told_none f (Some before) = sym (ap Some (append-nil before))
 

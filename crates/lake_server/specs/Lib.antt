@@ -1,4 +1,5 @@
 pub mod Connections
 pub mod ServedConnections
 pub mod WorkerSteps
+pub mod Workers
 pub mod MemoryListeners

@@ -1,7 +1,7 @@
-//! A worker of a server: it accepts connections and serves each by a session.
+//! Workers of a server: each accepts connections and serves each of them by a session.
 //!
 //! - `listen`: the trait of what hands out connections; `memory`: one in memory.
-//! - `worker`: a worker serves one connection after the other.
+//! - `worker`: a worker serves one connection after the other; `workers`: several do, a thread each.
 //! - `threads`: workers and listeners may go from thread to thread.
 //!
 //! The promise to the layer above: each connection that a worker's listener hands out is served by one session of the
@@ -12,7 +12,10 @@ mod listen;
 mod memory;
 pub mod threads;
 mod worker;
+mod workers;
 
+pub use lake_session::SessionReport;
 pub use listen::Listen;
 pub use memory::{MemoryListener, ServedConnection};
 pub use worker::{Worker, serve_connections};
+pub use workers::serve_workers;

@@ -10,10 +10,10 @@ use lake_session::SessionReport;
 /// contracts which they were. It counts its faults.
 pub trait Listen: Drop {
     /// Where the requests of a connection come from.
-    type In: Source;
+    type In: Source + Send;
 
     /// Where its replies go.
-    type Out: Sink;
+    type Out: Sink + Send;
 
     /// The connections that it handed out, in order, as they were then, where it tells them.
     ghost accepted: { Self → Option (List Streams) };

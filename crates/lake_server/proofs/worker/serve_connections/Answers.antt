@@ -1,6 +1,5 @@
-use Rattle.std.proofs.Common.{◌≡◌, ◌≢◌, ◌≤◌, ◌<◌, [], ◌∷◌, ◌++◌, length, IfSome, Some, MatchBool, subst, ◌∙◌, sym}
-use Rattle.lake_server.specs.ServedConnections.{PartViews, WorkerView, worker_view}
-use Rattle.lake_server.specs.WorkerSteps.{ServesOrFails}
+use Rattle.std.proofs.Common.{[], ◌∷◌, ◌++◌, ◌∙◌, sym}
+use Rattle.lake_server.specs.ServedConnections.{PartViews, worker_view}
 use Rattle.lake_server.proofs.ServedConnectionsLemmas.{begins, ends_at_number, ends_failed, goes_all, has_more_now, one_more, serves_at, fails_at}
 use Rattle.lake_server.proofs.worker.serve_connections.Goals as goal
 
@@ -43,8 +42,13 @@ serve_one-requires g c =
       returned = g.L.Listen.returned;
       faults = g.L.Listen.faults;
     } in
-    let way = c.loop.invariant in
-    (goes_all (worker_view views c.args.worker.now).carried (worker_view views c.loop.worker).carried way.0 way.1.chain).turn ∙ c.requires.seat
+    let way = c.loop.invariant in (
+      c.type_bounds.send-L-In,
+      (
+        c.type_bounds.send-L-Out,
+        (goes_all (worker_view views c.args.worker.now).carried (worker_view views c.loop.worker).carried way.0 way.1.chain).turn ∙ c.requires.seat,
+      ),
+    )
 
 pub returns-then-is_err : goal.returns-then-is_err
 returns-then-is_err g c =

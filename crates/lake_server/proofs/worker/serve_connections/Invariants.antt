@@ -1,5 +1,4 @@
-use Rattle.std.proofs.Common.{List, Option, IfSome, ◌≤◌}
-use Rattle.lake_base.specs.Outside.{last_count}
+use Rattle.std.proofs.Common.{List}
 use Rattle.lake_server.specs.ServedConnections.{Connection, PartViews, worker_view}
 use Rattle.lake_server.proofs.ServedConnectionsLemmas.{SoFar}
 use Rattle.lake_server.proofs.worker.serve_connections.Given as goal

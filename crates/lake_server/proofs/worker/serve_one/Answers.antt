@@ -1,6 +1,5 @@
 use Rattle.std.proofs.Common.{refl}
 use Rattle.lake_session.specs.SessionViews.{SessionView}
-use Rattle.lake_server.specs.ServedConnections.{Connection}
 use Rattle.lake_server.proofs.worker.serve_one.Goals as goal
 
 pub returns-clause-serves : goal.returns-clause-serves

@@ -1,0 +1,38 @@
+use native.Mathlib.Omega.{arith}
+use Rattle.std.proofs.Crossing.{sync as heap_sync}
+use Rattle.shared_lake.proofs.SendLemmas.{shared_sync}
+use Rattle.lake_server.specs.ServedConnections.{PartViews}
+use Rattle.lake_server.proofs.WorkersLemmas.{each_served, lent}
+use Rattle.lake_server.proofs.workers.serve_workers.Goals as goal
+
+pub returns : goal.returns
+returns g c =
+    let views : PartViews g.row.B.Denot g.row.C.Denot g.row.L.Denot = record {
+      held = g.B.Blocks.held;
+      block_faults = g.B.Blocks.faults;
+      misses = g.B.Blocks.misses;
+      readings = g.C.Clock.readings;
+      accepted = g.L.Listen.accepted;
+      returned = g.L.Listen.returned;
+      faults = g.L.Listen.faults;
+    } in
+    each_served views _ _ (omega arith) (λ i d within.
+    let at = (c.for_each_mut.ensures i d within).1 in
+    lent views at.argument_is at.left at.call)
+
+-- the closure has references to the runtime, to the allocator and to the lake
+pub for_each_mut-requires-sync-F : goal.for_each_mut-requires-sync-F
+for_each_mut-requires-sync-F g c κs within =
+    let lake = shared_sync _ g.K.Keeper c.type_bounds.send-K in
+    record {
+      shared = λ x b o ν. (
+        (
+          ((λ q. tt), c.type_bounds.sync-W.shared x.0.now x.0.ref_ptr.0 x.0.ref_ptr.1 κs.1.1.1.1.1.1.0),
+          (
+            ((λ q. tt), heap_sync.shared x.1.now x.1.ref_ptr.0 x.1.ref_ptr.1 κs.1.1.1.1.1.1.1.0),
+            (((λ q. tt), lake.shared x.2.now x.2.ref_ptr.0 x.2.ref_ptr.1 κs.1.1.1.1.1.1.1.1.0), tt),
+          ),
+        ),
+        λ q. tt,
+      );
+    }
