@@ -1,0 +1,78 @@
+-- A fresh lake in memory, and the seat at it.
+use Rattle.std.proofs.Common.{◌≡◌, ◌<◌, ◌+◌, ◌==◌, ◌++◌, ℕ, true, All, List, [], ◌∷◌, length, length-append, slice_index_or, Option, Some, None, refl, sym, ◌∙◌, ap, subst, arith}
+use Rattle.std.specs.FinMap.{empty}
+use Rattle.std.specs.List.{slice_get}
+use Rattle.std.proofs.lemmas.Option.{get_or_from_slice_get}
+use Rattle.std.specs.Option.{option_to_list}
+use Rattle.keeper.specs.Keepers.{KeptPairs}
+use Rattle.lake_format.specs.declared.cut.Cut.{Cut}
+use Rattle.lake_model.specs.Soundness.{fresh}
+use Rattle.lake_model.specs.declared.history.HistoryEntry.{HistoryEntry}
+use Rattle.core_state.specs.FirstStates as founding
+use Rattle.core_state.specs.LakeStates.{lake_value, state_of}
+use Rattle.core_puts.specs.KeeperViews.{KeeperView}
+use Rattle.lake_core.specs.Lakes.{LakeValue}
+use Rattle.lake_core.specs.Opening.{IsOpened, IsUnopened}
+use Rattle.lake_core.specs.declared.open_fault.OpenFault.{OpenFault}
+use Rattle.lake_core.specs.declared.open_fault.OpenFault.TheVariants as opening
+use Rattle.shared_lake.specs.SeatSteps.{LakeSeat, origin_of}
+use Rattle.turn_lock.specs.Seats.{TableId, new_seat, by_seat}
+use Rattle.fresh_lakes.specs.FreshLakes.{AreFreshSeats, IsFounded, IsFreshSeat, IsLoneSeat, sure_view, usual_cut}
+
+-- a lake over an empty keeper that never fails isn't opened for lack of memory alone
+pub opens_but_for_memory : (cut : Cut) (keeper back : KeptPairs) (fault : OpenFault) → IsUnopened sure_view cut keeper fault back → keeper ≡ empty
+    → fault ≡ opening.NoMemory
+opens_but_for_memory cut keeper back opening.StoreFault is none = let rose : 0 < 0 = is.cause (omega arith) in absurd (omega arith)
+opens_but_for_memory cut keeper back (opening.BadPair number) is none = absurd (is.cause.1.0 none)
+opens_but_for_memory cut keeper back opening.NoMemory is none = refl
+
+-- what is popped of a list of one is all of it
+pub popped_only : {X : Type 0} (items rest : List X) (last : X) (result : Option X) → length items ≡ 1
+    → items ≡ rest ++ option_to_list result → result ≡ Some last → items ≡ last ∷ []
+popped_only items [] last result one whole is = whole ∙ ap option_to_list is
+popped_only items (x ∷ rest) last result one whole is =
+    let more : items ≡ (x ∷ rest) ++ last ∷ [] = whole ∙ ap (λ o. (x ∷ rest) ++ option_to_list o) is in
+    let long : length items ≡ length ((x ∷ rest) ++ last ∷ []) = ap length more in
+    let sum : length (rest ++ last ∷ []) ≡ length rest + 1 = length-append rest (last ∷ []) in
+    absurd (omega (arith, one, long, sum))
+
+-- a new seat at a founded lake is one at a fresh lake
+fresh_seat : {K : Type 0} (view : KeeperView K) (turn : TableId) (lake : LakeValue K) (count at : ℕ) (seat : LakeSeat)
+    → ((cut : Cut) → state_of (founding.fresh_lake cut) ≡ fresh cut) → IsFounded lake
+    → seat ≡ new_seat (origin_of view) (λ (l : LakeValue K). l.history) (λ (e : HistoryEntry). e.by.seat) turn lake count at → IsFreshSeat at seat
+fresh_seat view turn lake count at seat founded is same = record {
+  origin = origin_of view lake;
+  from = ap (λ (s : LakeSeat). s.origin) same;
+  fresh = ap state_of is.opened ∙ founded usual_cut;
+  number = ap (λ (s : LakeSeat). s.number) same;
+  seen = ap (λ (s : LakeSeat). s.seen) same ∙ is.history;
+  mine = ap (λ (s : LakeSeat). s.mine) same ∙ ap (λ (l : List HistoryEntry). by_seat (λ (e : HistoryEntry). e.by.seat) at l) is.history;
+}
+
+pub fresh_seats : {K : Type 0} (view : KeeperView K) (turn : TableId) (lake : LakeValue K) (count : ℕ) (seats : List LakeSeat)
+    → ((cut : Cut) → state_of (founding.fresh_lake cut) ≡ fresh cut) → IsFounded lake → length seats ≡ count
+    → ((k : ℕ) → k < count → slice_get seats k
+    ≡ Some (new_seat (origin_of view) (λ (l : LakeValue K). l.history) (λ (e : HistoryEntry). e.by.seat) turn lake count k))
+    → AreFreshSeats seats
+fresh_seats view turn lake count seats founded is many each = λ k d within.
+    fresh_seat view turn lake count k (slice_index_or seats k d) founded is
+    (get_or_from_slice_get seats k (new_seat (origin_of view) (λ l. l.history) (λ (e : HistoryEntry). e.by.seat) turn lake count k) d (each k (omega (arith, many, within))))
+
+-- the only one of them is alone
+pub lone_seats : {K : Type 0} (view : KeeperView K) (turn : TableId) (lake : LakeValue K) (count : ℕ) (seats : List LakeSeat)
+    → length seats ≡ count
+    → ((k : ℕ) → k < count → slice_get seats k
+    ≡ Some (new_seat (origin_of view) (λ (l : LakeValue K). l.history) (λ (e : HistoryEntry). e.by.seat) turn lake count k))
+    → count ≡ 1 → All (λ (seat : LakeSeat). seat.alone ≡ true) seats
+lone_seats view turn lake count seats many each one = λ k d within.
+    ap (λ (s : LakeSeat). s.alone) (get_or_from_slice_get seats k
+    (new_seat (origin_of view) (λ l. l.history) (λ (e : HistoryEntry). e.by.seat) turn lake count k) d (each k (omega (arith, many, within))))
+    ∙ ap (λ n. n == 1) one
+
+-- so the one that is popped is the only seat at a fresh lake
+pub lone_seat : (items : List LakeSeat) (seat : LakeSeat) → items ≡ seat ∷ [] → AreFreshSeats items
+    → All (λ (seat : LakeSeat). seat.alone ≡ true) items → IsLoneSeat seat
+lone_seat items seat only fresh alone = record {
+  fresh = subst (λ (seats : List LakeSeat). AreFreshSeats seats) only fresh 0 seat (omega arith);
+  alone = subst (λ (seats : List LakeSeat). All (λ (s : LakeSeat). s.alone ≡ true) seats) only alone 0 seat (omega arith);
+}

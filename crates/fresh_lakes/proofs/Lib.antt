@@ -1,0 +1,2 @@
+pub mod FreshBodies
+pub mod FreshLemmas

@@ -1,0 +1,68 @@
+//! A fresh lake over a keeper in memory.
+ghost use Rattle.std.specs.Prelude.{◌≡◌, ◌<◌, true, length, All, IfOk};
+ghost use Rattle.fresh_lakes.specs.FreshLakes.{AreFreshSeats, IsFounded, IsLoneSeat};
+
+use keeper::SureKeeper;
+use lake_base::NoMemory;
+use lake_core::{Lake, OpenFault, laws_of_founding};
+use lake_format::USUAL_CUT;
+use shared_lake::{LakeSeat, Shared};
+use std::alloc::Global;
+
+/// A fresh lake in memory, and so many seats at it, numbered from 0.
+pub fn fresh_lake(
+    alloc: Global,
+    seats: u32,
+) -> Result<(Shared<SureKeeper>, Vec<LakeSeat>), NoMemory>
+    requires { 0 < seats }
+    ensures turn { IfOk result (λ r. All (λ seat. seat.turn ≡ r.0) r.1.items) }
+    ensures count { IfOk result (λ r. length r.1.items ≡ seats) }
+    ensures fresh { IfOk result (λ r. AreFreshSeats r.1.items) }
+    ensures alone { IfOk result (λ r. seats ≡ 1 → All (λ seat. seat.alone ≡ true) r.1.items) }
+{
+    laws_of_founding();
+    let lake = match founded(alloc) {
+        Ok(lake) => lake,
+        Err(starved) => return Err(starved),
+    };
+    match Shared::new(alloc, lake, seats) {
+        Ok(shared) => Ok(shared),
+        Err(_) => Err(NoMemory),
+    }
+}
+
+/// A fresh lake in memory, and the only seat at it.
+pub fn lone_lake(alloc: Global) -> Result<(Shared<SureKeeper>, LakeSeat), NoMemory>
+    ensures turn { IfOk result (λ r. r.1.turn ≡ r.0) }
+    ensures fresh { IfOk result (λ r. IsLoneSeat r.1) }
+{
+    let (lake, mut seats) = match fresh_lake(alloc, 1) {
+        Ok(fresh) => fresh,
+        Err(starved) => return Err(starved),
+    };
+    match seats.pop() {
+        Some(seat) => Ok((lake, seat)),
+        None => unreachable!(),
+    }
+}
+
+// A fresh lake over a keeper in memory.
+fn founded(alloc: Global) -> Result<Lake<SureKeeper>, NoMemory>
+    ensures { IfOk result IsFounded }
+{
+    let keeper = SureKeeper::holding(alloc, Vec::new(alloc));
+    match Lake::opened(alloc, keeper, USUAL_CUT) {
+        Ok(lake) => Ok(lake),
+        Err((fault, _)) => Err(opening_fault(fault)),
+    }
+}
+
+// A lake over an empty keeper that never fails isn't opened for lack of memory alone.
+fn opening_fault(fault: OpenFault) -> NoMemory
+    requires { fault ≡ OpenFault.NoMemory }
+{
+    match fault {
+        OpenFault::NoMemory => NoMemory,
+        _ => unreachable!(),
+    }
+}

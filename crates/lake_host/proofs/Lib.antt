@@ -1,0 +1,2 @@
+pub mod HiringLemmas
+pub mod ServerLemmas

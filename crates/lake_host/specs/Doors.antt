@@ -1,0 +1,44 @@
+-- Listeners, as a host is given them back, and what the workers of its server show.
+use Rattle.std.specs.Prelude.{◌≤◌, ◌+◌, ℕ, List, length, Option, Some, IfSome}
+use Rattle.block_store.specs.Sure.{SureBlocksValue}
+use Rattle.lake_server.specs.Connections.{Returned, Streams}
+use Rattle.lake_server.specs.ServedConnections.{PartViews, WorkerView}
+
+-- a listener, as it shows at a moment: the connections that it handed out and was given back, where it tells them, and how often it
+-- has failed
+pub record DoorView : Type 0 where
+  pub accepted : Option (List Streams)
+  pub returned : Option (List Returned)
+  pub faults : ℕ
+
+-- what a listener shows
+abbrev pub door_view : {L : Type 0} → (accepted : L → Option (List Streams)) → (returned : L → Option (List Returned)) → (faults : L → ℕ) → L → DoorView
+door_view accepted returned faults door = record { accepted = accepted door; returned = returned door; faults = faults door }
+
+-- what a host shows at a moment: the listeners that it has given, and those that it was given back, where it tells them, and how often
+-- it has failed
+pub record HostView : Type 0 where
+  pub opened : Option (List DoorView)
+  pub returned : Option (List DoorView)
+  pub faults : ℕ
+
+-- so many listeners were given that weren't given back, where both are told
+abbrev pub AreOut : ℕ → (opened returned : Option (List DoorView)) → Type 0
+AreOut count opened returned = IfSome opened (λ out. IfSome returned (λ back. length back + count ≤ length out))
+
+-- the listener of a worker
+abbrev pub door_of : WorkerView → DoorView
+door_of worker = record { accepted = worker.accepted; returned = worker.returned; faults = worker.faults }
+
+-- what a server's workers show: a store in memory that never fails but for memory, a clock of these readings, and a listener
+abbrev pub host_views : {C L : Type 0} → (readings : C → Option (List ℕ)) → (accepted : L → Option (List Streams))
+    → (returned : L → Option (List Returned)) → (faults : L → ℕ) → PartViews SureBlocksValue C L
+host_views readings accepted returned faults = record {
+  held = λ blocks. Some blocks.held;
+  block_faults = λ blocks. 0;
+  misses = λ blocks. blocks.misses;
+  readings = readings;
+  accepted = accepted;
+  returned = returned;
+  faults = faults;
+}

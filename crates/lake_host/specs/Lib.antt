@@ -1,0 +1,4 @@
+pub mod Doors
+pub mod Shares
+pub mod Workers
+pub mod Servers
