@@ -1,5 +1,5 @@
 -- What became of a batch, from what became of its lines.
-use Rattle.std.proofs.Common.{◌≡◌, ◌∷◌, [], ℕ, List, Option, Some, IfSome, All, refl, sym, ◌∙◌, ap, subst}
+use Rattle.std.proofs.Common.{◌≡◌, ◌∷◌, [], ℕ, List, Some, IfSome, All, sym, ◌∙◌, ap, subst}
 use Rattle.std.specs.FinMap.{empty, get}
 use Rattle.block_store.specs.Blocks.{HeldObjects}
 use Rattle.lake_base.specs.Clocks.{FixedClockValue, fixed_readings}
@@ -14,9 +14,10 @@ use Rattle.batch_lines.specs.ServedLines.{LineReply}
 use Rattle.batch_lines.specs.declared.status.ExitStatus.{ExitStatus}
 use Rattle.lake_program.specs.declared.words.Timing.{Timing}
 use Rattle.lake_program.specs.declared.words.Timing.TheVariants.{Clock, At}
-use Rattle.lake_program.specs.Batches.{HoldsBodies, IsBegun, IsServedBatch, IsTimed, usual_cut}
+use Rattle.lake_program.specs.Batches.{HoldsBodies, IsBegun, IsServedBatch, IsTimed}
 use Rattle.lake_program.specs.Views.{BatchView, trace_of}
-use Rattle.lake_program.proofs.FreshBodies.{fresh_fits}
+use Rattle.fresh_lakes.proofs.FreshBodies.{fresh_fits}
+use Rattle.fresh_lakes.specs.FreshLakes.{usual_cut}
 use Rattle.lake_program.proofs.MomentLemmas.{still_moments}
 use Rattle.lake_program.proofs.SeatLemmas.{Grew, Passes, pass_lines}
 
@@ -26,16 +27,16 @@ module _ (before : BatchView) (begin end : CommandView) (is : IsBegun before beg
   none : HeldObjects
   none = empty
 
-  fits_first : FitsState (state_at is.seat.origin begin.lake.seat.seen) (get none)
+  fits_first : FitsState (state_at is.seat.fresh.origin begin.lake.seat.seen) (get none)
   fits_first =
-      subst (λ seen. FitsState (state_at is.seat.origin seen) (get none)) (sym is.seat.seen)
-      (subst (λ state. FitsState state (get none)) (sym is.seat.fresh) (fresh_fits usual_cut (get none)))
+      subst (λ seen. FitsState (state_at is.seat.fresh.origin seen) (get none)) (sym is.seat.fresh.seen)
+      (subst (λ state. FitsState state (get none)) (sym is.seat.fresh.fresh) (fresh_fits usual_cut (get none)))
 
   holds_bodies : HoldsBodies end
   unfolding none
   holds_bodies =
-      let kept = passes.fits is.seat.origin none is.seat.alone is.seat.from (ap (λ (s : StoreView). s.held) is.store) fits_first in
-      (kept.0, kept.1, subst (λ state. FitsState (replay state end.lake.seat.seen) (get kept.0)) is.seat.fresh kept.2)
+      let kept = passes.fits is.seat.fresh.origin none is.seat.alone is.seat.fresh.from (ap (λ (s : StoreView). s.held) is.store) fits_first in
+      (kept.0, kept.1, subst (λ state. FitsState (replay state end.lake.seat.seen) (get kept.0)) is.seat.fresh.fresh kept.2)
 
 -- ---- a batch
 

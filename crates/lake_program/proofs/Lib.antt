@@ -1,7 +1,7 @@
 pub mod BatchLemmas
-pub mod FreshBodies
-pub mod FreshLemmas
 pub mod MomentLemmas
 pub mod RunLemmas
 pub mod SeatLemmas
 pub mod StatusLemmas
+pub mod ServerLemmas
+pub mod WordLemmas

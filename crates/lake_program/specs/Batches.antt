@@ -1,14 +1,11 @@
 -- A batch of commands on a fresh lake in memory.
-use Rattle.std.specs.Prelude.{◌≡◌, ℕ, true, List, [], ◌∷◌, All, Option, Some, IfSome}
+use Rattle.std.specs.Prelude.{◌≡◌, ℕ, List, [], ◌∷◌, All, Some, IfSome}
 use Rattle.std.specs.FinMap.{empty, get}
 use Rattle.block_store.specs.Blocks.{HeldObjects}
-use Rattle.lake_format.specs.declared.cut.Cut.{Cut}
 use Rattle.lake_model.specs.History.{replay}
 use Rattle.lake_model.specs.Soundness.{fresh}
-use Rattle.lake_core.specs.declared.standing.LakeOrigin.{LakeOrigin}
-use Rattle.shared_lake.specs.SeatSteps.{LakeSeat}
+use Rattle.fresh_lakes.specs.FreshLakes.{IsLoneSeat, usual_cut}
 use Rattle.lake_calls.specs.HeldBodies.{FitsState}
-use Rattle.flow_steps.specs.FlowSeats.{opened_state}
 use Rattle.lake_session.specs.WholeSessions.{GoesThrough}
 use Rattle.lakectl_session.specs.ServedCommands.{CommandView, LineEnds}
 use Rattle.batch_lines.specs.Outcome.{Outcome}
@@ -17,23 +14,9 @@ use Rattle.lake_program.specs.declared.words.Timing.{Timing}
 use Rattle.lake_program.specs.declared.words.Timing.TheVariants.{Clock, At}
 use Rattle.lake_program.specs.Views.{BatchView, trace_of}
 
--- how the ranges of a lake are cut
-abbrev pub usual_cut : Cut
-usual_cut = record { max_bytes = 1048576; modulus = 1024 }
-
--- the one seat at a fresh lake: nothing was done there
-pub record IsFreshSeat (seat : LakeSeat) : Type 0 where
-  pub origin : LakeOrigin
-  pub from : seat.origin ≡ Some origin
-  pub fresh : opened_state origin ≡ fresh usual_cut
-  pub number : seat.number ≡ 0
-  pub seen : seat.seen ≡ []
-  pub mine : seat.mine ≡ []
-  pub alone : seat.alone ≡ true
-
 -- what commands work on before the first line: a fresh lake, a store of objects that holds none, and the files
 pub record IsBegun (batch : BatchView) (begin : CommandView) : Type 0 where
-  pub seat : IsFreshSeat begin.lake.seat
+  pub seat : IsLoneSeat begin.lake.seat
   pub store : begin.lake.store ≡ record { held = Some empty; faults = 0; misses = 0 }
   pub files : begin.files ≡ batch.files
 

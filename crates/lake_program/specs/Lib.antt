@@ -1,6 +1,6 @@
 pub mod Batches
-pub mod FreshLakes
 pub mod Run
+pub mod Servers
 pub mod Usage
 pub mod Views
 pub mod Words

@@ -13,7 +13,8 @@ use Rattle.lake_program.specs.declared.words.Timing.{Timing}
 use Rattle.lake_program.specs.Batches.{HoldsBodies, IsBegun, IsServedBatch, IsTimed}
 use Rattle.lake_program.specs.Usage.{ShowsUsage}
 use Rattle.lake_program.specs.Views.{BatchView, RunView}
-use Rattle.lake_program.specs.Words.{timing_of}
+use Rattle.lake_program.specs.Servers.{IsServed, IsUnserved}
+use Rattle.lake_program.specs.Words.{IsUsage, service_of, timing_of}
 
 -- neither the source nor the sink nor a file failed
 pub record AreQuiet (before after : RunView) : Type 0 where
@@ -62,22 +63,28 @@ pub record Run (words : List (List ℕ)) (before after : RunView) (status : Exit
   -- did, nothing was.
   pub prefix : IfSome (timing_of words) (λ timing. IsUnbegun before after status ⊎ IfSome before.batch.left (λ input.
       IsServedBatch timing 1073741824 65536 before.batch after.batch input status))
+  -- A server has served, each of its connections a session, on one lake; or it didn't begin. It touches nothing but the host.
+  pub server : IfSome (service_of words) (λ service.
+      IsServed service before.host after.host status ⊎ IsUnserved before.host after.host status)
+  pub server_alone : IsSome (service_of words) → after ≡ record before { host = after.host }
   -- Other words are a usage fault, which is shown on `errors`,
-  pub usage : IsNone (timing_of words) → ShowsUsage before.errors after.errors status
-  -- and only they are. It touches nothing else, and a batch doesn't touch `errors`.
-  pub usage_only : status ≡ Usage → IsNone (timing_of words)
-  pub usage_alone : IsNone (timing_of words) → after ≡ record before { errors = after.errors; errors_faults = after.errors_faults }
-  pub batch_alone : IsSome (timing_of words) → (after.errors ≡ before.errors) × (after.errors_faults ≡ before.errors_faults)
+  pub usage : IsUsage words → ShowsUsage before.errors after.errors status
+  -- and only they are. It touches nothing else, and a batch touches neither `errors` nor the host.
+  pub usage_only : status ≡ Usage → IsUsage words
+  pub usage_alone : IsUsage words → after ≡ record before { errors = after.errors; errors_faults = after.errors_faults }
+  pub batch_alone : IsSome (timing_of words)
+      → (after.errors ≡ before.errors) × (after.errors_faults ≡ before.errors_faults) × (after.host ≡ before.host)
   -- Each failure has its cause.
   pub source_failed : status ≡ SourceFailed → Rose before.source_faults after.source_faults
   pub sink_failed : status ≡ SinkFailed → IsSome (timing_of words) → Rose before.batch.sink_faults after.batch.sink_faults
   pub errors_failed : status ≡ SinkFailed → IsNone (timing_of words) → Rose before.errors_faults after.errors_faults
-  pub file_failed : status ≡ HostFailed → Rose before.file_faults after.file_faults
+  pub file_failed : status ≡ HostFailed → IsNone (service_of words) → Rose before.file_faults after.file_faults
   -- No count falls.
   pub source_later : before.source_faults ≤ after.source_faults
   pub sink_later : before.batch.sink_faults ≤ after.batch.sink_faults
   pub errors_later : before.errors_faults ≤ after.errors_faults
   pub files_later : before.file_faults ≤ after.file_faults
+  pub host_later : before.host.faults ≤ after.host.faults
 
 -- What is promised of a run with these words that answers this number: it is that of a status.
 abbrev pub Runs : List (List ℕ) → RunView → RunView → ℕ → Type 0

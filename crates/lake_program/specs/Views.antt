@@ -3,6 +3,7 @@ use Rattle.std.specs.Prelude.{ℕ, List, Option}
 use Rattle.lakectl_commands.specs.HeldFiles.{HeldFiles}
 use Rattle.lakectl_session.specs.ServedCommands.{CommandView}
 use Rattle.batch_lines.specs.Outcome.{Trace}
+use Rattle.lake_host.specs.Doors.{HostView}
 
 -- what a batch works on: what is left of its source, what its sink got and how often that has failed, the clock's
 -- readings, and what the files hold
@@ -13,10 +14,11 @@ pub record BatchView : Type 0 where
   pub readings : Option (List ℕ)
   pub files : Option HeldFiles
 
--- all that is told of a run at one moment: what a batch works on, what was written to `errors`, and how often the source,
--- `errors` and a file have failed
+-- all that is told of a run at one moment: what a batch works on, what a server does, what was written to `errors`, and how
+-- often the source, `errors` and a file have failed
 pub record RunView : Type 0 where
   pub batch : BatchView
+  pub host : HostView
   pub errors : Option (List ℕ)
   pub source_faults : ℕ
   pub errors_faults : ℕ

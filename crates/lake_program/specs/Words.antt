@@ -1,9 +1,10 @@
 -- The words that the program was started with.
 use Rattle.std.specs.Prelude.{ℕ, ◌+◌, ◌-◌, ◌*◌, ◌&&◌, nat_lt, nat_le, Bool, if◌then◌else◌, codes}
-use Rattle.std.specs.Prelude.{List, [], ◌∷◌, length, Option, Some, None}
+use Rattle.std.specs.Prelude.{List, [], ◌∷◌, length, Option, Some, None, IsNone, option_map}
 use Rattle.std.specs.Char.{is_ascii_digit}
 use Rattle.std.specs.List.{list_all}
 use Rattle.std.specs.Str.{bytes_eq}
+use Rattle.lake_program.specs.declared.words.Service.{Service}
 use Rattle.lake_program.specs.declared.words.Timing.{Timing}
 use Rattle.lake_program.specs.declared.words.Timing.TheVariants.{Clock, At}
 
@@ -24,3 +25,41 @@ timing_of (batch ∷ at ∷ number ∷ []) =
     then Some (At (number_after 0 number))
     else None
 timing_of words = None
+
+-- ---- a server
+
+-- a number of 1 to 19 decimal digits, and the number that it spells
+abbrev pub number_in : List ℕ → Option ℕ
+number_in text = if is_number text then Some (number_after 0 text) else None
+
+-- a number of workers, which is 1 to 64
+abbrev pub workers_in : List ℕ → Option ℕ
+workers_in text =
+    if is_number text && (nat_le 1 (number_after 0 text) && nat_le (number_after 0 text) 64) then Some (number_after 0 text) else None
+
+-- a server of so many workers, and so many connections, where both are spelled
+abbrev pub both_of : (workers connections : Option ℕ) → Option Service
+both_of (Some workers) (Some connections) = Some (record { workers = workers; connections = Some connections })
+both_of (Some workers) None = None
+both_of None connections = None
+
+-- what the options of a server ask: they stand in this order, each at most once; without a number there are four workers
+abbrev pub options_of : List (List ℕ) → Option Service
+options_of [] = Some (record { workers = 4; connections = None })
+options_of (name ∷ value ∷ []) =
+    if bytes_eq name (codes "--workers") then option_map (λ workers. record { workers = workers; connections = None }) (workers_in value)
+    else if bytes_eq name (codes "--connections") then option_map (λ number. record { workers = 4; connections = Some number }) (number_in value)
+    else None
+options_of (name ∷ value ∷ other ∷ count ∷ []) =
+    if bytes_eq name (codes "--workers") && bytes_eq other (codes "--connections") then both_of (workers_in value) (number_in count) else None
+options_of options = None
+
+-- Where the words are those of a server, what it is asked to do.
+abbrev pub service_of : List (List ℕ) → Option Service
+service_of (run ∷ listen ∷ at ∷ options) =
+    if bytes_eq run (codes "run") && bytes_eq listen (codes "--listen") && nat_lt 0 (length at) then options_of options else None
+service_of words = None
+
+-- the words are none of the program's
+abbrev pub IsUsage : List (List ℕ) → Type 0
+IsUsage words = IsNone (timing_of words) × IsNone (service_of words)

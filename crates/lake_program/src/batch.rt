@@ -3,11 +3,11 @@ ghost use Rattle.std.specs.Prelude.{◌≡◌, ◌≢◌, ◌≤◌, ◌<◌, �
 ghost use Rattle.lake_base.specs.Outside.{Rose};
 ghost use Rattle.lake_program.specs.Batches.{IsServedBatch};
 
-use crate::fresh::fresh_lake;
 use crate::lines::LakeLines;
 use crate::words::Timing;
 use batch_lines::{ExitStatus, serve_lines};
 use block_store::SureBlocks;
+use fresh_lakes::lone_lake;
 use lake_base::{Clock, FixedClock, Sink, Source};
 use lakectl_commands::Files;
 use std::alloc::Global;
@@ -52,7 +52,7 @@ fn serve_by_clock<R: Wait, S: Source, O: Sink, C: Clock, F: Files>(
         × (result.0 ≡ ExitStatus.HostFailed → Rose (F.faults files) (F.faults result.2)) }
     ensures statuses { result.0 ≢ ExitStatus.Usage }
 {
-    let Ok((lake, mut seat)) = fresh_lake(alloc) else {
+    let Ok((lake, mut seat)) = lone_lake(alloc) else {
         return (ExitStatus::OutOfMemory, clock, files);
     };
     let mut blocks = SureBlocks::new(alloc);

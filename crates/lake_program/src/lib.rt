@@ -2,7 +2,8 @@
 //!
 //! - `run`: the call that the program makes, with the promise of what it prints; `status`: the numbers of its statuses.
 //! - `words`: the words that the program was started with. `limits`: how long a batch may be.
-//! - `batch`: a batch on a fresh lake, `fresh`; `lines`: what serves its lines.
+//! - `server`: a server on a fresh lake.
+//! - `batch`: a batch on a fresh lake; `lines`: what serves its lines.
 //! - `adapters`, `files`: the real streams, the clock and files.
 //!
 //! The promise to the layer above: what `run` prints is what its lines show, each of which is a command that a session
@@ -12,9 +13,9 @@
 pub mod adapters;
 pub mod batch;
 pub mod files;
-pub mod fresh;
 pub mod limits;
 pub mod lines;
 pub mod run;
+pub mod server;
 pub mod status;
 pub mod words;

@@ -1,6 +1,6 @@
 //! The program `lakefs`: a lake of objects with Git-like branches, driven by lakectl's commands.
 //!
-//! What it does is `lake_program::run::run`; here are only the real streams, clock, files and words.
+//! What it does is `lake_program::run::run`; here are only the real streams, clock, files, sockets and words.
 #![tactic(auto)]
 
 use batch_lines::ExitStatus;
@@ -9,6 +9,7 @@ use lake_program::adapters::{StdSink, StdSource, SystemClock};
 use lake_program::files::StdFiles;
 use lake_program::run::run;
 use lake_program::status::number_of;
+use lake_sockets::SocketHost;
 use std::env;
 use std::io::ErrorKind;
 use std::process::ExitCode;
@@ -36,6 +37,7 @@ fn main(rt: HostRuntime) -> ExitCode {
     let mut source = StdSource::new(rt.stdin());
     let mut sink = StdSink::new(rt.stdout());
     let mut errors = StdSink::new(rt.stderr());
+    let mut host = SocketHost::new(&rt, alloc);
     let (status, _, _) = run(
         &rt,
         alloc,
@@ -45,6 +47,7 @@ fn main(rt: HostRuntime) -> ExitCode {
         &mut errors,
         SystemClock::new(&rt),
         StdFiles::new(&rt, alloc),
+        &mut host,
     );
     ExitCode::from(status)
 }

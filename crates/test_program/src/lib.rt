@@ -4,7 +4,7 @@
 //!
 //! - `streams`: a run of the program over streams in memory, and what it comes to.
 //! - `batches`, `commands`, `failures`, `words`: tables of such runs. `limits`: how long lines, texts and batches may be.
-//! - `files`: files in memory. `adapters`: the real streams, files and clock.
+//! - `servers`: a server over a host in memory, `hosts`. `files`: files in memory. `adapters`: the real streams, files and clock.
 //! - `objects`: a block store, and one that fails where it is told to.
 //! - `turns`: a turn over a log. `small_lake`: a turn over a small lake, the form to copy for a value under a turn; it
 //!   is proved without its tests too, since its definitions cite its types.
@@ -21,9 +21,13 @@ mod failures;
 #[cfg(test)]
 mod files;
 #[cfg(test)]
+mod hosts;
+#[cfg(test)]
 mod limits;
 #[cfg(test)]
 mod objects;
+#[cfg(test)]
+mod servers;
 mod small_lake;
 #[cfg(test)]
 mod streams;

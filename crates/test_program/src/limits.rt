@@ -12,6 +12,7 @@ use std::alloc::Global;
 use std::process::Abort;
 use std::sync::Wait;
 use std::test::Fail;
+use std::thread::Threads;
 
 // A text, so many bytes after it, and another text.
 fn padded(
@@ -40,7 +41,7 @@ static BAD_LINE: &[u8] = b"Error: bad line\n";
 
 // A line of 33 bytes and so many spaces prints this, and the next line is served.
 fn check_long_line(
-    rt: &(impl Abort + Wait),
+    rt: &(impl Threads + Wait + Sync + Abort),
     alloc: Global,
     spaces: usize,
     prints: &[u8],
@@ -111,7 +112,7 @@ Error: batch too long\n";
 
 // Under this limit the demonstration prints this and has this status.
 fn check_limit(
-    rt: &(impl Abort + Wait),
+    rt: &(impl Threads + Wait + Sync + Abort),
     alloc: Global,
     limit: u64,
     status: u8,

@@ -1,12 +1,14 @@
 //! A run of the program over streams in memory, and what it comes to.
 
 use crate::files::MemoryFiles;
+use crate::hosts::MemoryHost;
 use lake_base::{MemorySink, MemorySource, ScriptClock, Text};
 use lake_program::run::run;
 use std::alloc::Global;
 use std::process::Abort;
 use std::sync::Wait;
 use std::test::Fail;
+use std::thread::Threads;
 
 /// The demonstration: an upload, and what it uploaded.
 pub(crate) static DEMO: &[u8] =
@@ -67,12 +69,25 @@ pub(crate) fn sink_of(alloc: Global, streams: &Streams) -> Result<MemorySink, Fa
 }
 
 /// What a run of the program with these words over an input comes to, with no files at first.
-pub(crate) fn run_over(
-    rt: &impl Wait,
+pub(crate) fn run_over<R: Threads + Wait + Sync>(
+    rt: &R,
     alloc: Global,
     words: &[&str],
     input: &[u8],
     streams: &Streams,
+) -> Result<Came, Fail> {
+    let mut host = MemoryHost::new(alloc, Vec::new(alloc));
+    run_with(rt, alloc, words, input, streams, &mut host)
+}
+
+/// The same, with a host.
+pub(crate) fn run_with<R: Threads + Wait + Sync>(
+    rt: &R,
+    alloc: Global,
+    words: &[&str],
+    input: &[u8],
+    streams: &Streams,
+    host: &mut MemoryHost,
 ) -> Result<Came, Fail> {
     let texts = texts_of(alloc, words)?;
     let mut source = source_of(alloc, input, streams)?;
@@ -87,6 +102,7 @@ pub(crate) fn run_over(
         &mut errors,
         ScriptClock::new(Vec::new(alloc)),
         MemoryFiles::new(alloc),
+        host,
     );
     Ok(Came {
         status,
@@ -98,7 +114,11 @@ pub(crate) fn run_over(
 static AT_ZERO: [&str; 3] = ["batch", "--at", "0"];
 
 /// What a batch at moment 0 comes to.
-pub(crate) fn run_batch(rt: &impl Wait, alloc: Global, input: &[u8]) -> Result<Came, Fail> {
+pub(crate) fn run_batch<R: Threads + Wait + Sync>(
+    rt: &R,
+    alloc: Global,
+    input: &[u8],
+) -> Result<Came, Fail> {
     run_over(rt, alloc, &AT_ZERO, input, &SURE)
 }
 

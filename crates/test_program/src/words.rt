@@ -3,7 +3,7 @@
 use crate::streams::{DEMO, DEMO_PRINTS, SURE, Streams, check_came, run_over};
 use std::test::Fail;
 
-static OTHER_WORDS: [&[&str]; 9] = [
+static OTHER_WORDS: [&[&str]; 17] = [
     &[],
     &["lakefs"],
     &["batch", "--at"],
@@ -13,6 +13,22 @@ static OTHER_WORDS: [&[&str]; 9] = [
     &["batch", "--at", "12345678901234567890"],
     &["batch", "--at", "1", "x"],
     &["--help"],
+    &["run"],
+    &["run", "--listen"],
+    &["run", "--listen", ""],
+    &["run", "--listen", "x", "--workers", "0"],
+    &["run", "--listen", "x", "--workers", "65"],
+    &["run", "--listen", "x", "--connections", "+1"],
+    &[
+        "run",
+        "--listen",
+        "x",
+        "--connections",
+        "1",
+        "--workers",
+        "1",
+    ],
+    &["run", "--listen", "x", "--workers", "1", "--workers", "1"],
 ];
 
 static USAGE: &[u8] = b"Error: usage\n";

@@ -1,9 +1,0 @@
-use Rattle.std.proofs.Common.{length, ◌∙◌, ap}
-use Rattle.std.specs.FinMap.{empty_of_len, len-entries}
-use Rattle.keeper.specs.Keepers.{entries_of}
-use Rattle.lake_program.proofs.FreshLemmas.{opens_but_for_memory}
-use Rattle.lake_program.proofs.fresh.founded.Goals as goal
-
-pub opening_fault-requires : goal.opening_fault-requires
-opening_fault-requires c = opens_but_for_memory _ c.holding-keeper.result c.in-Err.field-0-1 c.in-Err.fault c.in-Err.ensures
-    (empty_of_len c.holding-keeper.result (len-entries c.holding-keeper.result ∙ ap length (c.holding-keeper.ensures ∙ ap entries_of c.new.ensures.items)))

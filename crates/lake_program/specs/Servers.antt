@@ -1,0 +1,42 @@
+-- A server on a fresh lake in memory.
+use Rattle.std.specs.Prelude.{◌≡◌, ◌⊎◌, List, length}
+use Rattle.lake_base.specs.Outside.{Rose}
+use Rattle.keeper.specs.Keepers.{KeptPairs}
+use Rattle.lake_model.specs.History.{IsLegal}
+use Rattle.lake_model.specs.Soundness.{fresh}
+use Rattle.lake_core.specs.Lakes.{Holds, LakeValue}
+use Rattle.shared_lake.specs.SeatSteps.{LakeSeat}
+use Rattle.fresh_lakes.specs.FreshLakes.{AreFreshSeats, sure_view, usual_cut}
+use Rattle.lake_host.specs.Doors.{HostView}
+use Rattle.lake_host.specs.Servers.{HasServedAll}
+use Rattle.lake_host.specs.declared.server.ServerEnd.{ServerEnd}
+use Rattle.lake_host.specs.declared.server.ServerEnd.TheVariants as end
+use Rattle.batch_lines.specs.declared.status.ExitStatus.{ExitStatus}
+use Rattle.batch_lines.specs.declared.status.ExitStatus.TheVariants.{Done, HostFailed, OutOfMemory}
+use Rattle.lake_program.specs.declared.words.Service.{Service}
+
+-- how a run ends whose server ended so
+abbrev pub status_of : ServerEnd → ExitStatus
+status_of end.Done = Done
+status_of end.Failed = HostFailed
+status_of end.NoMemory = OutOfMemory
+
+-- A SERVER HAS SERVED, on a fresh lake in memory: a worker at each of its seats, as many as were asked for. What they did is one legal
+-- history of the fresh lake, and what each seat has seen is a front of it. It ended well where each worker has served its share of the
+-- connections, and failed where a listener failed one.
+pub record IsServed (service : Service) (before after : HostView) (status : ExitStatus) : Type 0 where
+  pub seats : List LakeSeat
+  pub begun : AreFreshSeats seats
+  pub count : length seats ≡ service.workers
+  pub lake : LakeValue KeptPairs
+  pub end : ServerEnd
+  pub served : HasServedAll sure_view seats service.connections before after end lake
+  pub legal : IsLegal (fresh usual_cut) lake.history
+  pub holds : Holds sure_view lake
+  pub tells : status ≡ status_of end
+
+-- a server that didn't begin: no listener was given; memory ran out, or the host failed, and counted that
+pub record IsUnserved (before after : HostView) (status : ExitStatus) : Type 0 where
+  pub opened : after.opened ≡ before.opened
+  pub returned : after.returned ≡ before.returned
+  pub why : (status ≡ OutOfMemory) ⊎ ((status ≡ HostFailed) × Rose before.faults after.faults)
