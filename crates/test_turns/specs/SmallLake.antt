@@ -1,9 +1,9 @@
 -- A small lake of the tests, over which they use a turn as a lake of many seats will.
 use Rattle.std.specs.Prelude.{◌≡◌, ℕ, ◌+◌, ◌-◌, ◌≤◌, ◌==◌, List, [], ◌∷◌, map, Option, Some, None, Result, Ok, Err, MatchResult, Contains, if◌then◌else◌}
-use Rattle.test_program.specs.declared.small_lake.By.{By}
-use Rattle.test_program.specs.declared.small_lake.Entry.{Entry}
-use Rattle.test_program.specs.declared.small_lake.PutFault.{PutFault}
-use Rattle.test_program.specs.declared.small_lake.PutFault.TheVariants.{Changed, Failed, Full, Low, NoMemory}
+use Rattle.test_turns.specs.declared.small_lake.By.{By}
+use Rattle.test_turns.specs.declared.small_lake.Entry.{Entry}
+use Rattle.test_turns.specs.declared.small_lake.PutFault.{PutFault}
+use Rattle.test_turns.specs.declared.small_lake.PutFault.TheVariants.{Changed, Failed, Full, Low, NoMemory}
 
 -- what the lake is at a moment: a number, and its version
 pub record SmallState : Type 0 where

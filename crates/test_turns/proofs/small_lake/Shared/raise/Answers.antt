@@ -1,13 +1,13 @@
 use Rattle.std.proofs.Common.{rules, sym, subst, ◌≡◌, ◌≤◌, ◌==◌, Some, map}
 use Rattle.std.specs.List.{Contains}
-use Rattle.test_program.specs.SmallLake.{entry_of, raised, state_of}
-use Rattle.test_program.specs.declared.small_lake.By.{By}
-use Rattle.test_program.specs.declared.small_lake.Entry.{Entry}
+use Rattle.test_turns.specs.SmallLake.{entry_of, raised, state_of}
+use Rattle.test_turns.specs.declared.small_lake.By.{By}
+use Rattle.test_turns.specs.declared.small_lake.Entry.{Entry}
 use Rattle.turn_lock.specs.Seats.{by_seat, with_entry}
 use Rattle.turn_lock.proofs.SeatsLemmas.{entry_only_adds, seat_after_entry}
 use Rattle.turn_lock.proofs.TurnLemmas.{gives_values}
-use Rattle.test_program.proofs.SmallLakeLemmas.{contains_kept, entry_own}
-use Rattle.test_program.proofs.small_lake.Shared.raise.Goals as goal
+use Rattle.test_turns.proofs.SmallLakeLemmas.{contains_kept, entry_own}
+use Rattle.test_turns.proofs.small_lake.Shared.raise.Goals as goal
 
 pub with_change-requires-clause-callable : goal.with_change-requires-clause-callable
 with_change-requires-clause-callable g c x meets stands p is =

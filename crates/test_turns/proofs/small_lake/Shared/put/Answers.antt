@@ -1,12 +1,12 @@
 use Rattle.std.proofs.Common.{rules, ◌≡◌}
-use Rattle.test_program.specs.SmallLake.{Gives, entry_of, state_of, put_reply}
-use Rattle.test_program.specs.declared.small_lake.By.{By}
-use Rattle.test_program.specs.declared.small_lake.Entry.{Entry}
+use Rattle.test_turns.specs.SmallLake.{Gives, entry_of, state_of, put_reply}
+use Rattle.test_turns.specs.declared.small_lake.By.{By}
+use Rattle.test_turns.specs.declared.small_lake.Entry.{Entry}
 use Rattle.turn_lock.specs.Seats.{with_entry}
 use Rattle.turn_lock.proofs.SeatsLemmas.{entry_only_adds, seat_after_entry}
 use Rattle.turn_lock.proofs.TurnLemmas.{gives_values}
-use Rattle.test_program.proofs.SmallLakeLemmas.{entry_own}
-use Rattle.test_program.proofs.small_lake.Shared.put.Goals as goal
+use Rattle.test_turns.proofs.SmallLakeLemmas.{entry_own}
+use Rattle.test_turns.proofs.small_lake.Shared.put.Goals as goal
 
 pub with_change-requires-clause-only_adds : goal.with_change-requires-clause-only_adds
 with_change-requires-clause-only_adds g c x y a meets found gives left =

@@ -3,8 +3,8 @@ ghost use Rattle.std.specs.Prelude.{◌≡◌, ℕ, ◌+◌, ◌<◌, ◌≤◌,
 ghost use Rattle.std.specs.Prelude.{Some, IfOk, MatchOption, MatchResult, Contains};
 ghost use mathlib.Core.List.{IsPrefix};
 ghost use Rattle.turn_lock.specs.Seats.{by_seat, seat_after, with_entry};
-ghost use Rattle.test_program.specs.SmallLake.{SmallState, Gives, Stands, entry_of, faults_in, put_reply, raised};
-ghost use Rattle.test_program.specs.SmallLake.{state_of};
+ghost use Rattle.test_turns.specs.SmallLake.{SmallState, Gives, Stands, entry_of, faults_in, put_reply, raised};
+ghost use Rattle.test_turns.specs.SmallLake.{state_of};
 
 use std::alloc::{AllocError, Global};
 use std::marker::Model;
@@ -69,7 +69,7 @@ pub enum PutFault {
 
 impl From<AllocError> for PutFault {
     ghost use Rattle.std.specs.Prelude.{◌≡◌};
-    ghost use Rattle.test_program.specs.declared.small_lake.PutFault.TheVariants.{NoMemory};
+    ghost use Rattle.test_turns.specs.declared.small_lake.PutFault.TheVariants.{NoMemory};
 
     ghost from_gives = { λ _ e. e ≡ NoMemory };
 
@@ -82,7 +82,7 @@ impl From<AllocError> for PutFault {
 pub struct Opened;
 
 impl Model for Opened {
-    ghost use Rattle.test_program.specs.SmallLake.{SmallState};
+    ghost use Rattle.test_turns.specs.SmallLake.{SmallState};
 
     ghost Value = { SmallState };
 
@@ -107,8 +107,8 @@ pub struct Lake<K: Keeper> {
 
 impl<K: Keeper> Model for Lake<K> {
     ghost use Rattle.std.specs.Prelude.{◌≡◌, map};
-    ghost use Rattle.test_program.specs.SmallLake.{SmallLakeValue, Stands, state_after};
-    ghost use Rattle.test_program.specs.declared.small_lake.Entry.{Entry};
+    ghost use Rattle.test_turns.specs.SmallLake.{SmallLakeValue, Stands, state_after};
+    ghost use Rattle.test_turns.specs.declared.small_lake.Entry.{Entry};
 
     ghost Value = { SmallLakeValue K Entry };
 

@@ -1,6 +1,6 @@
 use Rattle.std.proofs.Common.{rules, ◌≡◌, ◌++◌, [], ◌∷◌, MatchResult}
 use Rattle.turn_lock.proofs.SeatsLemmas.{seat_after_step}
-use Rattle.test_program.proofs.turns.add.Goals as goal
+use Rattle.test_turns.proofs.turns.add.Goals as goal
 
 pub returns-clause-mine : goal.returns-clause-mine
 returns-clause-mine g c =

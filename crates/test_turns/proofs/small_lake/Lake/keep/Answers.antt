@@ -1,9 +1,9 @@
 use Rattle.std.proofs.Common.{arith, ◌≡◌, ◌<◌, ◌≤◌, [], ◌∷◌, ◌++◌, Some, None, map, ap, ◌∙◌}
 use Rattle.std.proofs.lemmas.List.{map-append}
 use Rattle.std.proofs.lemmas.Grind.{common_steps}
-use Rattle.test_program.specs.declared.small_lake.Entry.{Entry}
-use Rattle.test_program.proofs.SmallLakeLemmas.{noted_after, put_after}
-use Rattle.test_program.proofs.small_lake.Lake.keep.Goals as goal
+use Rattle.test_turns.specs.declared.small_lake.Entry.{Entry}
+use Rattle.test_turns.proofs.SmallLakeLemmas.{noted_after, put_after}
+use Rattle.test_turns.proofs.small_lake.Lake.keep.Goals as goal
 
 pub invariant_of-self-then-is_err : goal.invariant_of-self-then-is_err
 invariant_of-self-then-is_err g c =

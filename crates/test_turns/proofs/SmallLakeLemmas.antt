@@ -4,10 +4,10 @@ use Rattle.std.proofs.Common.{ap, ◌∙◌, subst, arith}
 use Rattle.std.proofs.lemmas.List.Elements.{Contains-append_left, Contains-append_right, Contains-append_cases, Contains-push_cases}
 use Rattle.std.specs.List.{Contains, filter}
 use Rattle.std.specs.Prelude.{IfSome}
-use Rattle.test_program.specs.SmallLake.{SmallState, Stands, entry_of, faults_in, state_after}
-use Rattle.test_program.specs.declared.small_lake.By.{By}
-use Rattle.test_program.specs.declared.small_lake.PutFault.{PutFault}
-use Rattle.test_program.specs.declared.small_lake.PutFault.TheVariants.{Changed, Failed, Full, Low, NoMemory}
+use Rattle.test_turns.specs.SmallLake.{SmallState, Stands, entry_of, faults_in, state_after}
+use Rattle.test_turns.specs.declared.small_lake.By.{By}
+use Rattle.test_turns.specs.declared.small_lake.PutFault.{PutFault}
+use Rattle.test_turns.specs.declared.small_lake.PutFault.TheVariants.{Changed, Failed, Full, Low, NoMemory}
 
 state_after-append : (s : SmallState) (ns : List (Option ℕ)) (n : Option ℕ) → state_after s (ns ++ n ∷ []) ≡ state_after (state_after s ns) (n ∷ [])
 state_after-append s [] n = refl
