@@ -1,5 +1,6 @@
 //! What a server asks of the machine.
-ghost use Rattle.std.specs.Prelude.{◌≡◌, ◌++◌, ◌∷◌, [], ℕ, List, length, map, Option, Some, is_some, IfOk, OnErr, IfSome};
+ghost use Rattle.std.specs.Prelude.{◌≡◌, ◌++◌, ◌∷◌, [], ℕ, List, length, map};
+ghost use Rattle.std.specs.Prelude.{Option, Some, is_some, IfOk, IfSome, OnErr};
 ghost use Rattle.block_store.specs.Blocks.{FailsByFault};
 ghost use Rattle.lake_host.specs.Doors.{AreOut, DoorView, door_view};
 

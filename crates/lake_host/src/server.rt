@@ -33,8 +33,8 @@ pub enum ServerEnd {
 
 /// Serves the connections of a host's listeners at an address, a worker at each seat and each in a thread of its own
 /// where one can be had, until each has served its share of the connections, or its listener failed. Where no number is
-/// said, a worker ends only by its listener. Each listener is given back to the host. The lake is closed and handed out.
-/// It waits.
+/// said, a worker ends only by its listener. Each listener is given back to the host. The lake is closed and handed
+/// out. It waits.
 pub fn serve_listeners<K: Keeper + Send, H: Host, W: Threads + Wait + Sync>(
     rt: &W,
     alloc: Global,

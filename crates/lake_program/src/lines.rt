@@ -35,7 +35,11 @@ impl<'r, 'l, 's, 'b, W: Wait, K: Keeper, B: Blocks, C: Clock, F: Files> LineServ
         (record {
           lake = record {
             readings = C.readings old.clock;
-            store = record { held = B.held old.blocks.now; faults = B.faults old.blocks.now; misses = B.misses old.blocks.now };
+            store = record {
+              held = B.held old.blocks.now;
+              faults = B.faults old.blocks.now;
+              misses = B.misses old.blocks.now;
+            };
             seat = old.seat.now;
           };
           files = F.files old.files;
@@ -43,7 +47,11 @@ impl<'r, 'l, 's, 'b, W: Wait, K: Keeper, B: Blocks, C: Clock, F: Files> LineServ
         (record {
           lake = record {
             readings = C.readings now.clock;
-            store = record { held = B.held now.blocks.now; faults = B.faults now.blocks.now; misses = B.misses now.blocks.now };
+            store = record {
+              held = B.held now.blocks.now;
+              faults = B.faults now.blocks.now;
+              misses = B.misses now.blocks.now;
+            };
             seat = now.seat.now;
           };
           files = F.files now.files;

@@ -2,7 +2,8 @@
 ghost use Rattle.std.specs.Prelude.{◌≡◌, ◌<◌, IsTrue, Some, IfSome, option_map, slice_get, [], ◌∷◌};
 ghost use Rattle.std.specs.Char.{is_ascii_digit};
 ghost use Rattle.std.specs.List.{list_all};
-ghost use Rattle.lake_program.specs.Words.{both_of, is_number, number_after, number_in, options_of, service_of, timing_of, workers_in};
+ghost use Rattle.lake_program.specs.Words.{is_number, number_after, number_in, timing_of};
+ghost use Rattle.lake_program.specs.Words.{both_of, options_of, service_of, workers_in};
 
 use lake_base::Text;
 

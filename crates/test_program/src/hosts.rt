@@ -7,8 +7,8 @@ use lake_server::MemoryListener;
 use std::alloc::Global;
 use std::collections::VecDeque;
 
-/// A host in memory, which doesn't tell contracts what it gave. Its listeners' connections are made of bytes; a listener
-/// for which none are left has no connections. It keeps those that it is given back.
+/// A host in memory, which doesn't tell contracts what it gave. Its listeners' connections are made of bytes; one for
+/// which none are left has no connections. It keeps those that it is given back.
 #[derive(Drop)]
 pub(crate) struct MemoryHost {
     alloc: Global,

@@ -2,8 +2,10 @@
 //! should, and real files and the real clock answer.
 //!
 //! - `streams`: a run of the program over streams in memory, and what it comes to.
-//! - `batches`, `commands`, `failures`, `words`: tables of such runs. `limits`: how long lines, texts and batches may be.
-//! - `servers`: a server over a host in memory, `hosts`. `files`: files in memory. `adapters`: the real streams, files and clock.
+//! - `batches`, `commands`, `failures`, `words`: tables of such runs.
+//! - `limits`: how long lines, texts and batches may be.
+//! - `servers`: a server over a host in memory, `hosts`. `files`: files in memory.
+//! - `adapters`: the real streams, files and clock.
 #![tactic(auto)]
 
 #[cfg(test)]
