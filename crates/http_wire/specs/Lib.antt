@@ -1,6 +1,7 @@
 pub mod BodyReading
 pub mod Filling
 pub mod SinkFronts
+pub mod Streams
 pub mod HeadSearch
 pub mod MessageFields
 pub mod MessageHeads

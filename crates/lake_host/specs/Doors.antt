@@ -1,7 +1,8 @@
 -- Listeners, as a host is given them back, and what the workers of its server show.
 use Rattle.std.specs.Prelude.{◌≤◌, ◌+◌, ℕ, List, length, Option, Some, IfSome}
 use Rattle.block_store.specs.Sure.{SureBlocksValue}
-use Rattle.lake_server.specs.Connections.{Returned, Streams}
+use Rattle.http_wire.specs.Streams.{Streams}
+use Rattle.lake_server.specs.Connections.{Returned}
 use Rattle.lake_server.specs.ServedConnections.{PartViews, WorkerView}
 
 -- a listener, as it shows at a moment: the connections that it handed out and was given back, where it tells them, and how often it

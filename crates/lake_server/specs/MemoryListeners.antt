@@ -1,6 +1,7 @@
 -- A listener in memory.
 use Rattle.std.specs.Prelude.{ℕ, List, [], Some}
-use Rattle.lake_server.specs.Connections.{Returned, Streams}
+use Rattle.http_wire.specs.Streams.{Streams}
+use Rattle.lake_server.specs.Connections.{Returned}
 use Rattle.lake_server.specs.declared.memory.ServedConnection.{ServedConnection}
 
 -- a listener in memory: the connections that it handed out, the bytes of those that are waiting, the connections that it was given

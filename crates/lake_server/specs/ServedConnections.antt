@@ -2,13 +2,14 @@
 use Rattle.std.specs.Prelude.{◌≡◌, ◌<◌, ◌≤◌, ◌++◌, ℕ, Bool, false, List, [], ◌∷◌, map, min, length, take, Option, Some, IfSome, MatchBool}
 use Rattle.lake_base.specs.Outside.{Rose, last_count}
 use Rattle.block_store.specs.Blocks.{HeldObjects}
+use Rattle.http_wire.specs.Streams.{Streams}
 use Rattle.lake_model.specs.declared.history.HistoryEntry.{HistoryEntry}
 use Rattle.shared_lake.specs.SeatSteps.{LakeSeat}
 use Rattle.turn_lock.specs.Seats.{TableId}
 use Rattle.lake_session.specs.SessionViews.{SessionView, StoreView}
 use Rattle.lake_session.specs.WholeSessions.{GoesThrough, IsSession}
 use Rattle.lake_session.specs.declared.report.SessionReport.{SessionReport}
-use Rattle.lake_server.specs.Connections.{Returned, Streams}
+use Rattle.lake_server.specs.Connections.{Returned}
 use Rattle.lake_server.specs.declared.worker.Worker.{Worker}
 
 -- ---- sessions, one after the other

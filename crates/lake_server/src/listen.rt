@@ -1,7 +1,8 @@
 //! What hands out connections.
 ghost use Rattle.std.specs.Prelude.{◌≡◌, ◌++◌, ◌∷◌, [], ℕ, List, Option, Some, IfOk, IfSome, OnErr};
 ghost use Rattle.lake_base.specs.Outside.{HasCause};
-ghost use Rattle.lake_server.specs.Connections.{IsOneOut, Returned, Streams};
+ghost use Rattle.http_wire.specs.Streams.{Streams};
+ghost use Rattle.lake_server.specs.Connections.{IsOneOut, Returned};
 
 use lake_base::{Failed, Sink, Source};
 use lake_session::SessionReport;
