@@ -1,11 +1,13 @@
 -- How a body comes.
-use Rattle.std.proofs.Common.{◌≡◌, ◌≤◌, ◌<◌, ◌+◌, ℕ, zero, suc, List, [], ◌∷◌, ◌++◌, length, take, drop, Option, Some, None, IfSome, refl, sym, ap}
-use Rattle.std.proofs.Common.{subst, ◌∙◌, arith, append_assoc}
+use Rattle.std.proofs.Common.{◌≡◌, ◌≤◌, ◌<◌, ◌+◌, ℕ, zero, suc, List, [], ◌∷◌, ◌++◌, length, take, drop, Option, Ok, Err, IfSome, refl, sym, ap}
+use Rattle.std.proofs.Common.{subst, ◌∙◌, arith}
 use Rattle.std.proofs.lemmas.List.{append-nil, length-drop, length-take-le, take-append-drop, take-append-le, take_all, take-take, drop_all}
+use Rattle.std.specs.Prelude.{Vec}
+use Rattle.std.specs.Global.{Global}
 use Rattle.lake_base.specs.Outside.{Reads}
-use Rattle.http_wire.specs.declared.fault.WireFault.{WireFault}
 use Rattle.http_wire.specs.declared.fault.WireFault.TheVariants.{Truncated, ReadFault, NoMemory}
-use Rattle.http_wire.specs.BodyReading.{IsBodyFault, IsBody, Came}
+use Rattle.http_wire.specs.BodyReading.{IsBodyFault, IsBodyRead, IsBodyAnswer, IsRestRead, IsRestAnswer, Came}
+use Rattle.http_wire.proofs.ReadingLemmas.{gave_on, gave_still, gave_as, gave_none}
 
 -- what came stays while room is made
 pub kept_longer : (xs more : List ℕ) (came n : ℕ) → came ≤ length xs → came ≤ n → take came (take n xs ++ more) ≡ take came xs
@@ -28,40 +30,30 @@ take_more_of (suc a) b [] = take_nil (suc a + b) ∙ sym (take_nil b)
 take_more_of (suc a) b (x ∷ xs) = let e : suc a + b ≡ suc (a + b) = omega arith in ap (λ (i : ℕ). take i (x ∷ xs)) e ∙ ap (λ (l : List ℕ). x ∷ l)
     (take_more_of a b xs)
 
-pub came_start : (items : List ℕ) (came : ℕ) (o : Option (List ℕ)) → length items ≡ came → IfSome o (λ left. Came (items ++ left) items items came o)
-came_start items came None is = tt
-came_start items came (Some left) is = record {
-  rest = left;
-  left_is = refl;
-  whole = ap (λ (l : List ℕ). l ++ left) (take_all came items (omega (arith, is)));
-  more = [];
-  begins = take_all came items (omega (arith, is)) ∙ sym (append-nil items);
-}
+pub came_start : (items : List ℕ) (came : ℕ) (o : Option (List ℕ)) → length items ≡ came → IfSome o (λ left. Came items left items came o)
+came_start items came o is = gave_none items (λ given rest. take came items ≡ given) o (λ rest. take_all came items (omega (arith, is)))
 
-module _ (behind first room : List ℕ) (came : ℕ) (now : Option (List ℕ)) (was : Came behind first room came now) where
+module _ (before had room : List ℕ) (came : ℕ) (now : Option (List ℕ)) (was : Came before had room came now) where
+  abbrev InRoom : (given rest : List ℕ) → Type 0
+  InRoom given rest = take came room ≡ given
+
   -- all of it came
-  pub came_all : (size : ℕ) → length room ≡ size → size ≤ came → IsBody behind room size [] now
-  came_all size long all = record {
-    rest = was.rest;
-    left_is = was.left_is;
-    whole = ap (λ (l : List ℕ). l ++ was.rest) (sym (take_all came room (omega (arith, long, all)))) ∙ was.whole;
-    long = long;
-  }
+  pub came_all : (head size : ℕ) → length room ≡ size → size ≤ came → IsRestAnswer before had head size room now (Ok tt)
+  came_all head size long all =
+      gave_as before had InRoom (λ given rest. IsRestRead given rest head size room (Ok tt)) now was
+      (λ given rest is. record { whole = append-nil room ∙ sym (take_all came room (omega (arith, long, all))) ∙ is; long = long })
 
   module _ (d : List ℕ) (same : take came d ≡ take came room) (within : came ≤ length d) where
-    came_length : length (take came d) ≡ came
-    came_length = length-take-le came d within
+    came_length : (given : List ℕ) → take came room ≡ given → length given ≡ came
+    came_length given is = ap length (sym is) ∙ ap length (sym same) ∙ length-take-le came d within
 
     -- the source failed
-    pub came_fault : (head size : ℕ) (after : Option (List ℕ)) → came < size → after ≡ now → IsBodyFault behind first head size after ReadFault
+    pub came_fault : (head size : ℕ) (after : Option (List ℕ)) → came < size → after ≡ now
+        → IsRestAnswer before had head size d after (Err ReadFault)
     unfolding IsBodyFault
-    came_fault head size after less failed = (
-      was.more,
-      was.rest,
-      ap (λ (l : List ℕ). l ++ was.rest) (sym was.begins) ∙ was.whole,
-      failed ∙ was.left_is,
-      omega (arith, came_length, less, ap length same, ap length was.begins),
-    )
+    came_fault head size after less failed =
+        gave_still before had InRoom (λ given rest. IsBodyFault given rest head size ReadFault) now was after failed
+        (λ given rest is. omega (arith, less, came_length given is))
 
     module _ (after room_after : List ℕ) (then : Option (List ℕ)) (n : ℕ) (reads : IfSome now (λ left. Reads left then (drop came d)
         (drop came after) n)) where
@@ -69,54 +61,55 @@ module _ (behind first room : List ℕ) (came : ℕ) (now : Option (List ℕ)) (
       read_at = subst (λ (o : Option (List ℕ)). IfSome o (λ left. Reads left then (drop came d) (drop came after) n)) was.left_is reads
 
       -- more came
-      pub came_more : take came after ≡ take came d → room_after ≡ after → Came behind first room_after (came + n) then
-      came_more front is = record {
-        rest = drop n was.rest;
-        left_is = read_at.rest;
-        whole = ap (λ (l : List ℕ). take (came + n) l ++ drop n was.rest) is
-            ∙ ap (λ (l : List ℕ). l ++ drop n was.rest)
-            (take_more_of came n after ∙ ap (λ (l : List ℕ). l ++ take n (drop came after)) (front ∙ same) ∙ ap (λ
-            (l : List ℕ). take came room ++ l) read_at.front)
-            ∙ append_assoc (take came room) (take n was.rest) (drop n was.rest)
-            ∙ ap (λ (l : List ℕ). take came room ++ l) (take-append-drop n was.rest)
-            ∙ was.whole;
-        more = was.more ++ take n was.rest;
-        begins = ap (take (came + n)) is
-            ∙ take_more_of came n after ∙ ap (λ (l : List ℕ). l ++ take n (drop came after)) (front ∙ same ∙ was.begins)
-            ∙ ap (λ (l : List ℕ). first ++ was.more ++ l) read_at.front ∙ append_assoc first was.more (take n was.rest);
-      }
+      pub came_more : take came after ≡ take came d → room_after ≡ after → Came before had room_after (came + n) then
+      came_more front is =
+          gave_on before had InRoom (λ given rest. take (came + n) room_after ≡ given) now was (take n was.rest) (drop n was.rest) then
+          (take-append-drop n was.rest) read_at.rest
+          (ap (take (came + n)) is ∙ take_more_of came n after
+          ∙ ap (λ (l : List ℕ). l ++ take n (drop came after)) (front ∙ same ∙ was.read)
+          ∙ ap (λ (l : List ℕ). (before ++ was.more) ++ l) read_at.front)
 
       -- nothing was left
-      pub came_end : (head size : ℕ) (last : Option (List ℕ)) → came < size → came < length d → n ≡ 0 → IsBodyFault behind first head size last
-          (Truncated (head + came))
+      pub came_end : (head size : ℕ) (body : List ℕ) → came < size → came < length d → n ≡ 0
+          → IsRestAnswer before had head size body then (Err (Truncated (head + came)))
       unfolding IsBodyFault
-      came_end head size last less room_left none =
-          let ended : was.rest ≡ [] = read_at.end none (omega (arith, room_left, length-drop came d)) in
-          let all : behind ≡ take came d = sym was.whole ∙ ap (λ (l : List ℕ). take came room ++ l) ended ∙ append-nil (take came room) ∙ sym same in
-          let long : length behind ≡ came = ap length all ∙ came_length in
-          (omega (arith, long, less), ap (λ (i : ℕ). head + i) (sym long))
+      came_end head size body less room_left none =
+          let none_left : drop n was.rest ≡ was.rest = ap (λ (i : ℕ). drop i was.rest) none in
+          let long : length ((before ++ was.more) ++ []) ≡ came = came_length ((before ++ was.more) ++ [])
+          (was.read ∙ sym (append-nil (before ++ was.more))) in
+          gave_on before had InRoom (λ given rest. IsBodyFault given rest head size (Truncated (head + came))) now was [] (drop n was.rest) then none_left
+          read_at.rest (
+            omega (arith, long, less),
+            ap (λ (i : ℕ). head + i) (sym long),
+            none_left ∙ read_at.end none (omega (arith, room_left, length-drop came d)),
+          )
 
 -- want of memory is free
-pub no_memory : (behind first : List ℕ) (head size : ℕ) (left : Option (List ℕ)) → IsBodyFault behind first head size left NoMemory
+pub no_memory : (given rest : List ℕ) (head size : ℕ) → IsBodyFault given rest head size NoMemory
 unfolding IsBodyFault
-no_memory behind first head size left = tt
+no_memory given rest head size = tt
 
--- what holds of all that is left holds where it is told
-pub told_always : (o : Option (List ℕ)) (P : List ℕ → Type 0) → ((left : List ℕ) → P left) → IfSome o P
-told_always None P all = tt
-told_always (Some left) P all = all left
+-- no memory was left for more room
+pub came_no_memory : (before had room : List ℕ) (came : ℕ) (now : Option (List ℕ)) → Came before had room came now → (head size : ℕ) (body : List ℕ)
+    → IsRestAnswer before had head size body now (Err NoMemory)
+came_no_memory before had room came now was head size body =
+    gave_as before had (λ given rest. take came room ≡ given) (λ given rest. IsBodyFault given rest head size NoMemory) now was
+    (λ given rest is. no_memory given rest head size)
+
+-- none was left for what is held
+pub held_no_memory : (buffer held : List ℕ) (head size : ℕ) (o : Option (List ℕ)) → IfSome o (λ left. IsBodyAnswer buffer left head size held o (Err NoMemory))
+held_no_memory buffer held head size o =
+    gave_none buffer (λ given rest. IsBodyFault given rest head size NoMemory) o (λ rest. no_memory buffer rest head size)
 
 -- what is held has the whole body
-pub held_body : (buffer body held : List ℕ) (size : ℕ) (o : Option (List ℕ)) → size ≤ length buffer → body ≡ take size buffer → held ≡ drop size buffer
-    → IfSome o (λ left. IsBody (buffer ++ left) body size held o)
-held_body buffer body held size None h is rest = tt
-held_body buffer body held size (Some left) h is rest = record {
-  rest = left;
-  left_is = refl;
-  whole = ap (λ (l : List ℕ). l ++ (held ++ left)) is ∙ ap (λ (l : List ℕ). take size buffer ++ (l ++ left)) rest
-      ∙ sym (append_assoc (take size buffer) (drop size buffer) left) ∙ ap (λ (l : List ℕ). l ++ left) (take-append-drop size buffer);
-  long = ap length is ∙ length-take-le size buffer h;
-}
+pub held_body : (buffer held : List ℕ) (body : Vec ℕ Global) (head size : ℕ) (o : Option (List ℕ)) → size ≤ length buffer → body.items ≡ take size buffer
+    → held ≡ drop size buffer → IfSome o (λ left. IsBodyAnswer buffer left head size held o (Ok body))
+held_body buffer held body head size o h is behind =
+    gave_none buffer (λ given rest. IsBodyRead given rest head size held (Ok body)) o
+    (λ rest. record {
+      whole = ap (λ (l : List ℕ). l ++ held) is ∙ ap (λ (l : List ℕ). take size buffer ++ l) behind ∙ take-append-drop size buffer;
+      long = ap length is ∙ length-take-le size buffer h;
+    })
 
 -- all that is held is a part of the body
 pub all_taken : (buffer body : List ℕ) → body ≡ take (length buffer) buffer → body ≡ buffer
@@ -124,13 +117,3 @@ all_taken buffer body is = is ∙ take_all (length buffer) buffer (omega arith)
 
 pub none_held : (buffer held : List ℕ) → held ≡ drop (length buffer) buffer → held ≡ []
 none_held buffer held is = is ∙ drop_all (length buffer) buffer (omega arith)
-
-pub rest_body : (buffer first body held : List ℕ) (size : ℕ) (left : List ℕ) (now : Option (List ℕ)) → first ≡ buffer → held ≡ [] → IsBody
-    (first ++ left) body size [] now
-    → IsBody (buffer ++ left) body size held now
-rest_body buffer first body held size left now same none is =
-    subst (λ (h : List ℕ). IsBody (buffer ++ left) body size h now) (sym none) (subst (λ (f : List ℕ). IsBody (f ++ left) body size [] now) same is)
-
-pub rest_fault : (buffer first : List ℕ) (head size : ℕ) (left : List ℕ) (now : Option (List ℕ)) (fault : WireFault) → first ≡ buffer
-    → IsBodyFault (first ++ left) first head size now fault → IsBodyFault (buffer ++ left) buffer head size now fault
-rest_fault buffer first head size left now fault same is = subst (λ (f : List ℕ). IsBodyFault (f ++ left) f head size now fault) same is

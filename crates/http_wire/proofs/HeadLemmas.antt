@@ -88,7 +88,7 @@ no_end_step bytes at none here k h =
     ]
 
 -- a single byte isn't a carriage return where a head ends with it
-end_of_one : (a n : ℕ) → n ≤ 1 → ends_empty (take n (a ∷ [])) ≡ true → a ≡ 10
+pub end_of_one : (a n : ℕ) → n ≤ 1 → ends_empty (take n (a ∷ [])) ≡ true → a ≡ 10
 end_of_one a zero h ends = absurd (true≢false (sym ends))
 end_of_one a (suc zero) h ends = grind (arith, nat_tests, ends)
 end_of_one a (suc (suc n)) h ends = absurd (omega (arith, h))

@@ -4,6 +4,7 @@ pub mod FieldLemmas
 pub mod FrontLemmas
 pub mod HeadLemmas
 pub mod LineLemmas
+pub mod LongerBytes
 pub mod ParsingLemmas
 pub mod PartsLemmas
 pub mod ReadBackLemmas

@@ -23,7 +23,8 @@ use Rattle.http_wire.specs.declared.fault.WireFault.{WireFault}
 use Rattle.http_wire.specs.declared.fault.WireFault.TheVariants.{Ended, Truncated, HeadTooLong, BadHead, Chunked, BadLength, BodyTooLong, ReadFault, NoMemory}
 use Rattle.http_wire.specs.MessageFields.{is_length, stated_number, values_of, closes, length_within, body_length}
 use Rattle.http_wire.specs.MessageHeads.{begins_pair, headed, opening}
-use Rattle.http_wire.specs.Messages.{IsReplyHeadOf, fields_of, first_text, reply_of, with_body, ReadsReplyAt, IsAnswer, IsReplyAnswer}
+use Rattle.http_wire.specs.Messages.{IsReplyHeadOf, fields_of, first_text, reply_of, with_body, ReadsReplyAt, IsReplyAnswer}
+use Rattle.http_wire.proofs.LongerBytes.{IsReplyAnswerOfAll, reply_of_all}
 use Rattle.http_wire.specs.ReadBack.{IsReadable, IsReadBack, as_read}
 use Rattle.http_wire.specs.ReplyText.{phrases, text_beside, phrase, is_visible, is_sendable, sent_type, reply_text, no_memory_reply}
 use Rattle.http_wire.proofs.AnswerLemmas.{le_true, gives_as}
@@ -419,22 +420,26 @@ module _ (reply : Reply) (rest : List ℕ) (readable : IsReadable reply) where
       no_value (as_read reply, rest) fault _ _ refl refl
       (one_reply (reply_text reply ++ rest) (Ok (as_read reply, rest)) (Err fault) (read_back reply rest readable) reads)
 
-  pub call_back : (result : Result Reply WireFault) (held : List ℕ) (left : Option (List ℕ))
-      → IsReplyAnswer (reply_text reply ++ rest) result held left → IsReadBack reply rest result held left
-  unfolding IsAnswer
-  call_back (Ok read) held left answer =
+  answer_back : (result : Result Reply WireFault) (held : List ℕ) (left : Option (List ℕ))
+      → IsReplyAnswerOfAll (reply_text reply ++ rest) result held left → IsReadBack reply rest result held left
+  answer_back (Ok read) held left answer =
       let same = one_value (read, held ++ answer.0) (as_read reply, rest) _ _ refl refl
       (one_reply (reply_text reply ++ rest) (Ok (read, held ++ answer.0)) (Ok (as_read reply, rest)) answer.2 (read_back reply rest readable)) in
       (same.0, (answer.0, answer.1, same.1))
-  call_back (Err ReadFault) held left answer = tt
-  call_back (Err NoMemory) held left answer = tt
-  call_back (Err Ended) held left answer = no_fault Ended answer
-  call_back (Err (Truncated n)) held left answer = no_fault (Truncated n) answer
-  call_back (Err HeadTooLong) held left answer = no_fault HeadTooLong answer
-  call_back (Err BadHead) held left answer = no_fault BadHead answer
-  call_back (Err Chunked) held left answer = no_fault Chunked answer
-  call_back (Err BadLength) held left answer = no_fault BadLength answer
-  call_back (Err (BodyTooLong n)) held left answer = no_fault (BodyTooLong n) answer
+  answer_back (Err ReadFault) held left answer = tt
+  answer_back (Err NoMemory) held left answer = tt
+  answer_back (Err Ended) held left answer = no_fault Ended answer
+  answer_back (Err (Truncated n)) held left answer = no_fault (Truncated n) answer
+  answer_back (Err HeadTooLong) held left answer = no_fault HeadTooLong answer
+  answer_back (Err BadHead) held left answer = no_fault BadHead answer
+  answer_back (Err Chunked) held left answer = no_fault Chunked answer
+  answer_back (Err BadLength) held left answer = no_fault BadLength answer
+  answer_back (Err (BodyTooLong n)) held left answer = no_fault (BodyTooLong n) answer
+
+  pub call_back : (before had : List ℕ) → before ++ had ≡ reply_text reply ++ rest → (result : Result Reply WireFault) (held : List ℕ)
+      (left : Option (List ℕ)) → IsReplyAnswer before had result held left → IsReadBack reply rest result held left
+  call_back before had all result held left answer =
+      answer_back result held left (reply_of_all before had (reply_text reply ++ rest) all result held left answer)
 
 no_memory_length : (close : Bool) → length (reply_text (no_memory_reply close)) ≤ 16384
 no_memory_length true = rw (decimal_507, decimal_27) (omega arith)

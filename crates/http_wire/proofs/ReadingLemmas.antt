@@ -10,10 +10,10 @@ use Rattle.http_wire.specs.declared.fault.WireFault.{WireFault}
 use Rattle.http_wire.specs.declared.fault.WireFault.TheVariants.{Ended, Truncated, HeadTooLong, BadHead, Chunked, BadLength, BodyTooLong, ReadFault, NoMemory}
 use Rattle.http_wire.specs.declared.heads.Look.TheVariants.{Head, Part, TooLong}
 use Rattle.http_wire.specs.declared.heads.Search.{Search}
-use Rattle.http_wire.specs.Filling.{Filled, Grown, IsFillFault}
+use Rattle.http_wire.specs.Filling.{Filled, Gave, Grown, IsFillFault}
 use Rattle.http_wire.specs.MessageHeads.{ends_empty, opening}
 use Rattle.http_wire.specs.Messages.{end_fault}
-use Rattle.http_wire.specs.HeadSearch.{pairs, IsSearch, IsGiven, Shows, EndsIn, IsHeadAnswer, Reaches}
+use Rattle.http_wire.specs.HeadSearch.{pairs, IsSearch, IsGiven, Shows, EndsIn, IsHeadRead, IsHeadAnswer, Reaches}
 
 -- of a source that tells its bytes, one fact gives another
 pub told : (o : Option (List ℕ)) (P Q : List ℕ → Type 0) → ((left : List ℕ) → P left → Q left) → IfSome o P → IfSome o Q
@@ -79,70 +79,111 @@ search_more search w held n was grown = record {
 pub grown_length : (w held : List ℕ) (n : ℕ) → Grown w held n → length held ≡ length w + n
 grown_length w held n grown = omega (arith, ap length grown.behind, length-append w grown.more, grown.count)
 
-pub reached_start : (buffer : List ℕ) (o : Option (List ℕ)) → IfSome o (λ left. Reaches (buffer ++ left) (record { skipped = 0; passed = 0 }) buffer o)
-reached_start buffer None = tt
-reached_start buffer (Some left) = record {
-  given = buffer;
+-- what is read of the bytes that a source gave, step by step
+module _ (before had : List ℕ) (P Q : (given rest : List ℕ) → Type 0) (now : Option (List ℕ)) (was : Gave before had now P) where
+  -- more of the rest was given
+  pub gave_on : (more rest : List ℕ) (after : Option (List ℕ)) → more ++ rest ≡ was.rest → after ≡ Some rest → Q ((before ++ was.more) ++ more) rest
+      → Gave before had after Q
+  gave_on more rest after gave left read = record {
+    more = was.more ++ more;
+    rest = rest;
+    gave = append_assoc was.more more rest ∙ ap (λ (l : List ℕ). was.more ++ l) gave ∙ was.gave;
+    left_is = left;
+    read = subst (λ (l : List ℕ). Q l rest) (append_assoc before was.more more) read;
+  }
+
+  -- nothing more was given
+  pub gave_still : (after : Option (List ℕ)) → after ≡ now → ((given rest : List ℕ) → P given rest → Q given rest) → Gave before had after Q
+  gave_still after same so = record {
+    more = was.more;
+    rest = was.rest;
+    gave = was.gave;
+    left_is = same ∙ was.left_is;
+    read = so (before ++ was.more) was.rest was.read;
+  }
+
+  pub gave_as : ((given rest : List ℕ) → P given rest → Q given rest) → Gave before had now Q
+  gave_as so = gave_still now refl so
+
+  -- a call went on behind these bytes
+  pub gave_then : (held : List ℕ) (R : (given rest : List ℕ) → Type 0) (after : Option (List ℕ)) → IfSome now (λ left. Gave held left after R)
+      → ((given rest more last : List ℕ) → P given rest → R (held ++ more) last → Q (given ++ more) last) → Gave before had after Q
+  gave_then held R after goes both =
+      let next : Gave held was.rest after R = subst (λ (o : Option (List ℕ)). IfSome o (λ left. Gave held left after R)) was.left_is goes in
+      let read : Q ((before ++ was.more) ++ next.more) next.rest = both (before ++ was.more) was.rest next.more next.rest was.read next.read in
+      gave_on next.more next.rest after next.gave next.left_is read
+
+-- nothing was given yet
+pub gave_none : (before : List ℕ) (P : (given rest : List ℕ) → Type 0) (o : Option (List ℕ)) → ((rest : List ℕ) → P before rest)
+    → IfSome o (λ left. Gave before left o P)
+gave_none before P None read = tt
+gave_none before P (Some left) read = record {
+  more = [];
   rest = left;
-  come = record { count = 0; skipped = refl; whole = refl };
+  gave = refl;
   left_is = refl;
-  whole = refl;
+  read = subst (λ (l : List ℕ). P l left) (sym (append-nil before)) (read left);
 }
 
-module _ (bytes : List ℕ) (search next : Search) (w held : List ℕ) (now : Option (List ℕ)) (reached : Reaches bytes search w now) where
-  -- a head came
-  pub head_answer : (n : ℕ) → ((given : List ℕ) → IsGiven given search w → Shows given next held (Head n)) → IsHeadAnswer bytes held now (Ok n)
-  unfolding IsHeadAnswer
-  head_answer n shows =
-      let shown = shows reached.given reached.come in
-      record {
-        within = shown.0;
-        given = reached.given;
-        rest = reached.rest;
-        left_is = reached.left_is;
-        whole = reached.whole;
-        opens = shown.1;
-      }
+pub reached_start : (buffer : List ℕ) (o : Option (List ℕ)) → IfSome o (λ left. Reaches buffer left (record { skipped = 0; passed = 0 }) buffer o)
+reached_start buffer o =
+    gave_none buffer (λ given rest. IsGiven given (record { skipped = 0; passed = 0 }) buffer) o (λ rest. record { count = 0; skipped = refl; whole = refl })
 
-  pub long_answer : ((given : List ℕ) → IsGiven given search w → Shows given next held TooLong) → IsHeadAnswer bytes held now (Err HeadTooLong)
-  unfolding IsHeadAnswer
-  long_answer shows = ap opening (sym reached.whole) ∙ shows reached.given reached.come reached.rest
+module _ (before had : List ℕ) (search next : Search) (w held : List ℕ) (now : Option (List ℕ)) (reached : Reaches before had search w now) where
+  abbrev Come : (given rest : List ℕ) → Type 0
+  Come given rest = IsGiven given search w
+
+  -- a head came
+  pub head_answer : (n : ℕ) → ((given : List ℕ) → IsGiven given search w → Shows given next held (Head n)) → IsHeadAnswer before had held now (Ok n)
+  unfolding IsHeadRead
+  head_answer n shows =
+      gave_as before had Come (λ given rest. IsHeadRead given held rest (Ok n)) now reached
+      (λ given rest come. let shown = shows given come in record { within = shown.0; opens = shown.1 })
+
+  pub long_answer : ((given : List ℕ) → IsGiven given search w → Shows given next held TooLong) → IsHeadAnswer before had held now (Err HeadTooLong)
+  unfolding IsHeadRead
+  long_answer shows =
+      gave_as before had Come (λ given rest. IsHeadRead given held rest (Err HeadTooLong)) now reached
+      (λ given rest come. ap opening (sym (append-nil given)) ∙ shows given come [])
 
   module _ (shows : (given : List ℕ) → IsGiven given search w → Shows given next held Part) where
-    -- more came behind a part
-    pub part_more : (more : List ℕ) (after : Option (List ℕ)) (n : ℕ) → IfSome now (Filled held more after n) → Reaches bytes next more after
-    part_more more after n fills =
-        let fill : Filled held more after n reached.rest = subst (λ (o : Option (List ℕ)). IfSome o (Filled held more after n)) reached.left_is fills in
-        let come = (shows reached.given reached.come).0 in
-        record {
-          given = reached.given ++ take n reached.rest;
-          rest = drop n reached.rest;
-          come = record {
+    module _ (more : List ℕ) (after : Option (List ℕ)) (n : ℕ) (fills : IfSome now (Filled held more after n)) where
+      fill : Filled held more after n reached.rest
+      fill = subst (λ (o : Option (List ℕ)). IfSome o (Filled held more after n)) reached.left_is fills
+
+      -- more came behind a part
+      pub part_more : Reaches before had next more after
+      part_more =
+          let come = (shows (before ++ reached.more) reached.read).0 in
+          gave_on before had Come (λ given rest. IsGiven given next more) now reached (take n reached.rest) (drop n reached.rest) after
+          (take-append-drop n reached.rest) fill.rest
+          (record {
             count = come.count;
             skipped = come.skipped;
             whole = ap (λ (l : List ℕ). l ++ take n reached.rest) come.whole ∙ append_assoc (pairs come.count) held (take n reached.rest)
                 ∙ ap (λ (l : List ℕ). pairs come.count ++ l) (sym fill.held);
-          };
-          left_is = fill.rest;
-          whole = append_assoc reached.given (take n reached.rest) (drop n reached.rest)
-              ∙ ap (λ (l : List ℕ). reached.given ++ l) (take-append-drop n reached.rest) ∙ reached.whole;
-        }
+          })
 
-    -- nothing was left behind a part
-    pub part_end : (more : List ℕ) (after : Option (List ℕ)) (n : ℕ) → n ≡ 0 → IfSome now (Filled held more after n) → EndsIn bytes (end_fault more)
-    part_end more after n none fills =
-        let fill : Filled held more after n reached.rest = subst (λ (o : Option (List ℕ)). IfSome o (Filled held more after n)) reached.left_is fills in
-        let ended : reached.rest ≡ [] = fill.end none in
-        let all : bytes ≡ reached.given = sym reached.whole ∙ ap (λ (l : List ℕ). reached.given ++ l) ended ∙ append-nil reached.given in
-        let same : more ≡ held = fill.held ∙ ap (λ (i : ℕ). held ++ take i reached.rest) none ∙ append-nil held in
-        (held, ap opening all ∙ (shows reached.given reached.come).1, ap end_fault same)
+      -- nothing was left behind a part
+      pub part_end : n ≡ 0 → Gave before had after (λ given rest. EndsIn given (end_fault more) × (rest ≡ []))
+      part_end none =
+          let ended : reached.rest ≡ [] = fill.end none in
+          let same : more ≡ held = fill.held ∙ ap (λ (i : ℕ). held ++ take i reached.rest) none ∙ append-nil held in
+          gave_on before had Come (λ given rest. EndsIn given (end_fault more) × (rest ≡ [])) now reached [] (drop n reached.rest) after
+          (ap (λ (i : ℕ). drop i reached.rest) none) fill.rest (
+            (held, ap opening (append-nil (before ++ reached.more)) ∙ (shows (before ++ reached.more) reached.read).1, ap end_fault same),
+            ap (λ (i : ℕ). drop i reached.rest) none ∙ ended,
+          )
 
     -- the read behind a part was refused
-    pub part_fault : (more : List ℕ) (after : Option (List ℕ)) (fault : WireFault) → IsFillFault now after fault → IsHeadAnswer bytes more after (Err fault)
-    unfolding IsHeadAnswer
+    pub part_fault : (more : List ℕ) (after : Option (List ℕ)) (fault : WireFault) → IsFillFault now after fault
+        → IsHeadAnswer before had more after (Err fault)
+    unfolding IsHeadRead
     part_fault more after ReadFault same =
-        (reached.given, reached.rest, reached.whole, same ∙ reached.left_is, (held, (shows reached.given reached.come).1))
-    part_fault more after NoMemory same = tt
+        gave_still before had Come (λ given rest. IsHeadRead given more rest (Err ReadFault)) now reached after same
+        (λ given rest come. (held, (shows given come).1))
+    part_fault more after NoMemory same =
+        gave_still before had Come (λ given rest. IsHeadRead given more rest (Err NoMemory)) now reached after same (λ given rest come. tt)
     part_fault more after Ended same = absurd same
     part_fault more after (Truncated n) same = absurd same
     part_fault more after HeadTooLong same = absurd same
@@ -154,14 +195,20 @@ module _ (bytes : List ℕ) (search next : Search) (w held : List ℕ) (now : Op
 not_zero : (n : ℕ) → (suc n == 0) ≡ false
 not_zero n = grind (arith, nat_tests)
 
--- the fault of an end is an answer
-pub end_answer : (bytes part held : List ℕ) (now : Option (List ℕ)) → EndsIn bytes (end_fault part) → IsHeadAnswer bytes held now (Err (end_fault part))
-unfolding IsHeadAnswer
-end_answer bytes [] held now ends = ends
-end_answer bytes (b ∷ part) held now ends =
+-- the fault of an end is read
+end_read : (given part held rest : List ℕ) → EndsIn given (end_fault part) × (rest ≡ []) → IsHeadRead given held rest (Err (end_fault part))
+unfolding IsHeadRead
+end_read given [] held rest ends = ends
+end_read given (b ∷ part) held rest ends =
     let some : (length (b ∷ part) == 0) ≡ false = not_zero (length part) in
     let e : end_fault (b ∷ part) ≡ Truncated (length (b ∷ part)) = ap (λ (t : Bool). if t then Ended else Truncated (length (b ∷ part))) some in
-    subst (λ (f : WireFault). EndsIn bytes f → IsHeadAnswer bytes held now (Err f)) (sym e) (λ x. x) ends
+    subst (λ (f : WireFault). EndsIn given f × (rest ≡ []) → IsHeadRead given held rest (Err f)) (sym e) (λ x. x) ends
+
+pub end_answer : (before had part held : List ℕ) (now : Option (List ℕ)) (fault : WireFault) → fault ≡ end_fault part
+    → Gave before had now (λ given rest. EndsIn given (end_fault part) × (rest ≡ [])) → IsHeadAnswer before had held now (Err fault)
+end_answer before had part held now fault is ends =
+    gave_as before had (λ given rest. EndsIn given (end_fault part) × (rest ≡ [])) (λ given rest. IsHeadRead given held rest (Err fault)) now ends
+    (λ given rest end. subst (λ (f : WireFault). IsHeadRead given held rest (Err f)) (sym is) (end_read given part held rest end))
 
 -- a part of a list that was made longer
 pub range_longer : (xs more : List ℕ) (n start end : ℕ) → start ≤ end → end ≤ length xs → length xs ≤ n
@@ -179,8 +226,3 @@ range_copied xs start end h =
     let from : m - 0 ≡ m = omega arith in
     ap (λ (i : ℕ). take i (take m (drop start xs) ++ drop (0 + m) xs)) from
     ∙ take-append-le m (take m (drop start xs)) (drop (0 + m) xs) (omega (arith, long)) ∙ take_all m (take m (drop start xs)) (omega (arith, long))
-
--- an answer with an equal fault
-pub answer_as : (bytes held : List ℕ) (now : Option (List ℕ)) (a b : WireFault) → a ≡ b → IsHeadAnswer bytes held now (Err b)
-    → IsHeadAnswer bytes held now (Err a)
-answer_as bytes held now a b is answer = subst (λ (f : WireFault). IsHeadAnswer bytes held now (Err f)) (sym is) answer

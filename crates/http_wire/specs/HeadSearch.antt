@@ -1,11 +1,12 @@
 -- How the end of a head is searched for.
-use Rattle.std.specs.Prelude.{◌≡◌, ◌≤◌, ◌<◌, ◌+◌, ◌*◌, ℕ, zero, suc, true, false, List, [], ◌∷◌, ◌++◌, length, take, drop, Option, Some, Result, Ok, Err, ⊤}
+use Rattle.std.specs.Prelude.{◌≡◌, ◌≤◌, ◌<◌, ◌+◌, ◌*◌, ℕ, zero, suc, true, false, List, [], ◌∷◌, ◌++◌, length, take, drop, Option, Result, Ok, Err, ⊤}
 use Rattle.http_wire.specs.declared.fault.WireFault.{WireFault}
 use Rattle.http_wire.specs.declared.fault.WireFault.TheVariants.{Ended, Truncated, HeadTooLong, BadHead, Chunked, BadLength, BodyTooLong, ReadFault, NoMemory}
 use Rattle.http_wire.specs.declared.heads.Look.{Look}
 use Rattle.http_wire.specs.declared.heads.Look.TheVariants.{Head, Part, TooLong}
 use Rattle.http_wire.specs.declared.heads.Search.{Search}
 use Rattle.http_wire.specs.Messages.{end_fault}
+use Rattle.http_wire.specs.Filling.{Gave}
 use Rattle.http_wire.specs.MessageHeads.{ends_empty, headed, too_long, unended, opening}
 
 -- none of the fronts of up to so many bytes ends with an empty line
@@ -53,34 +54,28 @@ abbrev pub EndsIn : List ℕ → WireFault → Type 0
 EndsIn bytes fault = (part : List ℕ) × (opening bytes ≡ unended part) × (fault ≡ end_fault part)
 
 -- a head of so many bytes stands at the front of what is held: so begin the bytes given, whatever follows
-pub record HeadCame (bytes held : List ℕ) (left : Option (List ℕ)) (n : ℕ) : Type 0 where
+pub record HeadCame (given held : List ℕ) (n : ℕ) : Type 0 where
   pub within : n ≤ length held
-  pub given : List ℕ
-  pub rest : List ℕ
-  pub left_is : left ≡ Some rest
-  pub whole : given ++ rest ≡ bytes
   pub opens : (more : List ℕ) → opening (given ++ more) ≡ headed (take n held) (drop n held ++ more)
 
--- What the reading of a head answers: it stands at the front of what is held; or it is too long, or ended, or the
--- source failed where no more than a part of one was given.
-unfoldable pub IsHeadAnswer : List ℕ → List ℕ → Option (List ℕ) → Result ℕ WireFault → Type 0
-IsHeadAnswer bytes held left (Ok n) =
-    HeadCame bytes held left n
-IsHeadAnswer bytes held left (Err HeadTooLong) = opening bytes ≡ too_long
-IsHeadAnswer bytes held left (Err Ended) = EndsIn bytes Ended
-IsHeadAnswer bytes held left (Err (Truncated n)) = EndsIn bytes (Truncated n)
-IsHeadAnswer bytes held left (Err ReadFault) =
-    (given : List ℕ) × (rest : List ℕ) × (given ++ rest ≡ bytes) × (left ≡ Some rest) × ((part : List ℕ) × (opening given ≡ unended part))
-IsHeadAnswer bytes held left (Err NoMemory) = ⊤
-IsHeadAnswer bytes held left (Err BadHead) = ⊥
-IsHeadAnswer bytes held left (Err Chunked) = ⊥
-IsHeadAnswer bytes held left (Err BadLength) = ⊥
-IsHeadAnswer bytes held left (Err (BodyTooLong n)) = ⊥
+-- What is read of a head in bytes that were given, of which these are held: it stands at their front; or it is too long, or ended, where
+-- nothing was left to give; or the source failed where no more than a part of one was given.
+unfoldable pub IsHeadRead : (given held rest : List ℕ) → Result ℕ WireFault → Type 0
+IsHeadRead given held rest (Ok n) = HeadCame given held n
+IsHeadRead given held rest (Err HeadTooLong) = opening given ≡ too_long
+IsHeadRead given held rest (Err Ended) = EndsIn given Ended × (rest ≡ [])
+IsHeadRead given held rest (Err (Truncated n)) = EndsIn given (Truncated n) × (rest ≡ [])
+IsHeadRead given held rest (Err ReadFault) = (part : List ℕ) × (opening given ≡ unended part)
+IsHeadRead given held rest (Err NoMemory) = ⊤
+IsHeadRead given held rest (Err BadHead) = ⊥
+IsHeadRead given held rest (Err Chunked) = ⊥
+IsHeadRead given held rest (Err BadLength) = ⊥
+IsHeadRead given held rest (Err (BodyTooLong n)) = ⊥
 
--- the same while it goes on: the bytes that were given, and those that are left
-pub record Reaches (bytes : List ℕ) (search : Search) (held : List ℕ) (left : Option (List ℕ)) : Type 0 where
-  pub given : List ℕ
-  pub rest : List ℕ
-  pub come : IsGiven given search held
-  pub left_is : left ≡ Some rest
-  pub whole : given ++ rest ≡ bytes
+-- what the reading of a head answers
+abbrev pub IsHeadAnswer : (before had held : List ℕ) → Option (List ℕ) → Result ℕ WireFault → Type 0
+IsHeadAnswer before had held left answer = Gave before had left (λ given rest. IsHeadRead given held rest answer)
+
+-- the same while it goes on
+abbrev pub Reaches : (before had : List ℕ) → Search → (held : List ℕ) → Option (List ℕ) → Type 0
+Reaches before had search held left = Gave before had left (λ given rest. IsGiven given search held)

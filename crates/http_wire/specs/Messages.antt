@@ -1,5 +1,5 @@
 -- The message at the front of a list of bytes, or its first fault.
-use Rattle.std.specs.Prelude.{◌≡◌, ◌≤◌, ◌⊎◌, ◌==◌, ◌+◌, ℕ, nat_le, if◌then◌else◌, codes, List, [], ◌∷◌, ◌++◌, length, map, take, drop, Option, Some}
+use Rattle.std.specs.Prelude.{◌≡◌, ◌≤◌, ◌⊎◌, ◌==◌, ◌+◌, ℕ, nat_le, if◌then◌else◌, codes, List, [], ◌∷◌, length, map, take, drop, Option, Some}
 use Rattle.std.specs.Prelude.{None, Result, Ok, Err, ⊤}
 use Rattle.std.specs.Str.{is_utf8}
 use Rattle.httparse.specs.Grammar.{RequestHead, ReadsRequest, ResponseHead, ReadsResponse, status_code, field_value}
@@ -10,6 +10,7 @@ use Rattle.http_wire.specs.declared.message.Reply.{Reply}
 use Rattle.http_wire.specs.declared.fault.WireFault.{WireFault}
 use Rattle.http_wire.specs.declared.fault.WireFault.TheVariants.{Ended, Truncated, HeadTooLong, BadHead, Chunked, BadLength, BodyTooLong, ReadFault, NoMemory}
 use Rattle.http_wire.specs.MessageFields.{values_of, closes, body_length}
+use Rattle.http_wire.specs.Filling.{Gave}
 use Rattle.http_wire.specs.MessageHeads.{Opening, headed, too_long, unended, opening}
 
 -- the fields of a head: each with its name, and its value without the blanks around it
@@ -79,26 +80,37 @@ module _ {Head Message : Type 0} (IsHeadOf : List ℕ → Head → Type 0) (fiel
   abbrev pub IsUnfinished : List ℕ → Type 0
   IsUnfinished bytes = Reads bytes (Err Ended) ⊎ ((n : ℕ) × Reads bytes (Err (Truncated n)))
 
-  -- What a call answers that reads these bytes, those held first and those of the source behind them, and which bytes
-  -- are held and left then.
-  unfoldable pub IsAnswer : List ℕ → Result Message WireFault → List ℕ → Option (List ℕ) → Type 0
-  IsAnswer bytes (Ok message) held left = (rest : List ℕ) × (left ≡ Some rest) × Reads bytes (Ok (message, held ++ rest))
-  IsAnswer bytes (Err NoMemory) held left = ⊤
-  IsAnswer bytes (Err ReadFault) held left = (given : List ℕ) × (rest : List ℕ) × (given ++ rest ≡ bytes) × (left ≡ Some rest) × IsUnfinished given
-  IsAnswer bytes (Err Ended) held left = Reads bytes (Err Ended)
-  IsAnswer bytes (Err (Truncated n)) held left = Reads bytes (Err (Truncated n))
-  IsAnswer bytes (Err HeadTooLong) held left = Reads bytes (Err HeadTooLong)
-  IsAnswer bytes (Err BadHead) held left = Reads bytes (Err BadHead)
-  IsAnswer bytes (Err Chunked) held left = Reads bytes (Err Chunked)
-  IsAnswer bytes (Err BadLength) held left = Reads bytes (Err BadLength)
-  IsAnswer bytes (Err (BodyTooLong n)) held left = Reads bytes (Err (BodyTooLong n))
+  -- WHAT IS READ of bytes that were given, of which these are held behind the message: the message at their front; or their first fault,
+  -- and where that is that they end, nothing was left to give; or, where the source failed, that no whole message stands in them
+  unfoldable pub IsReadOf : (given : List ℕ) → Result Message WireFault → (held rest : List ℕ) → Type 0
+  IsReadOf given (Ok message) held rest = Reads given (Ok (message, held))
+  IsReadOf given (Err NoMemory) held rest = ⊤
+  IsReadOf given (Err ReadFault) held rest = IsUnfinished given
+  IsReadOf given (Err Ended) held rest = Reads given (Err Ended) × (rest ≡ [])
+  IsReadOf given (Err (Truncated n)) held rest = Reads given (Err (Truncated n)) × (rest ≡ [])
+  IsReadOf given (Err HeadTooLong) held rest = Reads given (Err HeadTooLong)
+  IsReadOf given (Err BadHead) held rest = Reads given (Err BadHead)
+  IsReadOf given (Err Chunked) held rest = Reads given (Err Chunked)
+  IsReadOf given (Err BadLength) held rest = Reads given (Err BadLength)
+  IsReadOf given (Err (BodyTooLong n)) held rest = Reads given (Err (BodyTooLong n))
+
+  -- WHAT A CALL ANSWERS that reads: these bytes were held before, and the source had those; it gave the first of them, and has the rest
+  -- left; and this is read of all that was given
+  abbrev pub IsAnswer : (before had : List ℕ) → Result Message WireFault → (held : List ℕ) → (left : Option (List ℕ)) → Type 0
+  IsAnswer before had answer held left = Gave before had left (λ given rest. IsReadOf given answer held rest)
+
+-- a fault that stays one whatever comes behind the bytes: any but that they end
+abbrev pub Stays : WireFault → Type 0
+Stays Ended = ⊥
+Stays (Truncated n) = ⊥
+Stays fault = ⊤
 
 -- what the bytes give as a request, with a body of at most 67,108,864 bytes
 abbrev pub ReadsRequestAt : List ℕ → Result (Request × List ℕ) WireFault → Type 0
 ReadsRequestAt = Reads IsRequestHeadOf (λ (head : RequestHead). fields_of head.fields) request_of (Some 67108864)
 
 -- what a call answers that reads a request
-abbrev pub IsRequestAnswer : List ℕ → Result Request WireFault → List ℕ → Option (List ℕ) → Type 0
+abbrev pub IsRequestAnswer : (before had : List ℕ) → Result Request WireFault → (held : List ℕ) → (left : Option (List ℕ)) → Type 0
 IsRequestAnswer = IsAnswer IsRequestHeadOf (λ (head : RequestHead). fields_of head.fields) request_of (Some 67108864)
 
 -- what the bytes give as a reply, whose body has no limit
@@ -106,5 +118,5 @@ abbrev pub ReadsReplyAt : List ℕ → Result (Reply × List ℕ) WireFault → 
 ReadsReplyAt = Reads IsReplyHeadOf (λ (head : ResponseHead). fields_of head.fields) reply_of None
 
 -- what a call answers that reads a reply
-abbrev pub IsReplyAnswer : List ℕ → Result Reply WireFault → List ℕ → Option (List ℕ) → Type 0
+abbrev pub IsReplyAnswer : (before had : List ℕ) → Result Reply WireFault → (held : List ℕ) → (left : Option (List ℕ)) → Type 0
 IsReplyAnswer = IsAnswer IsReplyHeadOf (λ (head : ResponseHead). fields_of head.fields) reply_of None

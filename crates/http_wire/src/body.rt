@@ -1,5 +1,5 @@
 //! The body behind a head.
-ghost use Rattle.std.specs.Prelude.{◌≡◌, ◌≤◌, ◌<◌, ◌++◌, IfOk, IfSome, OnOk, drop, length, take, vec_len};
+ghost use Rattle.std.specs.Prelude.{◌≡◌, ◌≤◌, ◌<◌, IfOk, IfSome, OnOk, drop, length, take, vec_len};
 ghost use Rattle.http_wire.specs.BodyReading.{IsBodyAnswer, IsRestAnswer};
 ghost use Rattle.http_wire.specs.Filling.{HasReadCause};
 
@@ -21,7 +21,7 @@ pub(crate) fn read_body<S: Source>(
 ) -> Result<Vec<u8>, WireFault>
     requires { head ≤ 16384 }
     ensures read { IfSome (S.left source.old)
-        (λ left. IsBodyAnswer (buffer.old ++ left) buffer.old head size buffer.new (S.left source.new) result) }
+        (λ left. IsBodyAnswer buffer.old left head size buffer.new (S.left source.new) result) }
     ensures cause { HasReadCause (S.faults source.old) (S.faults source.new) result }
 {
     if size <= buffer.held().len() as u64 {
@@ -63,8 +63,7 @@ fn read_rest<S: Source>(
     requires head { head ≤ 16384 }
     requires part { vec_len body.old ≤ size }
     ensures read { IfSome (S.left source.old)
-        (λ left. IsRestAnswer (body.old.items ++ left) body.old.items head size body.new.items
-        (S.left source.new) result) }
+        (λ left. IsRestAnswer body.old.items left head size body.new.items (S.left source.new) result) }
     ensures cause { HasReadCause (S.faults source.old) (S.faults source.new) result }
 {
     let mut came = body.len();

@@ -102,7 +102,7 @@ fn search_on(buffer: &mut Buffer, search: &mut Search) -> Look
 /// how many bytes it has.
 pub(crate) fn read_head<S: Source>(source: &mut S, buffer: &mut Buffer) -> Result<usize, WireFault>
     ensures read { IfSome (S.left source.old)
-        (λ left. IsHeadAnswer (buffer.old ++ left) buffer.new (S.left source.new) result) }
+        (λ left. IsHeadAnswer buffer.old left buffer.new (S.left source.new) result) }
     ensures within { IfOk result (λ n. n ≤ length buffer.new) }
     ensures cause { HasReadCause (S.faults source.old) (S.faults source.new) result }
 {

@@ -1,5 +1,5 @@
 //! Requests are read.
-ghost use Rattle.std.specs.Prelude.{◌≡◌, ◌≤◌, ◌++◌, [], IfOk, IfSome, MatchOption, All, length, map, take, true};
+ghost use Rattle.std.specs.Prelude.{◌≡◌, ◌≤◌, [], IfOk, IfSome, MatchOption, All, length, map, take, true};
 ghost use Rattle.std.specs.Str.{is_utf8};
 ghost use Rattle.httparse.specs.Spans.{IsHeaderWithin, header_bytes};
 ghost use Rattle.http_wire.specs.Filling.{HasReadCause};
@@ -31,7 +31,7 @@ pub fn read_request<S: Source>(
     buffer: &mut Buffer,
 ) -> Result<Request, WireFault>
     ensures read { IfSome (S.left source.old)
-        (λ left. IsRequestAnswer (buffer.old ++ left) result buffer.new (S.left source.new)) }
+        (λ left. IsRequestAnswer buffer.old left result buffer.new (S.left source.new)) }
     ensures cause { HasReadCause (S.faults source.old) (S.faults source.new) result }
 {
     let head = match read_head(source, buffer) {

@@ -1,5 +1,5 @@
 //! Replies are read.
-ghost use Rattle.std.specs.Prelude.{◌≡◌, ◌≤◌, ◌++◌, [], IfOk, IfSome, MatchOption, length, take};
+ghost use Rattle.std.specs.Prelude.{◌≡◌, ◌≤◌, [], IfOk, IfSome, MatchOption, length, take};
 ghost use Rattle.httparse.specs.Grammar.{ResponseHead, status_code};
 ghost use Rattle.http_wire.specs.Filling.{HasReadCause};
 ghost use Rattle.http_wire.specs.Messages.{IsReplyHeadOf, IsReplyAnswer, fields_of, reply_of};
@@ -25,7 +25,7 @@ pub fn read_reply<S: Source>(
     buffer: &mut Buffer,
 ) -> Result<Reply, WireFault>
     ensures read { IfSome (S.left source.old)
-        (λ left. IsReplyAnswer (buffer.old ++ left) result buffer.new (S.left source.new)) }
+        (λ left. IsReplyAnswer buffer.old left result buffer.new (S.left source.new)) }
     ensures cause { HasReadCause (S.faults source.old) (S.faults source.new) result }
 {
     let head = match read_head(source, buffer) {

@@ -3,7 +3,8 @@ use Rattle.std.proofs.Common.{◌≡◌, ℕ, Bool, true, false, nat_lt, List, �
 use Rattle.http_wire.specs.declared.message.Request.{Request}
 use Rattle.http_wire.specs.declared.fault.WireFault.{WireFault}
 use Rattle.http_wire.specs.declared.fault.WireFault.TheVariants.{Ended, Truncated, HeadTooLong, BadHead, Chunked, BadLength, BodyTooLong, ReadFault, NoMemory}
-use Rattle.http_wire.specs.Messages.{IsAnswer, IsRequestAnswer, ReadsRequestAt}
+use Rattle.http_wire.specs.Messages.{IsRequestAnswer, ReadsRequestAt}
+use Rattle.http_wire.proofs.LongerBytes.{IsRequestAnswerOfAll, request_of_all}
 use Rattle.http_wire.proofs.UniqueLemmas.{one_request}
 use Rattle.lakectl_words.specs.WireRequests.{head_text}
 use Rattle.lakectl_requests.specs.SentReadings.{IsSentAnswer, read_back}
@@ -42,17 +43,21 @@ module _ (r : Request) (rest : List ℕ) where
         true≢false (sym (of_limit (nat_lt 16384 (length (head_text r))) (nat_lt 67108864 (length r.body)) fault
         (one_request bytes (read_back r rest) (Err fault) reads reads_fault)) ∙ other)
 
-    pub call_answer : (result : Result Request WireFault) (held : List ℕ) (left : Option (List ℕ))
-        → IsRequestAnswer bytes result held left → IsSentAnswer r rest result held left
-    unfolding IsAnswer
-    call_answer (Ok read) held left answer =
+    answer_of_bytes : (result : Result Request WireFault) (held : List ℕ) (left : Option (List ℕ))
+        → IsRequestAnswerOfAll bytes result held left → IsSentAnswer r rest result held left
+    answer_of_bytes (Ok read) held left answer =
         (answer.0, answer.1, one_request bytes (read_back r rest) (Ok (read, held ++ answer.0)) reads answer.2)
-    call_answer (Err ReadFault) held left answer = tt
-    call_answer (Err NoMemory) held left answer = tt
-    call_answer (Err HeadTooLong) held left answer = one_request bytes (read_back r rest) (Err HeadTooLong) reads answer
-    call_answer (Err (BodyTooLong n)) held left answer = one_request bytes (read_back r rest) (Err (BodyTooLong n)) reads answer
-    call_answer (Err Ended) held left answer = no_other Ended refl answer
-    call_answer (Err (Truncated n)) held left answer = no_other (Truncated n) refl answer
-    call_answer (Err BadHead) held left answer = no_other BadHead refl answer
-    call_answer (Err Chunked) held left answer = no_other Chunked refl answer
-    call_answer (Err BadLength) held left answer = no_other BadLength refl answer
+    answer_of_bytes (Err ReadFault) held left answer = tt
+    answer_of_bytes (Err NoMemory) held left answer = tt
+    answer_of_bytes (Err HeadTooLong) held left answer = one_request bytes (read_back r rest) (Err HeadTooLong) reads answer
+    answer_of_bytes (Err (BodyTooLong n)) held left answer = one_request bytes (read_back r rest) (Err (BodyTooLong n)) reads answer
+    answer_of_bytes (Err Ended) held left answer = no_other Ended refl answer
+    answer_of_bytes (Err (Truncated n)) held left answer = no_other (Truncated n) refl answer
+    answer_of_bytes (Err BadHead) held left answer = no_other BadHead refl answer
+    answer_of_bytes (Err Chunked) held left answer = no_other Chunked refl answer
+    answer_of_bytes (Err BadLength) held left answer = no_other BadLength refl answer
+
+    pub call_answer : (before had : List ℕ) → before ++ had ≡ bytes → (result : Result Request WireFault) (held : List ℕ) (left : Option (List ℕ))
+        → IsRequestAnswer before had result held left → IsSentAnswer r rest result held left
+    call_answer before had all result held left answer =
+        answer_of_bytes result held left (request_of_all before had bytes all result held left answer)

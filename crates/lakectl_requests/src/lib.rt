@@ -24,10 +24,10 @@ pub fn law_of_sent_requests()
         (rest : List ℕ) → sent host words files ≡ Some request → IsFieldValue host → length request.body < 10 ^ 19
         → ReadsRequestAt (request_text request ++ rest) (read_back request rest) }
     ensures call { (host : List ℕ) (words : List (List ℕ)) (files : List ℕ → Option (List ℕ)) (request : Request)
-        (rest : List ℕ) (result : Result Request WireFault) (held : List ℕ) (left : Option (List ℕ))
+        (rest before had : List ℕ) (result : Result Request WireFault) (held : List ℕ) (left : Option (List ℕ))
         → sent host words files ≡ Some request → IsFieldValue host → length request.body < 10 ^ 19
-        → IsRequestAnswer (request_text request ++ rest) result held left
-        → IsSentAnswer request rest result held left }
+        → before ++ had ≡ request_text request ++ rest
+        → IsRequestAnswer before had result held left → IsSentAnswer request rest result held left }
     ensures host { (host : List ℕ) (words : List (List ℕ)) (files : List ℕ → Option (List ℕ)) (request : Request)
         (rest left : List ℕ) → sent host words files ≡ Some request
         → ReadsRequestAt (request_text request ++ rest) (Ok (request, left)) → IsFieldValue host }

@@ -19,8 +19,9 @@ returns-clause-sent c host words files request rest sends may short =
     reads_back request (made_plain host is.user is.kind request is.made may short) rest
 
 pub returns-clause-call : goal.returns-clause-call
-returns-clause-call c host words files request rest result held left sends may short answer =
-    call_answer request rest (request_text request ++ rest) (returns-clause-sent c host words files request rest sends may short) result held left answer
+returns-clause-call c host words files request rest before had result held left sends may short all answer =
+    call_answer request rest (request_text request ++ rest) (returns-clause-sent c host words files request rest sends may short) before had all result
+    held left answer
 
 pub returns-clause-host : goal.returns-clause-host
 returns-clause-host c host words files request rest left sends reads =

@@ -1,5 +1,5 @@
-use Rattle.std.proofs.Common.{◌++◌, ◌<◌, arith}
-use Rattle.http_wire.proofs.ReadingLemmas.{told, reached_start, head_answer, long_answer, part_more, part_end, part_fault, end_answer, answer_as}
+use Rattle.std.proofs.Common.{◌<◌, arith}
+use Rattle.http_wire.proofs.ReadingLemmas.{told, reached_start, head_answer, long_answer, part_more, part_end, part_fault, end_answer}
 use Rattle.http_wire.proofs.ReadingLemmas.{search_more, grown_length}
 use Rattle.http_wire.proofs.SearchLemmas.{none_at_start}
 use Rattle.http_wire.proofs.heads.read_head.Goals as goal
@@ -14,32 +14,30 @@ reading-init g c = record {
 pub reading-preserved : goal.reading-preserved
 reading-preserved g c = record {
   search = search_more c.search_on.new.search c.search_on.new.buffer c.fill.new.self c.in-Ok.field-0 c.in-Part.ensures.passes.0 c.in-Ok.ensures.grown;
-  told = told _ _ _ (λ left reached. part_more _ c.reading.search c.search_on.new.search c.reading.buffer c.search_on.new.buffer _ reached
-      c.in-Part.ensures.shows c.fill.new.self _ _ c.in-Ok.ensures.reads) c.reading.invariant.told;
+  told = told _ _ _ (λ left reached. part_more c.args.buffer.now left c.reading.search c.search_on.new.search c.reading.buffer c.search_on.new.buffer _
+      reached c.in-Part.ensures.shows c.fill.new.self _ _ c.in-Ok.ensures.reads) c.reading.invariant.told;
   later = omega (arith, c.reading.invariant.later, c.fill.ensures.cause.later);
 }
 
 pub returns-in-Head-clause-read : goal.returns-in-Head-clause-read
 returns-in-Head-clause-read g c =
-    told _ _ _ (λ left reached. head_answer _ c.reading.search c.search_on.new.search c.reading.buffer c.search_on.new.buffer _ reached c.in-Head.end
-    c.in-Head.ensures.shows) c.reading.invariant.told
+    told _ _ _ (λ left reached. head_answer c.args.buffer.now left c.reading.search c.search_on.new.search c.reading.buffer c.search_on.new.buffer _ reached
+    c.in-Head.end c.in-Head.ensures.shows) c.reading.invariant.told
 
 pub returns-in-TooLong-clause-read : goal.returns-in-TooLong-clause-read
 returns-in-TooLong-clause-read g c =
-    told _ _ _ (λ left reached. long_answer _ c.reading.search c.search_on.new.search c.reading.buffer c.search_on.new.buffer _ reached
+    told _ _ _ (λ left reached. long_answer c.args.buffer.now left c.reading.search c.search_on.new.search c.reading.buffer c.search_on.new.buffer _ reached
     c.in-TooLong.ensures.shows) c.reading.invariant.told
 
 pub returns-in-Ok-eq0-clause-read : goal.returns-in-Ok-eq0-clause-read
 returns-in-Ok-eq0-clause-read g c =
-    told _ _ _ (λ left reached. answer_as (c.args.buffer.now ++ left) _ _ _ _ c.end_fault.ensures
-    (end_answer (c.args.buffer.now ++ left) c.fill.new.self _ _ (part_end
-    (c.args.buffer.now ++ left) c.reading.search c.search_on.new.search c.reading.buffer c.search_on.new.buffer _ reached
-    c.in-Part.ensures.shows c.fill.new.self _ _ c.in-Ok-eq0.field-0-test c.in-Ok-eq0.ensures.reads))) c.reading.invariant.told
+    told _ _ _ (λ left reached. end_answer c.args.buffer.now left c.fill.new.self c.fill.new.self _ _ c.end_fault.ensures
+    (part_end c.args.buffer.now left c.reading.search c.search_on.new.search c.reading.buffer c.search_on.new.buffer _ reached
+    c.in-Part.ensures.shows c.fill.new.self _ _ c.in-Ok-eq0.ensures.reads c.in-Ok-eq0.field-0-test)) c.reading.invariant.told
 
 pub returns-in-Err-clause-read : goal.returns-in-Err-clause-read
 returns-in-Err-clause-read g c =
-    told _ _ _ (λ left reached. part_fault (c.args.buffer.now ++ left) c.reading.search c.search_on.new.search c.reading.buffer c.search_on.new.buffer _
-    reached
+    told _ _ _ (λ left reached. part_fault c.args.buffer.now left c.reading.search c.search_on.new.search c.reading.buffer c.search_on.new.buffer _ reached
     c.in-Part.ensures.shows c.fill.new.self (g.S.Source.left c.fill.new.source) c.in-Err.fault c.in-Err.ensures.fault) c.reading.invariant.told
 
 pub reading-smaller : goal.reading-smaller

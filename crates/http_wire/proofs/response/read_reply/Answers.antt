@@ -1,12 +1,11 @@
-use Rattle.std.proofs.Common.{◌≡◌, ◌++◌, ◌∙◌, ℕ, List, [], None, Ok, Err, ap, subst, take}
+use Rattle.std.proofs.Common.{◌≡◌, ◌∙◌, ℕ, List, [], None, Ok, Err, ap, subst, take}
 use Rattle.httparse.specs.Grammar.{ResponseHead}
 use Rattle.http_wire.specs.declared.message.Field.{Field}
 use Rattle.http_wire.specs.declared.message.Reply.{Reply}
-use Rattle.http_wire.specs.BodyReading.{IsBody, IsBodyFault}
 use Rattle.http_wire.specs.Messages.{IsReplyHeadOf, fields_of, reply_of}
 use Rattle.http_wire.specs.Parsing.{IsReplyParse}
 use Rattle.http_wire.proofs.ReadingLemmas.{told}
-use Rattle.http_wire.proofs.AnswerLemmas.{head_fault, parse_fault_answer, behind_head, body_answer, body_fault_answer, parse_cause}
+use Rattle.http_wire.proofs.AnswerLemmas.{head_fault, parse_fault_answer, body_answer, body_fault_answer, parse_cause}
 use Rattle.http_wire.proofs.response.read_reply.Goals as goal
 
 abbrev fields : ResponseHead → List Field
@@ -23,15 +22,13 @@ with_body parsed h held body same is =
 
 pub returns-in-Err-clause-read : goal.returns-in-Err-clause-read
 returns-in-Err-clause-read g c =
-    told _ _ _ (λ left answer. head_fault IsReplyHeadOf fields reply_of None
-    (c.args.buffer.now ++ left) c.read_head.new.buffer c.read_head.new.buffer
+    told _ _ _ (λ left answer. head_fault IsReplyHeadOf fields reply_of None c.args.buffer.now left c.read_head.new.buffer c.read_head.new.buffer
     (g.S.Source.left c.read_head.new.source) c.in-Err.fault answer) c.in-Err.ensures.read
 
 pub returns-in-Err-reply_head-clause-read : goal.returns-in-Err-reply_head-clause-read
 returns-in-Err-reply_head-clause-read g c =
-    told _ _ _ (λ left answer. parse_fault_answer IsReplyHeadOf fields reply_of None
-    (c.args.buffer.now ++ left) c.read_head.new.buffer c.in-Ok.head
-    (g.S.Source.left c.read_head.new.source) answer c.read_head.new.buffer (g.S.Source.left c.read_head.new.source) c.in-Err-reply_head.fault
+    told _ _ _ (λ left answer. parse_fault_answer IsReplyHeadOf fields reply_of None c.read_head.new.buffer c.in-Ok.head c.args.buffer.now left
+    (g.S.Source.left c.read_head.new.source) answer c.read_head.new.buffer c.in-Err-reply_head.fault
     (subst (λ (l : List ℕ). IsReplyParse l (Err c.in-Err-reply_head.fault))
     (c.split_at.ensures.front ∙ ap (take c.in-Ok.head) c.held.ensures.same) c.in-Err-reply_head.ensures)) c.in-Ok.ensures.read
 
@@ -42,28 +39,18 @@ returns-in-Err-reply_head-clause-cause g c =
 
 pub returns-in-Ok-read_body-clause-read : goal.returns-in-Ok-read_body-clause-read
 returns-in-Ok-read_body-clause-read g c =
-    told _ _ _ (λ left answer. body_answer IsReplyHeadOf fields reply_of None (c.args.buffer.now ++ left) c.read_head.new.buffer c.in-Ok.head
+    told _ _ _ (λ left answer. body_answer IsReplyHeadOf fields reply_of None c.read_head.new.buffer c.in-Ok.head c.args.buffer.now left
     (g.S.Source.left c.read_head.new.source) answer c.in-Ok-reply_head.parsed.0 c.in-Ok-reply_head.parsed.1
     (subst (λ (l : List ℕ). IsReplyParse l (Ok c.in-Ok-reply_head.parsed))
     (c.split_at.ensures.front ∙ ap (take c.in-Ok.head) c.held.ensures.same) c.in-Ok-reply_head.ensures)
-    c.in-Ok-read_body.body.items c.read_body.new.buffer (g.S.Source.left c.read_body.new.source) _
-    (behind_head IsReplyHeadOf fields reply_of None (c.args.buffer.now ++ left) c.read_head.new.buffer c.in-Ok.head
-    (g.S.Source.left c.read_head.new.source) answer c.skip.new.self
-    (λ (behind first : List ℕ). IsBody behind c.in-Ok-read_body.body.items c.in-Ok-reply_head.parsed.1 c.read_body.new.buffer
-    (g.S.Source.left c.read_body.new.source))
-    c.skip.ensures c.in-Ok-read_body.ensures.read)
+    c.skip.new.self c.read_body.new.buffer c.skip.ensures (g.S.Source.left c.read_body.new.source) c.in-Ok-read_body.body _ c.in-Ok-read_body.ensures.read
     (λ h is. with_body c.in-Ok-reply_head.parsed.0 h c.of.result c.in-Ok-read_body.body.items c.of.ensures is)) c.in-Ok.ensures.read
 
 pub returns-in-Err-read_body-clause-read : goal.returns-in-Err-read_body-clause-read
 returns-in-Err-read_body-clause-read g c =
-    told _ _ _ (λ left answer. body_fault_answer IsReplyHeadOf fields reply_of None
-    (c.args.buffer.now ++ left) c.read_head.new.buffer c.in-Ok.head
+    told _ _ _ (λ left answer. body_fault_answer IsReplyHeadOf fields reply_of None c.read_head.new.buffer c.in-Ok.head c.args.buffer.now left
     (g.S.Source.left c.read_head.new.source) answer c.in-Ok-reply_head.parsed.0 c.in-Ok-reply_head.parsed.1
     (subst (λ (l : List ℕ). IsReplyParse l (Ok c.in-Ok-reply_head.parsed))
     (c.split_at.ensures.front ∙ ap (take c.in-Ok.head) c.held.ensures.same) c.in-Ok-reply_head.ensures)
-    c.read_body.new.buffer (g.S.Source.left c.read_body.new.source) c.in-Err-read_body.fault
-    (behind_head IsReplyHeadOf fields reply_of None (c.args.buffer.now ++ left) c.read_head.new.buffer c.in-Ok.head
-    (g.S.Source.left c.read_head.new.source) answer c.skip.new.self
-    (λ (behind first : List ℕ). IsBodyFault behind first c.in-Ok.head c.in-Ok-reply_head.parsed.1
-    (g.S.Source.left c.read_body.new.source) c.in-Err-read_body.fault)
-    c.skip.ensures c.in-Err-read_body.ensures.read)) c.in-Ok.ensures.read
+    c.skip.new.self c.read_body.new.buffer c.skip.ensures (g.S.Source.left c.read_body.new.source) c.in-Err-read_body.fault
+    c.in-Err-read_body.ensures.read) c.in-Ok.ensures.read
