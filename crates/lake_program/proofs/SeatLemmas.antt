@@ -1,20 +1,13 @@
 -- A seat, the store of objects and the clock over the lines of a batch.
 use Rattle.std.proofs.Common.{inl, inr, ◌≡◌, ◌⊎◌, ◌++◌, ◌∷◌, [], ℕ, List, Option, Some, None, IfSome, All, Result, Ok, Err}
 use Rattle.std.proofs.Common.{refl, sym, ◌∙◌, ap, subst, append_assoc, append-nil}
-use Rattle.std.proofs.lemmas.List.Elements.{All-append}
 use Rattle.lake_base.specs.declared.outside.Trouble.{Trouble}
 use Rattle.http_wire.specs.declared.message.Request.{Request}
-use Rattle.lake_model.specs.declared.history.HistoryEntry.{HistoryEntry}
-use Rattle.lake_model.specs.History.{IsLegal}
-use Rattle.lake_model.specs.Soundness.{IsSound}
-use Rattle.lake_core.specs.declared.standing.LakeOrigin.{LakeOrigin}
 use Rattle.shared_lake.specs.SeatSteps.{LakeSeat}
-use Rattle.turn_lock.specs.Seats.{seat_after}
-use Rattle.flow_steps.specs.FlowSeats.{opened_state}
 use Rattle.body_laws.specs.BodiesKept.{KeepsFitting}
 use Rattle.lake_session.specs.SessionItems.{SessionItem, moments}
 use Rattle.lake_session.specs.WholeSessions.{GoesThrough}
-use Rattle.lake_session.proofs.SeatLemmas.{fits_at_first, fits_further, stays}
+use Rattle.lake_session.proofs.SeatLemmas.{fits_at_first, fits_further, goes_twice, stays}
 use Rattle.lakectl_shown.specs.declared.showing.Shown.{Shown}
 use Rattle.lakectl_verbs.specs.declared.line.LineWords.{LineWords}
 use Rattle.lakectl_verbs.specs.declared.line.LineWords.TheVariants as line
@@ -52,29 +45,6 @@ grew_by : (old now : Option (List ℕ)) (more : List ℕ) → IfSome now (λ rea
     → Grew old now
 grew_by old None more is = tt
 grew_by old (Some readings) more (before, told, is) = (before, more, told, is)
-
--- ---- the seat
-
-module _ (old mid now : LakeSeat) (first : GoesThrough old mid) (next : GoesThrough mid now) where
-  legal_twice : (origin : LakeOrigin) → (first.added ≡ []) ⊎ (IsSound (opened_state origin) × IsLegal (opened_state origin) mid.seen)
-      → (next.added ≡ []) ⊎ (IsSound (opened_state origin) × IsLegal (opened_state origin) now.seen)
-      → (first.added ++ next.added ≡ []) ⊎ (IsSound (opened_state origin) × IsLegal (opened_state origin) now.seen)
-  legal_twice origin one (inr legal) = inr legal
-  legal_twice origin (inl none) (inl nothing) = inl (λ i. none i ++ nothing i)
-  legal_twice origin (inr legal) (inl nothing) =
-      inr (legal.0, subst (IsLegal (opened_state origin)) (sym (next.seen ∙ ap (λ l. mid.seen ++ l) nothing ∙ append-nil mid.seen)) legal.1)
-
-  goes_twice : GoesThrough old now
-  goes_twice = record {
-    turn = next.turn ∙ first.turn;
-    seat = next.seat ∙ ap (λ (s : LakeSeat). seat_after s now.seen now.mine) first.seat;
-    added = first.added ++ next.added;
-    seen = next.seen ∙ ap (λ seen. seen ++ next.added) first.seen ∙ append_assoc old.seen first.added next.added;
-    alone = λ alone. All-append (λ (e : HistoryEntry). e.by.seat ≡ old.number) first.added next.added (first.alone alone)
-        (subst (λ n. All (λ (e : HistoryEntry). e.by.seat ≡ n) next.added) (ap (λ (s : LakeSeat). s.number) first.seat)
-        (next.alone (ap (λ (s : LakeSeat). s.alone) first.seat ∙ alone)));
-    legal = λ origin from. legal_twice origin (first.legal origin from) (next.legal origin (ap (λ (s : LakeSeat). s.origin) first.seat ∙ from));
-  }
 
 -- ---- all of it
 

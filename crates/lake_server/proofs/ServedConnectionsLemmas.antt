@@ -12,36 +12,9 @@ use Rattle.shared_lake.specs.SeatSteps.{LakeSeat}
 use Rattle.turn_lock.specs.Seats.{seat_after}
 use Rattle.flow_steps.specs.FlowSeats.{opened_state}
 use Rattle.lake_session.specs.WholeSessions.{GoesThrough, IsSession}
-use Rattle.lake_session.proofs.SeatLemmas.{stays}
+use Rattle.lake_session.proofs.SeatLemmas.{goes_twice, stays}
 use Rattle.lake_server.specs.ServedConnections.{AreFronts, AreSessions, Carried, Connection, HasEnded, HasServed, WorkerView, carried_by, returned_of, streams_of}
 use Rattle.lake_server.specs.WorkerSteps.{GoesOnCounting, IsFailed, ServesConnection, ServesOrFails}
-
--- ---- a seat
-
--- what came is none, or the whole is legal from what is sound
-legal_further : (sound : Type 0) (legal : List HistoryEntry → Type 0) (now next added more : List HistoryEntry) → next ≡ now ++ more
-    → (added ≡ []) ⊎ (sound × legal now) → (more ≡ []) ⊎ (sound × legal next) → (added ++ more ≡ []) ⊎ (sound × legal next)
-legal_further sound legal now next added more is first (inr held) = inr held
-legal_further sound legal now next added more is (inl none) (inl no_more) = inl (ap (λ a. a ++ more) none ∙ no_more)
-legal_further sound legal now next added more is (inr held) (inl no_more) =
-    inr (held.0, subst legal (sym (is ∙ ap (λ m. now ++ m) no_more ∙ append-nil now)) held.1)
-
--- a seat that went on, and then went on
-pub goes_on : (old now next : LakeSeat) → GoesThrough old now → GoesThrough now next → GoesThrough old next
-goes_on old now next first further =
-    let number_is : now.number ≡ old.number = ap (λ (s : LakeSeat). s.number) first.seat in
-    let alone_is : now.alone ≡ old.alone = ap (λ (s : LakeSeat). s.alone) first.seat in
-    let origin_is : now.origin ≡ old.origin = ap (λ (s : LakeSeat). s.origin) first.seat in
-    record {
-      turn = further.turn ∙ first.turn;
-      seat = further.seat ∙ ap (λ (s : LakeSeat). seat_after s next.seen next.mine) first.seat;
-      added = first.added ++ further.added;
-      seen = further.seen ∙ ap (λ seen. seen ++ further.added) first.seen ∙ append_assoc old.seen first.added further.added;
-      alone = λ alone. All-append (λ (e : HistoryEntry). e.by.seat ≡ old.number) first.added further.added (first.alone alone)
-          (subst (λ n. All (λ (e : HistoryEntry). e.by.seat ≡ n) further.added) number_is (further.alone (alone_is ∙ alone)));
-      legal = λ origin from. legal_further (IsSound (opened_state origin)) (λ seen. IsLegal (opened_state origin) seen) now.seen next.seen
-          first.added further.added further.seen (first.legal origin from) (further.legal origin (origin_is ∙ from));
-    }
 
 -- ---- sessions, one after the other
 
@@ -50,7 +23,7 @@ pub goes_all : (old now : Carried) (sessions : List Connection) → AreSessions 
 goes_all old now [] chain = subst (GoesThrough old.seat) (ap (λ (c : Carried). c.seat) (sym chain)) (stays old.seat)
 goes_all old now (one ∷ others) chain =
     subst (λ seat. GoesThrough seat now.seat) (ap (λ (c : Carried). c.seat) chain.0)
-    (goes_on one.before.seat one.after.seat now.seat chain.1.goes (goes_all (carried_by one.after) now others chain.2))
+    (goes_twice one.before.seat one.after.seat now.seat chain.1.goes (goes_all (carried_by one.after) now others chain.2))
 
 -- one more
 pub chain_more : (old now : Carried) (sessions : List Connection) (one : Connection) → AreSessions old now sessions
@@ -68,7 +41,7 @@ pub fronts_of : (old now : Carried) (sessions : List Connection) → AreSessions
 fronts_of old now [] chain = ap (λ (c : Carried). length c.seat.seen) (sym chain)
 fronts_of old now (one ∷ others) chain =
     let further : GoesThrough one.after.seat now.seat = goes_all (carried_by one.after) now others chain.2 in
-    let all : GoesThrough one.before.seat now.seat = goes_on one.before.seat one.after.seat now.seat chain.1.goes further in (
+    let all : GoesThrough one.before.seat now.seat = goes_twice one.before.seat one.after.seat now.seat chain.1.goes further in (
       chain.1.from ∙ ap (λ (c : Carried). length c.seat.seen) chain.0,
       front_is one.report.from one.before.seat.seen all.added now.seat.seen chain.1.from all.seen,
       front_is one.report.to one.after.seat.seen further.added now.seat.seen chain.1.to further.seen,

@@ -15,7 +15,7 @@ use Rattle.lake_calls.specs.declared.reply.CallReply.{CallReply}
 use Rattle.lake_calls.specs.declared.reply.CallReply.TheVariants as reply
 use Rattle.lake_calls.proofs.RefusedLemmas.{point_refused}
 use Rattle.lake_calls.proofs.RuleLemmas.{tells_done}
-use Rattle.lake_session.specs.RequestTaking.{tells_form}
+use Rattle.lake_session.specs.PrintedAnswers.{tells_form}
 
 -- a reply that is another than a form's refusal
 other_than_form : (told other : CallReply) → told ≡ other → tells_form other ≡ false → tells_form told ≡ true → ⊥

@@ -1,5 +1,5 @@
 -- Turns of a session, one after the other.
-use Rattle.std.proofs.Common.{◌≡◌, ◌+◌, ◌<◌, ℕ, List, [], ◌∷◌, ◌++◌, length, Option, Some, None, option_map, refl, sym, ap, subst, ◌∙◌, arith, length-append}
+use Rattle.std.proofs.Common.{◌≡◌, ◌+◌, ◌<◌, ℕ, List, [], ◌∷◌, ◌++◌, length, Some, None, refl, sym, ap, subst, ◌∙◌, arith, length-append}
 use Rattle.lake_session.specs.declared.report.End.{End}
 use Rattle.lake_session.specs.declared.report.End.TheVariants as end
 use Rattle.lake_session.specs.declared.report.Placed.{Placed}
@@ -7,21 +7,19 @@ use Rattle.lake_session.specs.declared.report.SessionReport.{SessionReport}
 use Rattle.lake_session.specs.SessionTurns.{IsTurn, Tally}
 use Rattle.lake_session.specs.SessionViews.{SessionView}
 use Rattle.lake_session.specs.WholeSessions.{IsSession}
-use Rattle.lake_session.proofs.EndLemmas.{ends_at_limit, ends_behind, none_held, session_over}
+use Rattle.lake_session.proofs.EndLemmas.{ends_at_limit, ends_behind}
 use Rattle.lake_session.proofs.SoFarLemmas.{AreUnderWay, SoFar, begins, one_further}
 
 -- at first nothing was served, and nothing is held
 pub way_begins : (at : SessionView) (held : List ℕ) (placed : List Placed) (edge : ℕ) → held ≡ [] → placed ≡ [] → edge ≡ length at.seat.seen
-    → AreUnderWay 0 at (record at { unread = option_map (λ left. held ++ left) at.unread }) (record { placed = placed; edge = edge })
-way_begins at held placed edge held_is placed_is edge_is =
-    let unread : option_map (λ left. held ++ left) at.unread ≡ at.unread =
-    ap (λ h. option_map (λ left. h ++ left) at.unread) held_is ∙ none_held at.unread in (
-      [],
-      refl,
-      subst (λ u. SoFar at (record at { unread = u }) (record { placed = placed; edge = edge }) []) (sym unread)
-          (subst (λ p. SoFar at at (record { placed = p; edge = edge }) []) (sym placed_is)
-          (subst (λ e. SoFar at at (record { placed = []; edge = e }) []) (sym edge_is) (begins at))),
-    )
+    → AreUnderWay 0 at at (record { placed = placed; edge = edge; held = held })
+way_begins at held placed edge held_is placed_is edge_is = (
+  [],
+  refl,
+  subst (λ h. SoFar at at (record { placed = placed; edge = edge; held = h }) []) (sym held_is)
+      (subst (λ p. SoFar at at (record { placed = p; edge = edge; held = [] }) []) (sym placed_is)
+      (subst (λ e. SoFar at at (record { placed = []; edge = e; held = [] }) []) (sym edge_is) (begins at))),
+)
 
 -- a turn more
 pub way_goes_on : (number : ℕ) (old now next : SessionView) (tally tally_next : Tally) → AreUnderWay number old now tally
@@ -40,21 +38,18 @@ report_of from to placed ended = record { from = from; to = to; placed = placed;
 
 -- a turn ended it
 pub way_ends : (number : ℕ) (old now next : SessionView) (tally tally_next : Tally) (ended : End) (from : ℕ) (report : SessionReport)
-    (unread : Option (List ℕ)) → AreUnderWay number old now tally → number < 10000 → IsTurn (number + 1) now next tally tally_next (Some ended)
-    → from ≡ length old.seat.seen → report ≡ report_of from (length next.seat.seen) tally_next.placed ended
-    → IsSession old (record next { unread = unread }) report
-way_ends number old now next tally tally_next ended from report unread way few turn from_is is =
-    session_over unread old next report
-    (subst (IsSession old next) (sym is)
+    → AreUnderWay number old now tally → number < 10000 → IsTurn (number + 1) now next tally tally_next (Some ended)
+    → from ≡ length old.seat.seen → report ≡ report_of from (length next.seat.seen) tally_next.placed ended → IsSession old next report
+way_ends number old now next tally tally_next ended from report way few turn from_is is =
+    subst (IsSession old next) (sym is)
     (ends_behind (number + 1) old now next tally tally_next way.0 (omega (arith, few)) (ap (λ n. n + 1) way.1) way.2
-    (report_of from (length next.seat.seen) tally_next.placed ended) refl from_is refl turn))
+    (report_of from (length next.seat.seen) tally_next.placed ended) refl from_is refl turn)
 
 -- or there were 10,000
-pub way_is_full : (number : ℕ) (old now : SessionView) (tally : Tally) (from : ℕ) (report : SessionReport) (unread : Option (List ℕ))
+pub way_is_full : (number : ℕ) (old now : SessionView) (tally : Tally) (from : ℕ) (report : SessionReport)
     → AreUnderWay number old now tally → number ≡ 10000 → from ≡ length old.seat.seen
-    → report ≡ report_of from (length now.seat.seen) tally.placed end.RequestLimit → IsSession old (record now { unread = unread }) report
-way_is_full number old now tally from report unread way all from_is is =
-    session_over unread old now report
-    (subst (IsSession old now) (sym is)
+    → report ≡ report_of from (length now.seat.seen) tally.placed end.RequestLimit → IsSession old now report
+way_is_full number old now tally from report way all from_is is =
+    subst (IsSession old now) (sym is)
     (ends_at_limit old now tally way.0 (report_of from (length now.seat.seen) tally.placed end.RequestLimit) (sym way.1 ∙ all) way.2 refl refl
-    from_is refl))
+    from_is refl)

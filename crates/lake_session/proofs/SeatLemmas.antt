@@ -1,5 +1,5 @@
 -- A seat, and the bodies that its store holds, over one more call.
-use Rattle.std.proofs.Common.{◌≡◌, inl, inr, ℕ, List, [], ◌++◌, All, Option, Some, refl, sym, ap, subst, ◌∙◌, append_assoc, append-nil}
+use Rattle.std.proofs.Common.{◌≡◌, ◌⊎◌, inl, inr, ℕ, List, [], ◌++◌, All, Option, Some, refl, sym, ap, subst, ◌∙◌, append_assoc, append-nil}
 use Rattle.std.specs.Option.{unwrap_or}
 use Rattle.std.proofs.lemmas.List.Elements.{All-append, All-nil}
 use Rattle.block_store.specs.Blocks.{HeldObjects}
@@ -7,7 +7,7 @@ use Rattle.lake_model.specs.declared.history.HistoryEntry.{HistoryEntry}
 use Rattle.lake_model.specs.History.{IsLegal}
 use Rattle.lake_model.specs.Soundness.{IsSound}
 use Rattle.lake_core.specs.declared.standing.LakeOrigin.{LakeOrigin}
-use Rattle.shared_lake.specs.SeatSteps.{LakeSeat}
+use Rattle.shared_lake.specs.SeatSteps.{LakeSeat, SeesOwn}
 use Rattle.turn_lock.specs.Seats.{seat_after}
 use Rattle.flow_steps.specs.FlowSeats.{opened_state}
 use Rattle.body_laws.specs.BodiesKept.{KeepsFitting}
@@ -26,26 +26,57 @@ stays seat = record {
   added = [];
   seen = sym (append-nil seat.seen);
   alone = λ alone. All-nil (λ (e : HistoryEntry). e.by.seat ≡ seat.number);
-  legal = λ origin from. inl refl;
+  legal = λ origin from. inl (refl, refl);
 }
+
+-- a seat that went on, and then went on
+module _ (old mid now : LakeSeat) (first : GoesThrough old mid) (next : GoesThrough mid now) where
+  -- what it has seen is legal from a sound state, and has just its own entries
+  abbrev Knows : LakeOrigin → LakeSeat → Type 0
+  Knows origin seat = IsSound (opened_state origin) × IsLegal (opened_state origin) seat.seen × SeesOwn seat
+
+  unmoved : next.added ≡ [] → now.mine ≡ mid.mine → now ≡ mid
+  unmoved none mine =
+      next.seat ∙ ap (λ seen. seat_after mid seen now.mine) (next.seen ∙ ap (λ l. mid.seen ++ l) none ∙ append-nil mid.seen)
+      ∙ ap (λ m. seat_after mid mid.seen m) mine
+
+  legal_twice : (origin : LakeOrigin) → ((first.added ≡ []) × (mid.mine ≡ old.mine)) ⊎ Knows origin mid
+      → ((next.added ≡ []) × (now.mine ≡ mid.mine)) ⊎ Knows origin now
+      → ((first.added ++ next.added ≡ []) × (now.mine ≡ old.mine)) ⊎ Knows origin now
+  legal_twice origin one (inr knows) = inr knows
+  legal_twice origin (inl (none, mine)) (inl (nothing, mine_still)) = inl (ap (λ l. l ++ next.added) none ∙ nothing, mine_still ∙ mine)
+  legal_twice origin (inr knows) (inl (nothing, mine_still)) = inr (subst (Knows origin) (sym (unmoved nothing mine_still)) knows)
+
+  pub goes_twice : GoesThrough old now
+  goes_twice = record {
+    turn = next.turn ∙ first.turn;
+    seat = next.seat ∙ ap (λ (s : LakeSeat). seat_after s now.seen now.mine) first.seat;
+    added = first.added ++ next.added;
+    seen = next.seen ∙ ap (λ seen. seen ++ next.added) first.seen ∙ append_assoc old.seen first.added next.added;
+    alone = λ alone. All-append (λ (e : HistoryEntry). e.by.seat ≡ old.number) first.added next.added (first.alone alone)
+        (subst (λ n. All (λ (e : HistoryEntry). e.by.seat ≡ n) next.added) (ap (λ (s : LakeSeat). s.number) first.seat)
+        (next.alone (ap (λ (s : LakeSeat). s.alone) first.seat ∙ alone)));
+    legal = λ origin from. legal_twice origin (first.legal origin from) (next.legal origin (ap (λ (s : LakeSeat). s.origin) first.seat ∙ from));
+  }
 
 -- a call more
 pub goes_further : (number : ℕ) (old now next : LakeSeat) → GoesThrough old now → Moves number now next → GoesThrough old next
 goes_further number old now next goes (inl same) = subst (GoesThrough old) (sym same) goes
-goes_further number old now next goes (inr (origin, on, turn)) = record {
-  turn = turn ∙ goes.turn;
-  seat = on.seat ∙ ap (λ (s : LakeSeat). seat_after s next.seen next.mine) goes.seat;
-  added = goes.added ++ on.added;
-  seen = on.seen ∙ ap (λ seen. seen ++ on.added) goes.seen ∙ append_assoc old.seen goes.added on.added;
-  alone = λ alone. All-append (λ (e : HistoryEntry). e.by.seat ≡ old.number) goes.added on.added (goes.alone alone)
-      (subst (λ n. All (λ (e : HistoryEntry). e.by.seat ≡ n) on.added) (ap (λ (s : LakeSeat). s.number) goes.seat)
-      (on.alone (ap (λ (s : LakeSeat). s.alone) goes.seat ∙ alone)));
-  legal = λ other from. inr (
-      let one : origin ≡ other = one_origin origin other (sym on.from ∙ ap (λ (s : LakeSeat). s.origin) goes.seat ∙ from) in (
-        subst (λ o. IsSound (opened_state o)) one on.sound,
-        subst (λ o. IsLegal (opened_state o) next.seen) one on.legal,
-      ));
-}
+goes_further number old now next goes (inr (origin, on, turn)) =
+    goes_twice old now next goes
+    (record {
+      turn = turn;
+      seat = on.seat;
+      added = on.added;
+      seen = on.seen;
+      alone = on.alone;
+      legal = λ other from. inr (
+          let one : origin ≡ other = one_origin origin other (sym on.from ∙ from) in (
+            subst (λ o. IsSound (opened_state o)) one on.sound,
+            subst (λ o. IsLegal (opened_state o) next.seen) one on.legal,
+            on.own,
+          ));
+    })
 
 -- a seat that moved has its number, its origin and its turn still, and is alone still where it was
 pub moved_origin : (number : ℕ) (old now : LakeSeat) → Moves number old now → now.origin ≡ old.origin

@@ -5,7 +5,7 @@ use Rattle.lake_base.specs.declared.outside.Failed.{Failed}
 use Rattle.http_wire.specs.ReplyText.{reply_text}
 use Rattle.http_wire.specs.SinkFronts.{Wrote, WroteFront}
 use Rattle.http_wire.specs.declared.message.Reply.{Reply}
-use Rattle.lake_session.specs.RequestTaking.{sent_by}
+use Rattle.lake_session.specs.PrintedAnswers.{sent_by}
 use Rattle.lake_session.specs.SessionTexts.{Writes}
 
 -- what a piece leaves that was written, or failed

@@ -3,7 +3,9 @@ use Rattle.std.proofs.Common.{◌≡◌, ◌+◌, ◌≤◌, ℕ, true, false, L
 use Rattle.std.proofs.Common.{refl, sym, ap, subst, ◌∙◌, append_assoc, append-nil, arith}
 use Rattle.std.proofs.lemmas.List.Elements.{All-append, All-cons, All-head, All-nil, All-tail}
 use Rattle.block_store.specs.Blocks.{HeldObjects}
-use Rattle.http_wire.specs.Messages.{ReadsRequestAt}
+use Rattle.http_wire.specs.Filling.{Gave}
+use Rattle.http_wire.specs.Messages.{IsReadOf, ReadsRequestAt}
+use Rattle.http_wire.proofs.ReadingLemmas.{gave_then}
 use Rattle.http_wire.specs.SinkFronts.{Wrote}
 use Rattle.lake_model.specs.declared.history.HistoryEntry.{HistoryEntry}
 use Rattle.lake_core.specs.declared.standing.LakeOrigin.{LakeOrigin}
@@ -17,9 +19,9 @@ use Rattle.body_laws.specs.BodiesKept.{KeepsFitting}
 use Rattle.api_forms.specs.CallForms.{asked}
 use Rattle.lake_session.specs.SessionItems.{AreFirst, NoneCloses, SessionItem, call_item, item_text, moments, placed_item, placed_items, texts}
 use Rattle.lake_session.specs.SessionTurns.{ServesWhole, Tally}
-use Rattle.lake_session.specs.SessionViews.{HasCounted, ServesItem, SessionView, StoreView}
+use Rattle.lake_session.specs.SessionViews.{HasCounted, ServesItem, SessionView, StoreView, TakesRequest}
 use Rattle.lake_session.specs.WholeSessions.{AllTellHeld, AreCounted, GoesThrough, TellsHeld}
-use Rattle.lake_session.proofs.ItemLemmas.{calls_long, calls_more, first_more, moments_more, placed_more, texts_more}
+use Rattle.lake_session.proofs.ItemLemmas.{calls_long, calls_more, first_longer, first_more, moments_more, placed_more, texts_more}
 use Rattle.lake_session.proofs.SeatLemmas.{fits_at_first, fits_further, goes_further, seen_more, stays}
 
 -- the calls of items were served, from one seat to the other
@@ -27,16 +29,16 @@ abbrev pub AreAllServed : (old now : LakeSeat) → List SessionItem → (edge : 
 AreAllServed old now items edge = (origin : LakeOrigin) → old.origin ≡ Some origin
     → AreServed lake_rules (opened_state origin) old.number 1 (length old.seen) old.seen (map call_item items) now.seen edge
 
--- the requests of items are first in the bytes, of which these are left
-abbrev pub HasRead : (unread left : Option (List ℕ)) → List SessionItem → Type 0
-HasRead unread left items = IfSome unread (λ bytes. (rest : List ℕ) × (left ≡ Some rest) × AreFirst items bytes rest)
+-- the requests of items are first in the bytes that were given, and these are held behind them
+abbrev pub HasRead : (unread left : Option (List ℕ)) → (held : List ℕ) → List SessionItem → Type 0
+HasRead unread left held items = IfSome unread (λ bytes. Gave [] bytes left (λ given rest. AreFirst items given held))
 
 -- the clock gave their moments
 abbrev pub HasTold : (readings readings_now : Option (List ℕ)) → List SessionItem → Type 0
 HasTold readings readings_now items = IfSome readings_now (λ now. (before : List ℕ) × (readings ≡ Some before) × (now ≡ before ++ moments items))
 
 pub record SoFar (old now : SessionView) (tally : Tally) (items : List SessionItem) : Type 0 where
-  pub read : HasRead old.unread now.unread items
+  pub read : HasRead old.unread now.unread tally.held items
   pub told : HasTold old.readings now.readings items
   pub goes : GoesThrough old.seat now.seat
   pub served : AreAllServed old.seat now.seat items tally.edge
@@ -50,17 +52,18 @@ pub record SoFar (old now : SessionView) (tally : Tally) (items : List SessionIt
 
 -- ---- pieces
 
-pub read_none : (unread : Option (List ℕ)) → HasRead unread unread []
+pub read_none : (unread : Option (List ℕ)) → HasRead unread unread [] []
 read_none None = tt
-read_none (Some bytes) = (bytes, refl, refl)
+read_none (Some bytes) = record { more = []; rest = bytes; gave = refl; left_is = refl; read = refl }
 
-read_more : (unread left next : Option (List ℕ)) (items : List SessionItem) (item : SessionItem) → HasRead unread left items
-    → IfSome left (λ bytes. (rest : List ℕ) × (next ≡ Some rest) × ReadsRequestAt bytes (Ok (item.request, rest)))
-    → HasRead unread next (items ++ item ∷ [])
-read_more None left next items item read one = tt
-read_more (Some bytes) left next items item read one =
-    let here = subst (λ l. IfSome l (λ b. (rest : List ℕ) × (next ≡ Some rest) × ReadsRequestAt b (Ok (item.request, rest)))) read.1 one in
-    (here.0, here.1, first_more items item bytes read.0 here.0 read.2 here.2)
+read_more : (unread left next : Option (List ℕ)) (held held_next : List ℕ) (items : List SessionItem) (item : SessionItem)
+    → HasRead unread left held items → TakesRequest held held_next left next (Ok item.request) → HasRead unread next held_next (items ++ item ∷ [])
+unfolding IsReadOf
+read_more None left next held held_next items item read one = tt
+read_more (Some bytes) left next held held_next items item read one =
+    gave_then [] bytes (λ given rest. AreFirst items given held) (λ given rest. AreFirst (items ++ item ∷ []) given held_next) left read held
+    (λ given rest. ReadsRequestAt given (Ok (item.request, held_next))) next one
+    (λ given rest more last first reads. first_more items item (given ++ more) (held ++ more) held_next (first_longer items given held more first) reads)
 
 pub told_none : (readings : Option (List ℕ)) → HasTold readings readings []
 told_none None = tt
@@ -126,10 +129,11 @@ tell_later origin all added next is (item ∷ items) tells =
     (tell_later origin all added next is items (All-tail (TellsHeld origin all) item items tells))
 
 -- an item behind others tells of bytes as they are held, as they do
-tells_more : (number edge next_edge : ℕ) (old : LakeSeat) (held : Option HeldObjects) (now next : SessionView) (items : List SessionItem) (item : SessionItem)
+tells_more : (number edge next_edge : ℕ) (ahead ahead_now : List ℕ) (old : LakeSeat) (held : Option HeldObjects) (now next : SessionView)
+    (items : List SessionItem) (item : SessionItem)
     → now.seat.alone ≡ old.alone → now.seat.origin ≡ old.origin → KeepsFitting old now.seat held now.store.held
-    → AllTellHeld old now.seat held items → ServesItem number edge next_edge now next item → AllTellHeld old next.seat held (items ++ item ∷ [])
-tells_more number edge next_edge old held now next items item alone_is origin_is fitting tells serves origin objects alone from is fits =
+    → AllTellHeld old now.seat held items → ServesItem number edge next_edge ahead ahead_now now next item → AllTellHeld old next.seat held (items ++ item ∷ [])
+tells_more number edge next_edge ahead ahead_now old held now next items item alone_is origin_is fitting tells serves origin objects alone from is fits =
     let here = fitting origin objects alone from is fits in
     let more = seen_more number now.seat next.seat serves.moves in
     let all = next.seat.seen in
@@ -142,7 +146,7 @@ tells_more number edge next_edge old held now next items item alone_is origin_is
 
 -- ---- so far
 
-pub begins : (at : SessionView) → SoFar at at (record { placed = []; edge = length at.seat.seen }) []
+pub begins : (at : SessionView) → SoFar at at (record { placed = []; edge = length at.seat.seen; held = [] }) []
 begins at = record {
   read = read_none at.unread;
   told = told_none at.readings;
@@ -159,7 +163,7 @@ begins at = record {
 
 -- what an item that was served leaves, but for its reply
 pub record Behind (number : ℕ) (old next : SessionView) (tally_next : Tally) (items : List SessionItem) (item : SessionItem) : Type 0 where
-  pub read : HasRead old.unread next.unread (items ++ item ∷ [])
+  pub read : HasRead old.unread next.unread tally_next.held (items ++ item ∷ [])
   pub told : HasTold old.readings next.readings (items ++ item ∷ [])
   pub goes : GoesThrough old.seat next.seat
   pub served : AreAllServed old.seat next.seat (items ++ item ∷ []) tally_next.edge
@@ -168,21 +172,22 @@ pub record Behind (number : ℕ) (old next : SessionView) (tally_next : Tally) (
   pub tells : AllTellHeld old.seat next.seat old.store.held (items ++ item ∷ [])
 
 pub goes_behind : (number : ℕ) (old now next : SessionView) (tally tally_next : Tally) (items : List SessionItem) (item : SessionItem)
-    → number ≡ length items + 1 → SoFar old now tally items → ServesItem number tally.edge tally_next.edge now next item
+    → number ≡ length items + 1 → SoFar old now tally items → ServesItem number tally.edge tally_next.edge tally.held tally_next.held now next item
     → Behind number old next tally_next items item
 goes_behind number old now next tally tally_next items item at so serves =
     let number_is = ap (λ (s : LakeSeat). s.number) so.goes.seat in
     let origin_is = ap (λ (s : LakeSeat). s.origin) so.goes.seat in
     let alone_is = ap (λ (s : LakeSeat). s.alone) so.goes.seat in
     record {
-      read = read_more old.unread now.unread next.unread items item so.read serves.request;
+      read = read_more old.unread now.unread next.unread tally.held tally_next.held items item so.read serves.request;
       told = told_more old.readings now.readings next.readings items item so.told serves.moment serves.clock_told;
       goes = goes_further number old.seat now.seat next.seat so.goes serves.moves;
       served = served_more number old.seat now.seat next.seat items item tally.edge serves.call_edge tally_next.edge at number_is origin_is
           serves.edge_is so.served serves.served;
       counted = counted_more old.store now.store next.store items item so.counted serves.counted;
       fitting = fits_further old.seat now.seat next.seat old.store.held now.store.held next.store.held alone_is origin_is so.fitting serves.fitting;
-      tells = tells_more number tally.edge tally_next.edge old.seat old.store.held now next items item alone_is origin_is so.fitting so.tells serves;
+      tells = tells_more number tally.edge tally_next.edge tally.held tally_next.held old.seat old.store.held now next items item alone_is origin_is
+          so.fitting so.tells serves;
     }
 
 -- its reply is written whole behind those of the others

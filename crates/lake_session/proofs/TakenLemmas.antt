@@ -1,46 +1,47 @@
--- A request is read from what is held and what is left.
-use Rattle.std.proofs.Common.{◌≡◌, List, ◌++◌, ℕ, Option, Some, None, IfSome, Ok, Err, option_map, ap, refl}
-use Rattle.http_wire.specs.Messages.{IsRequestAnswer, ReadsRequestAt}
-use Rattle.http_wire.proofs.LongerBytes.{IsRequestAnswerOfAll, request_of_all}
+-- What was read of the bytes that a source gave.
+use Rattle.std.proofs.Common.{◌≡◌, List, ◌++◌, ℕ, Option, Some, None, IfSome, Ok, Err, refl}
+use Rattle.httparse.specs.Grammar.{RequestHead}
+use Rattle.http_wire.specs.Filling.{Gave}
+use Rattle.http_wire.specs.Messages.{IsReadOf, IsRequestHeadOf, fields_of, request_of}
 use Rattle.http_wire.specs.declared.fault.WireFault.{WireFault}
-use Rattle.http_wire.specs.declared.fault.WireFault.TheVariants.{BadHead, BadLength, BodyTooLong, Chunked, Ended, HeadTooLong, NoMemory, ReadFault, Truncated}
+use Rattle.http_wire.specs.declared.fault.WireFault.TheVariants.{NoMemory}
 use Rattle.http_wire.specs.declared.message.Request.{Request}
-use Rattle.lake_session.specs.RequestTaking.{IsUntaken}
+use Rattle.lake_session.specs.SessionViews.{TakesRequest}
 
--- it is the first of all bytes, and what stands behind it is held or left
-pub taken : (left left_now : Option (List ℕ)) (held held_now : List ℕ) (request : Request)
-    → IfSome left (λ bytes. IsRequestAnswer held bytes (Ok request) held_now left_now)
-    → IfSome (option_map (λ bytes. held ++ bytes) left)
-    (λ bytes. (rest : List ℕ) × (option_map (λ l. held_now ++ l) left_now ≡ Some rest) × ReadsRequestAt bytes (Ok (request, rest)))
-taken None left_now held held_now request answer = tt
-taken (Some bytes) left_now held held_now request answer =
-    let all = request_of_all held bytes (held ++ bytes) refl (Ok request) held_now left_now answer in
-    (held_now ++ all.0, ap (option_map (λ l. held_now ++ l)) all.1, all.2)
+-- a request was read, and no memory is left to report it
+pub taken_in_vain : (held held_now : List ℕ) (unread unread_now : Option (List ℕ)) (request : Request)
+    → TakesRequest held held_now unread unread_now (Ok request) → TakesRequest held held_now unread unread_now (Err NoMemory)
+unfolding IsReadOf
+taken_in_vain held held_now None unread_now request takes = tt
+taken_in_vain held held_now (Some had) unread_now request takes =
+    record { more = takes.more; rest = takes.rest; gave = takes.gave; left_is = takes.left_is; read = tt }
 
-untaken_of : (bytes : List ℕ) (left_now : Option (List ℕ)) (held_now : List ℕ) (fault : WireFault)
-    → IsRequestAnswerOfAll bytes (Err fault) held_now left_now → IsUntaken fault (Some bytes)
-untaken_of bytes left_now held_now NoMemory answer = tt
-untaken_of bytes left_now held_now ReadFault answer = (answer.0, answer.1, answer.2, answer.4)
-untaken_of bytes left_now held_now Ended answer = answer
-untaken_of bytes left_now held_now (Truncated n) answer = answer
-untaken_of bytes left_now held_now HeadTooLong answer = answer
-untaken_of bytes left_now held_now BadHead answer = answer
-untaken_of bytes left_now held_now Chunked answer = answer
-untaken_of bytes left_now held_now BadLength answer = answer
-untaken_of bytes left_now held_now (BodyTooLong n) answer = answer
+-- so bytes read as a fault
+abbrev pub ReadsFault : WireFault → (held_now : List ℕ) → (given left : List ℕ) → Type 0
+ReadsFault fault held_now given left =
+    IsReadOf IsRequestHeadOf (λ (head : RequestHead). fields_of head.fields) request_of (Some 67108864) given (Err fault) held_now left
 
--- or there is none, for a fault of all bytes
-pub untaken : (left left_now : Option (List ℕ)) (held held_now : List ℕ) (fault : WireFault)
-    → IfSome left (λ bytes. IsRequestAnswer held bytes (Err fault) held_now left_now)
-    → IsUntaken fault (option_map (λ bytes. held ++ bytes) left)
-untaken None left_now held held_now NoMemory answer = tt
-untaken None left_now held held_now ReadFault answer = tt
-untaken None left_now held held_now Ended answer = tt
-untaken None left_now held held_now (Truncated n) answer = tt
-untaken None left_now held held_now HeadTooLong answer = tt
-untaken None left_now held held_now BadHead answer = tt
-untaken None left_now held held_now Chunked answer = tt
-untaken None left_now held held_now BadLength answer = tt
-untaken None left_now held held_now (BodyTooLong n) answer = tt
-untaken (Some bytes) left_now held held_now fault answer =
-    untaken_of (held ++ bytes) left_now held_now fault (request_of_all held bytes (held ++ bytes) refl (Err fault) held_now left_now answer)
+module _ (held held_now : List ℕ) (unread_now : Option (List ℕ)) (fault : WireFault) where
+  -- the bytes that stand behind the requests then
+  abbrev pub behind : (unread : Option (List ℕ)) → TakesRequest held held_now unread unread_now (Err fault) → Option (List ℕ)
+  behind None takes = None
+  behind (Some had) takes = Some (held ++ takes.more)
+
+  -- what their fault says of them and of what is left
+  pub left_behind : (Q : (given left : List ℕ) → Type 0) → ((given left : List ℕ) → ReadsFault fault held_now given left → Q given left)
+      → (unread : Option (List ℕ)) (takes : TakesRequest held held_now unread unread_now (Err fault))
+      → IfSome unread (λ had. Gave held had unread_now (λ given left. (behind unread takes ≡ Some given) × Q given left))
+  left_behind Q says None takes = tt
+  left_behind Q says (Some had) takes = record {
+    more = takes.more;
+    rest = takes.rest;
+    gave = takes.gave;
+    left_is = takes.left_is;
+    read = (refl, says (held ++ takes.more) takes.rest takes.read);
+  }
+
+  -- what it says of them alone
+  pub given_behind : (Q : List ℕ → Type 0) → ((given left : List ℕ) → ReadsFault fault held_now given left → Q given)
+      → (unread : Option (List ℕ)) (takes : TakesRequest held held_now unread unread_now (Err fault)) → IfSome (behind unread takes) Q
+  given_behind Q says None takes = tt
+  given_behind Q says (Some had) takes = says (held ++ takes.more) takes.rest takes.read

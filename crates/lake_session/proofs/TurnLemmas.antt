@@ -3,7 +3,7 @@ use Rattle.std.proofs.Common.{◌≡◌, inl, inr, ℕ, Bool, true, false, List,
 use Rattle.std.proofs.Common.{OnErr, is_ok, refl, sym, ap, subst, ◌∙◌}
 use Rattle.lake_base.specs.Outside.{Rose}
 use Rattle.lake_base.specs.declared.outside.Failed.{Failed}
-use Rattle.http_wire.specs.Messages.{ReadsRequestAt}
+use Rattle.http_wire.specs.Messages.{IsReadOf, ReadsRequestAt}
 use Rattle.http_wire.specs.ReplyText.{reply_text}
 use Rattle.http_wire.specs.declared.fault.WireFault.{WireFault}
 use Rattle.http_wire.specs.declared.fault.WireFault.TheVariants.{BadHead, BadLength, BodyTooLong, Chunked, Ended, HeadTooLong, NoMemory, ReadFault, Truncated}
@@ -22,47 +22,73 @@ use Rattle.lake_session.specs.declared.replies.Printed.{Printed}
 use Rattle.lake_session.specs.declared.report.End.{End}
 use Rattle.lake_session.specs.declared.report.End.TheVariants as end
 use Rattle.lake_session.specs.FaultEnds.{EndsBehind, EndsByFault}
-use Rattle.lake_session.specs.RequestTaking.{IsPrinted, IsUntaken, Starved, StarvedForm, Whole, sent_by, told_by}
+use Rattle.lake_session.specs.PrintedAnswers.{IsPrinted, Starved, StarvedForm, Whole, sent_by, told_by}
 use Rattle.lake_session.specs.SessionItems.{SessionItem, item_text, placed_item}
 use Rattle.lake_session.specs.SessionTexts.{Writes, last_reply, reply_to_fault, told_text}
-use Rattle.lake_session.specs.SessionTurns.{NothingServed, ServesWhole, Tally, TurnEnds, end_behind}
-use Rattle.lake_session.specs.SessionViews.{IsRequestAnswered, ServesItem, SessionView}
+use Rattle.lake_session.specs.SessionTurns.{EndsSo, EndsUnserved, IsLeft, NothingServed, ServesWhole, Tally, TurnEnds, end_behind}
+use Rattle.lake_session.specs.SessionViews.{IsRequestAnswered, ServesItem, SessionView, TakesRequest}
+use Rattle.lake_session.proofs.TakenLemmas.{ReadsFault, behind, given_behind, left_behind}
 use Rattle.lake_session.proofs.FormLemmas.{IsServedSo, no_form, starves_form, starves_item}
 use Rattle.lake_session.proofs.TextLemmas.{starved_text}
 
 -- ---- a message that isn't read
 
-module _ (number : ℕ) (old now : SessionView) (tally : Tally) (nothing : NothingServed old now) where
-  answered : (fault : WireFault) (sent : Reply) (answer : End) → IfSome old.unread (λ bytes. ReadsRequestAt bytes (Err fault))
-      → reply_to_fault fault ≡ Some sent → EndsBehind (end.Wire fault) sent old.written now.written old.write_faults now.write_faults answer
-      → TurnEnds number old now tally tally (Some answer)
-  answered fault sent answer reads due (inl (is, wrote)) =
-      subst (λ e. TurnEnds number old now tally tally (Some e)) (sym is)
-      (record { nothing = nothing; tally_is = refl; ends = (reads, inr (sent, due, wrote)) })
-  answered fault sent answer reads due (inr (is, rose, front)) =
-      subst (λ e. TurnEnds number old now tally tally (Some e)) (sym is)
-      (inr (record { nothing = nothing; tally_is = refl; ends = (rose, sent, inl (fault, reads, due), front) }))
+module _ (number : ℕ) (old now : SessionView) (tally tally_now : Tally) (nothing : NothingServed old now)
+    (tally_is : tally_now ≡ record tally { held = tally_now.held }) where
+  abbrev Takes : WireFault → Type 0
+  Takes fault = TakesRequest tally.held tally_now.held old.unread now.unread (Err fault)
 
-  pub fault_turn : (fault : WireFault) (answer : End) → IsUntaken fault old.unread → (fault ≡ ReadFault → Rose old.read_faults now.read_faults)
-      → EndsByFault fault old.written now.written old.write_faults now.write_faults answer → TurnEnds number old now tally tally (Some answer)
-  fault_turn Ended answer untaken rose ends =
-      subst (λ e. TurnEnds number old now tally tally (Some e)) (sym ends.0) (record { nothing = nothing; tally_is = refl; ends = (untaken, ends.1) })
-  fault_turn ReadFault answer untaken rose ends =
-      subst (λ e. TurnEnds number old now tally tally (Some e)) (sym ends.0)
-      (record { nothing = nothing; tally_is = refl; ends = (rose refl, untaken, ends.1) })
-  fault_turn (Truncated n) answer untaken rose ends =
-      subst (λ e. TurnEnds number old now tally tally (Some e)) (sym ends.0)
-      (record { nothing = nothing; tally_is = refl; ends = (untaken, inl (n, refl, ends.1)) })
-  fault_turn NoMemory answer untaken rose (inl (is, wrote)) =
-      subst (λ e. TurnEnds number old now tally tally (Some e)) (sym is) (record { nothing = nothing; tally_is = refl; ends = wrote })
-  fault_turn NoMemory answer untaken rose (inr (is, failed, front)) =
-      subst (λ e. TurnEnds number old now tally tally (Some e)) (sym is)
-      (inr (record { nothing = nothing; tally_is = refl; ends = (failed, last_reply, inr refl, front) }))
-  fault_turn HeadTooLong answer untaken rose ends = answered HeadTooLong ends.0 answer untaken ends.1 ends.2
-  fault_turn BadHead answer untaken rose ends = answered BadHead ends.0 answer untaken ends.1 ends.2
-  fault_turn Chunked answer untaken rose ends = answered Chunked ends.0 answer untaken ends.1 ends.2
-  fault_turn BadLength answer untaken rose ends = answered BadLength ends.0 answer untaken ends.1 ends.2
-  fault_turn (BodyTooLong n) answer untaken rose ends = answered (BodyTooLong n) ends.0 answer untaken ends.1 ends.2
+  ends_so : (fault : WireFault) (takes : Takes fault) (ended : End)
+      → ((given left : List ℕ) → ReadsFault fault tally_now.held given left → IsLeft ended given left)
+      → EndsUnserved (behind tally.held tally_now.held now.unread fault old.unread takes) old now ended → EndsSo old now tally tally_now ended
+  ends_so fault takes ended says ends = record {
+    behind = behind tally.held tally_now.held now.unread fault old.unread takes;
+    read = left_behind tally.held tally_now.held now.unread fault (IsLeft ended) says old.unread takes;
+    nothing = nothing;
+    tally_is = tally_is;
+    ends = ends;
+  }
+
+  answered : (fault : WireFault) (sent : Reply) (answer : End) → Takes fault
+      → ((given left : List ℕ) → ReadsFault fault tally_now.held given left → ReadsRequestAt given (Err fault))
+      → ((given left : List ℕ) → ReadsFault fault tally_now.held given left → IsLeft (end.Wire fault) given left)
+      → reply_to_fault fault ≡ Some sent → EndsBehind (end.Wire fault) sent old.written now.written old.write_faults now.write_faults answer
+      → TurnEnds number old now tally tally_now (Some answer)
+  answered fault sent answer takes reads says due (inl (is, wrote)) =
+      subst (λ e. TurnEnds number old now tally tally_now (Some e)) (sym is) (ends_so fault takes (end.Wire fault) says (inr (sent, due, wrote)))
+  answered fault sent answer takes reads says due (inr (is, rose, front)) =
+      subst (λ e. TurnEnds number old now tally tally_now (Some e)) (sym is)
+      (inr (ends_so fault takes end.WriteFault (λ given left read. tt) (
+        rose,
+        sent,
+        inl (fault, given_behind tally.held tally_now.held now.unread fault (λ bytes. ReadsRequestAt bytes (Err fault)) reads old.unread takes, due),
+        front,
+      )))
+
+  pub fault_turn : (fault : WireFault) (answer : End) → Takes fault → (fault ≡ ReadFault → Rose old.read_faults now.read_faults)
+      → EndsByFault fault old.written now.written old.write_faults now.write_faults answer → TurnEnds number old now tally tally_now (Some answer)
+  unfolding IsReadOf
+  fault_turn Ended answer takes rose ends =
+      subst (λ e. TurnEnds number old now tally tally_now (Some e)) (sym ends.0)
+      (ends_so Ended takes end.SourceEnded (λ given left read. read) ends.1)
+  fault_turn ReadFault answer takes rose ends =
+      subst (λ e. TurnEnds number old now tally tally_now (Some e)) (sym ends.0)
+      (ends_so ReadFault takes end.ReadFault (λ given left read. read) (rose refl, ends.1))
+  fault_turn (Truncated n) answer takes rose ends =
+      subst (λ e. TurnEnds number old now tally tally_now (Some e)) (sym ends.0)
+      (ends_so (Truncated n) takes (end.Wire (Truncated n)) (λ given left read. read) (inl (n, refl, ends.1)))
+  fault_turn NoMemory answer takes rose (inl (is, wrote)) =
+      subst (λ e. TurnEnds number old now tally tally_now (Some e)) (sym is) (ends_so NoMemory takes end.NoMemory (λ given left read. tt) wrote)
+  fault_turn NoMemory answer takes rose (inr (is, failed, front)) =
+      subst (λ e. TurnEnds number old now tally tally_now (Some e)) (sym is)
+      (inr (ends_so NoMemory takes end.WriteFault (λ given left read. tt) (failed, last_reply, inr refl, front)))
+  fault_turn HeadTooLong answer takes rose ends =
+      answered HeadTooLong ends.0 answer takes (λ given left read. read) (λ given left read. read) ends.1 ends.2
+  fault_turn BadHead answer takes rose ends = answered BadHead ends.0 answer takes (λ given left read. read) (λ given left read. read) ends.1 ends.2
+  fault_turn Chunked answer takes rose ends = answered Chunked ends.0 answer takes (λ given left read. read) (λ given left read. read) ends.1 ends.2
+  fault_turn BadLength answer takes rose ends = answered BadLength ends.0 answer takes (λ given left read. read) (λ given left read. read) ends.1 ends.2
+  fault_turn (BodyTooLong n) answer takes rose ends =
+      answered (BodyTooLong n) ends.0 answer takes (λ given left read. read) (λ given left read. read) ends.1 ends.2
 
 -- ---- a request that was answered
 
@@ -108,11 +134,11 @@ module _ (number edge moment : ℕ) (request : Request) (old now : SessionView) 
   item = record { request = request; moment = moment; met = answers.met; told = told; position = printed.position }
 
   -- the item of the request
-  pub serves : (next_edge : ℕ) → IsPrinted now.seat answer printed → next_edge ≡ max edge printed.edge
-      → IfSome old.unread (λ bytes. (rest : List ℕ) × (now.unread ≡ Some rest) × ReadsRequestAt bytes (Ok (request, rest)))
+  pub serves : (next_edge : ℕ) (held held_now : List ℕ) → IsPrinted now.seat answer printed → next_edge ≡ max edge printed.edge
+      → TakesRequest held held_now old.unread now.unread (Ok request)
       → IfSome now.readings (λ readings. IfSome old.readings (λ before. readings ≡ before ++ moment ∷ []))
-      → IfSome now.readings (λ readings. (before : List ℕ) × (old.readings ≡ Some before)) → ServesItem number edge next_edge old now item
-  serves next_edge is_printed edge_is reads clock clock_told = record {
+      → IfSome now.readings (λ readings. (before : List ℕ) × (old.readings ≡ Some before)) → ServesItem number edge next_edge held held_now old now item
+  serves next_edge held held_now is_printed edge_is reads clock clock_told = record {
     request = reads;
     moment = clock;
     clock_told = clock_told;
@@ -138,7 +164,7 @@ module _ (number edge moment : ℕ) (request : Request) (old now : SessionView) 
 
 -- what came of the turn, by whether the reply was written and its client asks for the connection to close
 module _ {T : Type 0} (number : ℕ) (old now : SessionView) (tally tally_now : Tally) (item : SessionItem)
-    (serves : ServesItem number tally.edge tally_now.edge old now item) where
+    (serves : ServesItem number tally.edge tally_now.edge tally.held tally_now.held old now item) where
   by_close : (close : Bool) (done : T) → item.request.close ≡ close → ServesWhole number old now tally tally_now item
       → TurnEnds number old now tally tally_now (end_behind {T = T} (Ok done) close)
   by_close true done is whole = (item, whole, is)

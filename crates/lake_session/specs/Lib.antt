@@ -3,5 +3,5 @@ pub mod SessionItems
 pub mod SessionViews
 pub mod FaultEnds
 pub mod SessionTurns
-pub mod RequestTaking
+pub mod PrintedAnswers
 pub mod WholeSessions

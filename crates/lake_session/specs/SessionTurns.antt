@@ -1,7 +1,8 @@
 -- What came of one turn of a session: a request was served, or the session ended.
-use Rattle.std.specs.Prelude.{◌≡◌, ◌≤◌, ◌⊎◌, ◌++◌, ℕ, Bool, true, false, List, [], ◌∷◌, Option, Some, None, IfSome, Result, Ok, Err}
+use Rattle.std.specs.Prelude.{◌≡◌, ◌≤◌, ◌⊎◌, ◌++◌, ℕ, Bool, true, false, List, [], ◌∷◌, Option, Some, None, IfSome, Result, Ok, Err, ⊤}
 use Rattle.lake_base.specs.Outside.{Rose}
 use Rattle.lake_base.specs.declared.outside.Failed.{Failed}
+use Rattle.http_wire.specs.Filling.{Gave}
 use Rattle.http_wire.specs.Messages.{IsRequestHeadOf, IsUnfinished, ReadsRequestAt, fields_of, request_of}
 use Rattle.http_wire.specs.ReplyText.{reply_text}
 use Rattle.http_wire.specs.SinkFronts.{Wrote, WroteFront}
@@ -20,13 +21,23 @@ use Rattle.lake_session.specs.SessionViews.{ServesItem, SessionView}
 abbrev pub HoldsPart : List ℕ → Type 0
 HoldsPart = IsUnfinished IsRequestHeadOf (λ (head : RequestHead). fields_of head.fields) request_of (Some 67108864)
 
--- what is left of the bytes where a message isn't read for this fault: they have that fault; or, where the source failed, no whole
--- request stood in what it gave
-abbrev pub IsFaultOf : WireFault → (unread : Option (List ℕ)) → Type 0
-IsFaultOf fault unread = IfSome unread (λ bytes. ReadsRequestAt bytes (Err fault))
+-- the bytes given have this fault, where they are told
+abbrev pub IsFaultOf : WireFault → (given : Option (List ℕ)) → Type 0
+IsFaultOf fault given = IfSome given (λ bytes. ReadsRequestAt bytes (Err fault))
 
-abbrev pub FailedBehind : (unread : Option (List ℕ)) → Type 0
-FailedBehind unread = IfSome unread (λ bytes. (given left : List ℕ) × (given ++ left ≡ bytes) × HoldsPart given)
+-- the bytes given have this fault, and where it is that they end, nothing is left
+abbrev pub HasFault : WireFault → (given left : List ℕ) → Type 0
+HasFault Ended given left = ReadsRequestAt given (Err Ended) × (left ≡ [])
+HasFault (Truncated n) given left = ReadsRequestAt given (Err (Truncated n)) × (left ≡ [])
+HasFault fault given left = ReadsRequestAt given (Err fault)
+
+-- WHAT STANDS BEHIND THE REQUESTS of a session that ended so, of what its source gave, and is left of what this had: all whole requests
+-- that were given first were answered, unless it ended before them.
+abbrev pub IsLeft : End → (rest left : List ℕ) → Type 0
+IsLeft end.SourceEnded rest left = HasFault Ended rest left
+IsLeft (end.Wire fault) rest left = HasFault fault rest left
+IsLeft end.ReadFault rest left = HoldsPart rest
+IsLeft _ rest left = ⊤
 
 -- nothing changed but what is unread, what was written, and what the source and the sink counted
 pub record NothingServed (old now : SessionView) : Type 0 where
@@ -34,48 +45,49 @@ pub record NothingServed (old now : SessionView) : Type 0 where
   pub store : now.store ≡ old.store
   pub seat : now.seat ≡ old.seat
 
--- the reply that ends a session: to a fault, or that of want of memory
-abbrev pub IsLastReply : (unread : Option (List ℕ)) → Reply → Type 0
-IsLastReply unread sent = ((fault : WireFault) × IsFaultOf fault unread × (reply_to_fault fault ≡ Some sent)) ⊎ (sent ≡ last_reply)
+-- the reply that ends a session behind these bytes: to their fault, or that of want of memory
+abbrev pub IsLastReply : (behind : Option (List ℕ)) → Reply → Type 0
+IsLastReply behind sent = ((fault : WireFault) × IsFaultOf fault behind × (reply_to_fault fault ≡ Some sent)) ⊎ (sent ≡ last_reply)
 
--- a session ended so, and nothing was served
-abbrev pub EndsUnserved : (old now : SessionView) → End → Type 0
-EndsUnserved old now end.SourceEnded = IsFaultOf Ended old.unread × (now.written ≡ old.written)
-EndsUnserved old now end.ReadFault = Rose old.read_faults now.read_faults × FailedBehind old.unread × (now.written ≡ old.written)
-EndsUnserved old now (end.Wire fault) =
-    IsFaultOf fault old.unread
-    × (((n : ℕ) × (fault ≡ Truncated n) × (now.written ≡ old.written))
-    ⊎ ((sent : Reply) × (reply_to_fault fault ≡ Some sent) × Wrote old.written now.written (reply_text sent)))
-EndsUnserved old now end.NoMemory = Wrote old.written now.written (reply_text last_reply)
-EndsUnserved old now end.WriteFault =
-    Rose old.write_faults now.write_faults
-    × (sent : Reply) × IsLastReply old.unread sent × WroteFront old.written now.written (reply_text sent)
-EndsUnserved old now end.Closed = ⊥
-EndsUnserved old now end.RequestLimit = ⊥
+-- a session ended so behind these bytes, and nothing was served
+abbrev pub EndsUnserved : (behind : Option (List ℕ)) → (old now : SessionView) → End → Type 0
+EndsUnserved behind old now end.SourceEnded = now.written ≡ old.written
+EndsUnserved behind old now end.ReadFault = Rose old.read_faults now.read_faults × (now.written ≡ old.written)
+EndsUnserved behind old now (end.Wire fault) =
+    ((n : ℕ) × (fault ≡ Truncated n) × (now.written ≡ old.written))
+    ⊎ ((sent : Reply) × (reply_to_fault fault ≡ Some sent) × Wrote old.written now.written (reply_text sent))
+EndsUnserved behind old now end.NoMemory = Wrote old.written now.written (reply_text last_reply)
+EndsUnserved behind old now end.WriteFault =
+    Rose old.write_faults now.write_faults × (sent : Reply) × IsLastReply behind sent × WroteFront old.written now.written (reply_text sent)
+EndsUnserved behind old now end.Closed = ⊥
+EndsUnserved behind old now end.RequestLimit = ⊥
 
--- what a session has to report of its requests, and its edge
+-- what a session keeps from one request to the next: what it has to report, its edge, and the bytes that are held, which were read ahead
 pub record Tally : Type 0 where
   pub placed : List Placed
   pub edge : ℕ
+  pub held : List ℕ
 
 -- an item was served, and its reply was written whole
 pub record ServesWhole (number : ℕ) (old now : SessionView) (tally tally_now : Tally) (item : SessionItem) : Type 0 where
-  pub serves : ServesItem number tally.edge tally_now.edge old now item
+  pub serves : ServesItem number tally.edge tally_now.edge tally.held tally_now.held old now item
   pub placed : tally_now.placed ≡ tally.placed ++ placed_item number item true ∷ []
   pub wrote : Wrote old.written now.written (item_text number item)
 
 -- an item was served, and a front of its reply was written before the sink failed
 pub record ServesInPart (number : ℕ) (old now : SessionView) (tally tally_now : Tally) (item : SessionItem) : Type 0 where
-  pub serves : ServesItem number tally.edge tally_now.edge old now item
+  pub serves : ServesItem number tally.edge tally_now.edge tally.held tally_now.held old now item
   pub placed : tally_now.placed ≡ tally.placed ++ placed_item number item false ∷ []
   pub wrote : WroteFront old.written now.written (item_text number item)
   pub failed : Rose old.write_faults now.write_faults
 
--- nothing was served, and the session ended so
+-- nothing was served, and the session ended so, behind these bytes of those held and given
 pub record EndsSo (old now : SessionView) (tally tally_now : Tally) (ended : End) : Type 0 where
+  pub behind : Option (List ℕ)
+  pub read : IfSome old.unread (λ had. Gave tally.held had now.unread (λ given left. (behind ≡ Some given) × IsLeft ended given left))
   pub nothing : NothingServed old now
-  pub tally_is : tally_now ≡ tally
-  pub ends : EndsUnserved old now ended
+  pub tally_is : tally_now ≡ record tally { held = tally_now.held }
+  pub ends : EndsUnserved behind old now ended
 
 -- WHAT CAME OF A TURN: the session goes on behind an item, or it ended so.
 abbrev pub TurnEnds : (number : ℕ) → (old now : SessionView) → (tally tally_now : Tally) → Option End → Type 0

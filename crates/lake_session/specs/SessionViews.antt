@@ -1,8 +1,9 @@
 -- What a session works on, as it shows at a moment.
-use Rattle.std.specs.Prelude.{◌≡◌, ◌≤◌, ◌⊎◌, ◌++◌, ℕ, max, List, [], ◌∷◌, Option, Some, IfSome, Ok}
+use Rattle.std.specs.Prelude.{◌≡◌, ◌≤◌, ◌⊎◌, ◌++◌, ℕ, max, List, [], ◌∷◌, Option, Some, IfSome, Result, Ok}
 use Rattle.block_store.specs.Blocks.{HeldObjects}
 use Rattle.http_wire.specs.declared.message.Request.{Request}
-use Rattle.http_wire.specs.Messages.{ReadsRequestAt}
+use Rattle.http_wire.specs.Messages.{IsRequestAnswer}
+use Rattle.http_wire.specs.declared.fault.WireFault.{WireFault}
 use Rattle.lake_core.specs.declared.standing.LakeOrigin.{LakeOrigin}
 use Rattle.shared_lake.specs.SeatSteps.{LakeSeat}
 use Rattle.call_placement.specs.Sessions.{IsItemServed, caller}
@@ -23,7 +24,7 @@ pub record StoreView : Type 0 where
   pub faults : ℕ
   pub misses : ℕ
 
--- what a session works on: the bytes that aren't read yet, and what was written, where streams tell it; the clock's readings; the
+-- what a session works on: the bytes that its source has left, and what was written, where streams tell it; the clock's readings; the
 -- store of objects; and its seat
 pub record SessionView : Type 0 where
   pub unread : Option (List ℕ)
@@ -59,10 +60,15 @@ pub record IsRequestAnswered (number edge : ℕ) (request : Request) (moment : �
   pub fitting : KeepsFitting old new before.held now.held
   pub reads : (call : Call) → asked request ≡ Asks call → ReadsHeld old before.held call answer.reply answer.position
 
--- AN ITEM OF A SESSION WAS SERVED, but for the writing of its reply: its request is the first of the bytes, its moment the next
--- reading, and it was answered so, and told what it was answered, or that memory ran out as that was printed.
-pub record ServesItem (number edge next_edge : ℕ) (old now : SessionView) (item : SessionItem) : Type 0 where
-  pub request : IfSome old.unread (λ bytes. (rest : List ℕ) × (now.unread ≡ Some rest) × ReadsRequestAt bytes (Ok (item.request, rest)))
+-- A REQUEST WAS TAKEN from a source, or none for a fault: it gave the first of the bytes that it had, behind those that were held; so
+-- these read, and those behind the request are held then
+abbrev pub TakesRequest : (held held_now : List ℕ) → (unread unread_now : Option (List ℕ)) → Result Request WireFault → Type 0
+TakesRequest held held_now unread unread_now answer = IfSome unread (λ had. IsRequestAnswer held had answer held_now unread_now)
+
+-- AN ITEM OF A SESSION WAS SERVED, but for the writing of its reply: its request is the first of the bytes held and given, its moment the
+-- next reading, and it was answered so, and told what it was answered, or that memory ran out as that was printed.
+pub record ServesItem (number edge next_edge : ℕ) (held held_now : List ℕ) (old now : SessionView) (item : SessionItem) : Type 0 where
+  pub request : TakesRequest held held_now old.unread now.unread (Ok item.request)
   pub moment : IfSome now.readings (λ readings. IfSome old.readings (λ before. readings ≡ before ++ item.moment ∷ []))
   pub clock_told : IfSome now.readings (λ readings. (before : List ℕ) × (old.readings ≡ Some before))
   pub call_edge : ℕ

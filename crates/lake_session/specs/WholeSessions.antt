@@ -1,17 +1,17 @@
 -- A session, whole.
-use Rattle.std.specs.Prelude.{◌≡◌, ◌<◌, ◌⊎◌, ◌++◌, ℕ, true, false, List, [], ◌∷◌, map, All, length, Option, Some, IfSome, ⊤}
+use Rattle.std.specs.Prelude.{◌≡◌, ◌≤◌, ◌<◌, ◌⊎◌, ◌++◌, ℕ, true, false, List, [], ◌∷◌, map, All, length, Option, Some, IfSome, ⊤}
 use Rattle.std.specs.FinMap.{get}
 use Rattle.lake_base.specs.Outside.{Rose}
 use Rattle.block_store.specs.Blocks.{HeldObjects}
 use Rattle.http_wire.specs.ReplyText.{reply_text}
 use Rattle.http_wire.specs.SinkFronts.{IsPrefix, Wrote}
-use Rattle.http_wire.specs.declared.fault.WireFault.TheVariants.{Ended, Truncated}
+use Rattle.http_wire.specs.declared.fault.WireFault.TheVariants.{Truncated}
 use Rattle.http_wire.specs.declared.message.Reply.{Reply}
 use Rattle.lake_model.specs.declared.history.HistoryEntry.{HistoryEntry}
 use Rattle.lake_model.specs.History.{IsLegal}
 use Rattle.lake_model.specs.Soundness.{IsSound}
 use Rattle.lake_core.specs.declared.standing.LakeOrigin.{LakeOrigin}
-use Rattle.shared_lake.specs.SeatSteps.{LakeSeat}
+use Rattle.shared_lake.specs.SeatSteps.{LakeSeat, SeesOwn}
 use Rattle.turn_lock.specs.Seats.{seat_after}
 use Rattle.call_placement.specs.Placed.{ArePlaced}
 use Rattle.call_placement.specs.Sessions.{AreServed}
@@ -31,13 +31,13 @@ use Rattle.lake_session.specs.declared.report.Placed.{Placed}
 use Rattle.lake_session.specs.declared.report.SessionReport.{SessionReport}
 use Rattle.lake_session.specs.SessionItems.{AreFirst, NoneCloses, SessionItem, call_item, item_text, moments, placed_item, placed_items, texts}
 use Rattle.lake_session.specs.SessionTexts.{last_reply, reply_to_fault}
-use Rattle.lake_session.specs.SessionTurns.{FailedBehind, IsFaultOf, IsLastReply}
+use Rattle.lake_session.specs.SessionTurns.{IsLastReply, IsLeft}
 use Rattle.lake_session.specs.SessionViews.{HasCounted, SessionView, StoreView}
 
 -- ---- the history
 
--- A SEAT WENT ON IN A SESSION: nothing changed, or what it has seen then begins with what it had seen before, and is legal from a sound
--- opened state; where it is alone, what came is its own; and nothing else of it changed.
+-- A SEAT WENT ON IN A SESSION: nothing changed, or what it has seen then begins with what it had seen before, is legal from a sound
+-- opened state, and has of the seat's number just its own entries; where it is alone, what came is its own; and nothing else of it changed.
 pub record GoesThrough (old now : LakeSeat) : Type 0 where
   pub turn : now.turn ≡ old.turn
   pub seat : now ≡ seat_after old now.seen now.mine
@@ -45,7 +45,7 @@ pub record GoesThrough (old now : LakeSeat) : Type 0 where
   pub seen : now.seen ≡ old.seen ++ added
   pub alone : old.alone ≡ true → All (λ (e : HistoryEntry). e.by.seat ≡ old.number) added
   pub legal : (origin : LakeOrigin) → old.origin ≡ Some origin
-      → (added ≡ []) ⊎ (IsSound (opened_state origin) × IsLegal (opened_state origin) now.seen)
+      → ((added ≡ []) × (now.mine ≡ old.mine)) ⊎ (IsSound (opened_state origin) × IsLegal (opened_state origin) now.seen × SeesOwn now)
 
 -- THE CALLS OF ITEMS, numbered from 1, were served one after the other behind what their seat had seen, and are placed in all that it
 -- has seen then; this is the last edge.
@@ -76,13 +76,17 @@ AllTellHeld old now held items = (origin : LakeOrigin) (objects : HeldObjects) �
 
 -- ---- how it ended
 
--- WHAT IS LEFT of the bytes behind the requests of a session that ended so: all whole requests that stood first were answered, unless it
--- ended before them.
-abbrev pub IsLeft : End → (rest : List ℕ) → Type 0
-IsLeft end.SourceEnded rest = IsFaultOf Ended (Some rest)
-IsLeft (end.Wire fault) rest = IsFaultOf fault (Some rest)
-IsLeft end.ReadFault rest = FailedBehind (Some rest)
-IsLeft _ rest = ⊤
+-- THE REQUESTS of a session that ended so are the first messages of the bytes that its source gave, and all of them unless it ended
+-- before; these are left of what it gave, and the source has the others.
+pub record AreRequests (items : List SessionItem) (ended : End) (bytes : List ℕ) (unread behind : Option (List ℕ)) : Type 0 where
+  pub given : List ℕ
+  pub left : List ℕ
+  pub rest : List ℕ
+  pub gave : given ++ left ≡ bytes
+  pub unread_is : unread ≡ Some left
+  pub behind_is : behind ≡ Some rest
+  pub first : AreFirst items given rest
+  pub is_left : IsLeft ended rest left
 
 -- WHAT WAS WRITTEN by a session that ended so: the reply to each item, whole, in order; and behind these the reply to a message that isn't
 -- read, or that of want of memory. Where the sink failed, of the reply then due a front, which may be that to the last item.
@@ -97,13 +101,15 @@ IsWritten items end.WriteFault rest out = (whole : List SessionItem) × (text fr
 IsWritten items ended rest out = out ≡ texts 1 items
 
 -- WHICH CLIENT ASKED for the connection to close: of a session that ended so the last, or none; and there were fewer than 10,000, or
--- just so many.
+-- just so many, and never more.
 abbrev pub IsEnded : List SessionItem → End → Type 0
-IsEnded items end.Closed = (before : List SessionItem) × (last : SessionItem) × (items ≡ before ++ last ∷ []) × NoneCloses before × (last.request.close ≡ true)
+IsEnded items end.Closed =
+    (before : List SessionItem) × (last : SessionItem) × (items ≡ before ++ last ∷ []) × NoneCloses before × (last.request.close ≡ true)
+    × (length items ≤ 10000)
 IsEnded items end.RequestLimit = NoneCloses items × (length items ≡ 10000)
 IsEnded items end.WriteFault =
     (NoneCloses items × (length items < 10000))
-    ⊎ ((before : List SessionItem) × (last : SessionItem) × (items ≡ before ++ last ∷ []) × NoneCloses before)
+    ⊎ ((before : List SessionItem) × (last : SessionItem) × (items ≡ before ++ last ∷ []) × NoneCloses before × (length items ≤ 10000))
 IsEnded items ended = NoneCloses items × (length items < 10000)
 
 -- what is reported of the items: all were written, but the last where the sink failed in its reply
@@ -125,13 +131,15 @@ HasCause old now ended = ⊤
 -- A SESSION, between what it works on before it and after it: its items, of which each is a request with the moment at which it was
 -- answered, and what its client was told.
 --
--- The requests are the first messages of the bytes that the source had, and all of them unless the session ended before. The moments
+-- The requests are the first messages of the bytes that the source gave, and all of them unless the session ended before. The moments
 -- are the clock's next readings. The calls are placed in one legal history, in which each accepted change of theirs stands once, and
 -- none lies before anything that their client had seen. What was written is the printed replies, in order.
 pub record IsSession (old now : SessionView) (report : SessionReport) : Type 0 where
   pub items : List SessionItem
   pub rest : Option (List ℕ)
-  pub requests : IfSome old.unread (λ bytes. (left : List ℕ) × (rest ≡ Some left) × AreFirst items bytes left × IsLeft report.end left)
+  pub requests : IfSome old.unread (λ bytes. AreRequests items report.end bytes now.unread rest)
+  pub read_faults : old.read_faults ≤ now.read_faults
+  pub write_faults : old.write_faults ≤ now.write_faults
   pub moment : IfSome now.readings (λ readings. (before : List ℕ) × (old.readings ≡ Some before) × (readings ≡ before ++ moments items))
   pub goes : GoesThrough old.seat now.seat
   pub edge : ℕ

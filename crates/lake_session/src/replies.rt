@@ -2,7 +2,7 @@
 ghost use Rattle.std.specs.Prelude.{◌≡◌};
 ghost use Rattle.http_wire.specs.ReplyText.{reply_text};
 ghost use Rattle.lake_base.specs.Outside.{HasCause};
-ghost use Rattle.lake_session.specs.RequestTaking.{IsPrinted, sent_by, tells_form};
+ghost use Rattle.lake_session.specs.PrintedAnswers.{IsPrinted, sent_by, tells_form};
 ghost use Rattle.lake_session.specs.SessionTexts.{Writes};
 
 use api_forms::print;

@@ -1,8 +1,8 @@
 //! One turn of a session: a request is read, answered, and its reply is sent.
-ghost use Rattle.std.specs.Prelude.{◌≡◌, ◌==◌, ◌||◌, ◌<◌, ◌++◌, OnOk, max, option_map, vec_capacity, vec_len};
+ghost use Rattle.std.specs.Prelude.{◌≡◌, ◌==◌, ◌||◌, ◌<◌, OnOk, max, vec_capacity, vec_len};
 ghost use Rattle.http_wire.specs.Filling.{HasReadCause};
-ghost use Rattle.lake_session.specs.RequestTaking.{TakesRequest};
 ghost use Rattle.lake_session.specs.SessionTurns.{IsTurn, end_behind};
+ghost use Rattle.lake_session.specs.SessionViews.{TakesRequest};
 
 use crate::faults::end_by_fault;
 use crate::replies::{print_answer, send};
@@ -37,7 +37,7 @@ pub(crate) fn serve_next<K: Keeper, B: Blocks, C: Clock, S: Source, O: Sink, W: 
     requires { seat.old.turn ≡ lake.now }
     ensures { IsTurn number
         (record {
-          unread = option_map (λ left. buffer.old ++ left) (S.left source.old);
+          unread = S.left source.old;
           read_faults = S.faults source.old;
           written = O.written sink.old;
           write_faults = O.faults sink.old;
@@ -46,7 +46,7 @@ pub(crate) fn serve_next<K: Keeper, B: Blocks, C: Clock, S: Source, O: Sink, W: 
           seat = seat.old;
         })
         (record {
-          unread = option_map (λ left. buffer.new ++ left) (S.left source.new);
+          unread = S.left source.new;
           read_faults = S.faults source.new;
           written = O.written sink.new;
           write_faults = O.faults sink.new;
@@ -54,7 +54,8 @@ pub(crate) fn serve_next<K: Keeper, B: Blocks, C: Clock, S: Source, O: Sink, W: 
           store = record { held = B.held blocks.new; faults = B.faults blocks.new; misses = B.misses blocks.new };
           seat = seat.new;
         })
-        (record { placed = placed.old.items; edge = edge.old }) (record { placed = placed.new.items; edge = edge.new })
+        (record { placed = placed.old.items; edge = edge.old; held = buffer.old })
+        (record { placed = placed.new.items; edge = edge.new; held = buffer.new })
         result }
 {
     let request = match take_request(alloc, source, buffer, placed) {
@@ -99,8 +100,7 @@ fn take_request<S: Source>(
     buffer: &mut Buffer,
     placed: &mut Vec<Placed>,
 ) -> Result<Request, WireFault>
-    ensures takes { TakesRequest (option_map (λ left. buffer.old ++ left) (S.left source.old))
-        (option_map (λ left. buffer.new ++ left) (S.left source.new)) result }
+    ensures takes { TakesRequest buffer.old buffer.new (S.left source.old) (S.left source.new) result }
     ensures cause { HasReadCause (S.faults source.old) (S.faults source.new) result }
     ensures placed { placed.new.items ≡ placed.old.items }
     ensures room { OnOk result (vec_len placed.new < vec_capacity placed.new) }

@@ -1,6 +1,7 @@
 -- What comes of a request that a session of its own serves.
 use Rattle.std.proofs.Common.{◌≡◌, ◌≢◌, ◌⊎◌, inl, inr, ℕ, Bool, true, false, List, [], ◌∷◌, ◌++◌, length, Option, Some, None, Result, Ok, Err}
 use Rattle.std.proofs.Common.{if◌then◌else◌, nat_lt, refl, sym, ap, subst, ◌∙◌, ◌<◌, arith, append-nil}
+use Rattle.std.specs.Bool.{⊤}
 use Rattle.std.proofs.lemmas.List.Elements.{All-head}
 use Rattle.lake_base.specs.Outside.{Rose}
 use Rattle.http_wire.specs.Messages.{ReadsRequestAt}
@@ -11,7 +12,9 @@ use Rattle.http_wire.proofs.UniqueLemmas.{one_request}
 use Rattle.lakectl_words.specs.WireRequests.{head_text}
 use Rattle.lakectl_requests.specs.SentReadings.{read_back}
 use Rattle.lake_session.specs.SessionItems.{AreFirst, NoneCloses, SessionItem, item_text}
-use Rattle.lake_session.specs.WholeSessions.{HasCause, IsEnded, IsLeft, IsSession, IsWritten}
+use Rattle.lake_session.specs.SessionTurns.{IsLeft}
+use Rattle.lake_session.specs.WholeSessions.{AreRequests, HasCause, IsEnded, IsSession, IsWritten}
+use Rattle.lake_session.proofs.ItemLemmas.{fault_of_all, first_longer}
 use Rattle.lake_session.specs.declared.report.End.{End}
 use Rattle.lake_session.specs.declared.report.End.TheVariants as end
 use Rattle.lakectl_session.specs.Exchanges.{Answered, AnsweredUnwritten, Exchanges, LakeView, ServesItems, Starved, Unread, UnservedUnwritten}
@@ -86,13 +89,28 @@ first_open item other more (first ∷ before) last is none =
 
 -- ---- a session over the bytes of a request
 
+-- what all the bytes behind the requests read as, by how the session ended
+abbrev LeavesFault : End → (left : List ℕ) → Type 0
+LeavesFault end.SourceEnded left = ReadsRequestAt left (Err Ended)
+LeavesFault (end.Wire fault) left = ReadsRequestAt left (Err fault)
+LeavesFault ended left = ⊤
+
+leaves_fault : (ended : End) (rest left : List ℕ) → IsLeft ended rest left → LeavesFault ended (rest ++ left)
+leaves_fault end.SourceEnded rest left is = fault_of_all Ended rest left is
+leaves_fault (end.Wire fault) rest left is = fault_of_all fault rest left is
+leaves_fault end.Closed rest left is = tt
+leaves_fault end.ReadFault rest left is = tt
+leaves_fault end.WriteFault rest left is = tt
+leaves_fault end.RequestLimit rest left is = tt
+leaves_fault end.NoMemory rest left is = tt
+
 module _ (request : Request) (text : List ℕ) (closing : IsClosingText request text) (old now : LakeView) where
   -- what is known of a session with these items that ended so and wrote this
   record Course (items : List SessionItem) (ended : End) (out : List ℕ) : Type 0 where
     rest : Option (List ℕ)
     left : List ℕ
     first : AreFirst items text left
-    is_left : IsLeft ended left
+    is_left : LeavesFault ended left
     written : IsWritten items ended rest out
     is_end : IsEnded items ended
     quiet : ended ≢ end.ReadFault
@@ -212,13 +230,15 @@ module _ (request : Request) (text : List ℕ) (closing : IsClosingText request 
   pub exchanged : (written : Option (List ℕ)) → IsSessionOf text old now written → Exchanges request old now written
   exchanged written s =
       let session : IsSession (in_memory old (Some text) [] 0) (in_memory now s.left s.out s.faults) s.report = s.is in
+      let requests : AreRequests session.items s.report.end text s.left session.rest = session.requests in
       let wrote : Some s.out ≡ Some (session.written.0) = session.written.2 in
       let same : s.out ≡ session.written.0 = cc wrote in
       let course : Course session.items s.report.end s.out = record {
         rest = session.rest;
-        left = session.requests.0;
-        first = session.requests.2;
-        is_left = session.requests.3;
+        left = requests.rest ++ requests.left;
+        first = subst (λ (b : List ℕ). AreFirst session.items b (requests.rest ++ requests.left)) requests.gave
+            (first_longer session.items requests.given requests.rest requests.left requests.first);
+        is_left = leaves_fault s.report.end requests.rest requests.left requests.is_left;
         written = subst (IsWritten session.items s.report.end session.rest) (sym same) session.written.1;
         is_end = session.ended;
         quiet = never_read_fault s.left s.out s.faults s.report.end session.cause;

@@ -1,4 +1,4 @@
-use Rattle.std.proofs.Common.{◌+◌, ◌++◌, option_map, subst, arith}
+use Rattle.std.proofs.Common.{◌+◌, subst, arith}
 use Rattle.lake_session.specs.SessionTurns.{IsTurn, Tally}
 use Rattle.lake_session.specs.SessionViews.{SessionView}
 use Rattle.lake_session.proofs.LoopLemmas.{way_begins, way_ends, way_goes_on, way_is_full}
@@ -41,7 +41,7 @@ returns-in-Some g c =
       seat = c.args.seat.now;
     } in
     let now : SessionView = record {
-      unread = option_map (λ left. c.serving.buffer ++ left) (g.S.Source.left c.serving.source);
+      unread = g.S.Source.left c.serving.source;
       read_faults = g.S.Source.faults c.serving.source;
       written = g.O.Sink.written c.serving.sink;
       write_faults = g.O.Sink.faults c.serving.sink;
@@ -54,7 +54,7 @@ returns-in-Some g c =
       seat = c.serving.seat;
     } in
     let next : SessionView = record {
-      unread = option_map (λ left. c.serve_next-ended.new.buffer ++ left) (g.S.Source.left c.serve_next-ended.new.source);
+      unread = g.S.Source.left c.serve_next-ended.new.source;
       read_faults = g.S.Source.faults c.serve_next-ended.new.source;
       written = g.O.Sink.written c.serve_next-ended.new.sink;
       write_faults = g.O.Sink.faults c.serve_next-ended.new.sink;
@@ -66,9 +66,13 @@ returns-in-Some g c =
       };
       seat = c.serve_next-ended.new.seat;
     } in
-    let tally : Tally = record { placed = c.serving.placed.items; edge = c.serving.edge } in
-    let tally_next : Tally = record { placed = c.serve_next-ended.new.placed.items; edge = c.serve_next-ended.new.edge } in
-    way_ends c.serving.number old now next tally tally_next c.in-Some.end c.seen-from.result c.reported.result (g.S.Source.left c.serve_next-ended.new.source)
+    let tally : Tally = record { placed = c.serving.placed.items; edge = c.serving.edge; held = c.serving.buffer } in
+    let tally_next : Tally = record {
+      placed = c.serve_next-ended.new.placed.items;
+      edge = c.serve_next-ended.new.edge;
+      held = c.serve_next-ended.new.buffer;
+    } in
+    way_ends c.serving.number old now next tally tally_next c.in-Some.end c.seen-from.result c.reported.result
     c.serving.invariant.way (omega (arith, c.serving-test.true))
     (subst (IsTurn (c.serving.number + 1) now next tally tally_next) c.in-Some.is c.serve_next-ended.ensures) c.seen-from.ensures c.reported.ensures
 
@@ -88,7 +92,7 @@ serving-preserved g c =
       seat = c.args.seat.now;
     } in
     let now : SessionView = record {
-      unread = option_map (λ left. c.serving.buffer ++ left) (g.S.Source.left c.serving.source);
+      unread = g.S.Source.left c.serving.source;
       read_faults = g.S.Source.faults c.serving.source;
       written = g.O.Sink.written c.serving.sink;
       write_faults = g.O.Sink.faults c.serving.sink;
@@ -101,7 +105,7 @@ serving-preserved g c =
       seat = c.serving.seat;
     } in
     let next : SessionView = record {
-      unread = option_map (λ left. c.serve_next-ended.new.buffer ++ left) (g.S.Source.left c.serve_next-ended.new.source);
+      unread = g.S.Source.left c.serve_next-ended.new.source;
       read_faults = g.S.Source.faults c.serve_next-ended.new.source;
       written = g.O.Sink.written c.serve_next-ended.new.sink;
       write_faults = g.O.Sink.faults c.serve_next-ended.new.sink;
@@ -113,8 +117,12 @@ serving-preserved g c =
       };
       seat = c.serve_next-ended.new.seat;
     } in
-    let tally : Tally = record { placed = c.serving.placed.items; edge = c.serving.edge } in
-    let tally_next : Tally = record { placed = c.serve_next-ended.new.placed.items; edge = c.serve_next-ended.new.edge } in
+    let tally : Tally = record { placed = c.serving.placed.items; edge = c.serving.edge; held = c.serving.buffer } in
+    let tally_next : Tally = record {
+      placed = c.serve_next-ended.new.placed.items;
+      edge = c.serve_next-ended.new.edge;
+      held = c.serve_next-ended.new.buffer;
+    } in
     record {
       way = way_goes_on c.serving.number old now next tally tally_next c.serving.invariant.way
           (subst (IsTurn (c.serving.number + 1) now next tally tally_next) c.in_default.is c.serve_next-ended.ensures);
@@ -137,7 +145,7 @@ returns g c =
       seat = c.args.seat.now;
     } in
     let now : SessionView = record {
-      unread = option_map (λ left. c.serving.buffer ++ left) (g.S.Source.left c.serving.source);
+      unread = g.S.Source.left c.serving.source;
       read_faults = g.S.Source.faults c.serving.source;
       written = g.O.Sink.written c.serving.sink;
       write_faults = g.O.Sink.faults c.serving.sink;
@@ -149,6 +157,6 @@ returns g c =
       };
       seat = c.serving.seat;
     } in
-    let tally : Tally = record { placed = c.serving.placed.items; edge = c.serving.edge } in
-    way_is_full c.serving.number old now tally c.seen-from.result c.reported-2.result (g.S.Source.left c.serving.source) c.serving.invariant.way
+    let tally : Tally = record { placed = c.serving.placed.items; edge = c.serving.edge; held = c.serving.buffer } in
+    way_is_full c.serving.number old now tally c.seen-from.result c.reported-2.result c.serving.invariant.way
     (omega (arith, c.serving.invariant.few, c.serving-test.false)) c.seen-from.ensures c.reported-2.ensures

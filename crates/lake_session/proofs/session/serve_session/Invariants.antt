@@ -1,4 +1,4 @@
-use Rattle.std.proofs.Common.{◌-◌, ◌≤◌, ◌++◌, option_map}
+use Rattle.std.proofs.Common.{◌-◌, ◌≤◌}
 use Rattle.lake_session.proofs.SoFarLemmas.{AreUnderWay}
 use Rattle.lake_session.proofs.session.serve_session.Given as goal
 
@@ -16,7 +16,7 @@ invariant-serving g l = record {
         seat = l.fn.seat;
       })
       (record {
-        unread = option_map (λ left. l.buffer ++ left) (g.S.Source.left l.source);
+        unread = g.S.Source.left l.source;
         read_faults = g.S.Source.faults l.source;
         written = g.O.Sink.written l.sink;
         write_faults = g.O.Sink.faults l.sink;
@@ -24,7 +24,7 @@ invariant-serving g l = record {
         store = record { held = g.B.Blocks.held l.blocks; faults = g.B.Blocks.faults l.blocks; misses = g.B.Blocks.misses l.blocks };
         seat = l.seat;
       })
-      (record { placed = l.placed.items; edge = l.edge });
+      (record { placed = l.placed.items; edge = l.edge; held = l.buffer });
   few : l.number ≤ 10000;
 }
 

@@ -1,9 +1,9 @@
-use Rattle.std.proofs.Common.{◌≡◌, ◌++◌, option_map, List, [], ◌∷◌, Some, Err, ap, sym, subst, ◌∙◌, refl}
+use Rattle.std.proofs.Common.{◌≡◌, ◌++◌, ℕ, List, [], ◌∷◌, Some, Err, ap, sym, subst, ◌∙◌, refl}
 use Rattle.http_wire.specs.ReplyText.{reply_text}
 use Rattle.lake_session.specs.declared.report.Placed.{Placed}
 use Rattle.lake_session.specs.SessionItems.{SessionItem, item_text}
 use Rattle.lake_session.specs.SessionTexts.{Writes, told_text}
-use Rattle.lake_session.specs.RequestTaking.{sent_by}
+use Rattle.lake_session.specs.PrintedAnswers.{sent_by}
 use Rattle.lake_session.specs.SessionTurns.{Tally, TurnEnds}
 use Rattle.lake_session.specs.SessionViews.{SessionView, StoreView}
 use Rattle.lake_session.proofs.ClockLemmas.{clock_told}
@@ -18,7 +18,7 @@ returns-in-Err g c =
       misses = g.B.Blocks.misses c.args.blocks.now;
     } in
     let old : SessionView = record {
-      unread = option_map (λ left. c.args.buffer.now ++ left) (g.S.Source.left c.args.source.now);
+      unread = g.S.Source.left c.args.source.now;
       read_faults = g.S.Source.faults c.args.source.now;
       written = g.O.Sink.written c.args.sink.now;
       write_faults = g.O.Sink.faults c.args.sink.now;
@@ -27,7 +27,7 @@ returns-in-Err g c =
       seat = c.args.seat.now;
     } in
     let now : SessionView = record {
-      unread = option_map (λ left. c.take_request.new.buffer ++ left) (g.S.Source.left c.take_request.new.source);
+      unread = g.S.Source.left c.take_request.new.source;
       read_faults = g.S.Source.faults c.take_request.new.source;
       written = g.O.Sink.written c.end_by_fault.new.sink;
       write_faults = g.O.Sink.faults c.end_by_fault.new.sink;
@@ -35,20 +35,22 @@ returns-in-Err g c =
       store = store;
       seat = c.args.seat.now;
     } in
-    let tally : Tally = record { placed = c.args.placed.now.items; edge = c.args.edge.now } in
+    let tally : Tally = record { placed = c.args.placed.now.items; edge = c.args.edge.now; held = c.args.buffer.now } in
+    let held : List ℕ = c.take_request.new.buffer in
+    let tally_now : Tally = record { placed = c.take_request.new.placed.items; edge = c.args.edge.now; held = held } in
+    let tally_is : tally_now ≡ record tally { held = held } =
+    ap (λ (placed : List Placed). record { placed = placed; edge = c.args.edge.now; held = held }) c.take_request.ensures.placed in
     record {
       read_faults = c.take_request.ensures.cause.later;
       write_faults = c.end_by_fault.ensures.later;
-      came = subst (λ placed. TurnEnds c.args.number old now tally (record { placed = placed; edge = c.args.edge.now }) (Some c.end_by_fault.result))
-          (sym c.take_request.ensures.placed)
-          (fault_turn c.args.number old now tally (record { readings = refl; store = refl; seat = refl }) c.in-Err.fault c.end_by_fault.result
-          c.in-Err.ensures.takes (λ is. c.take_request.ensures.cause.failed (c.in-Err.is ∙ ap Err is)) c.end_by_fault.ensures.ends);
+      came = fault_turn c.args.number old now tally tally_now (record { readings = refl; store = refl; seat = refl }) tally_is c.in-Err.fault
+          c.end_by_fault.result c.in-Err.ensures.takes (λ is. c.take_request.ensures.cause.failed (c.in-Err.is ∙ ap Err is)) c.end_by_fault.ensures.ends;
     }
 
 pub returns : goal.returns
 returns g c =
     let old : SessionView = record {
-      unread = option_map (λ left. c.args.buffer.now ++ left) (g.S.Source.left c.args.source.now);
+      unread = g.S.Source.left c.args.source.now;
       read_faults = g.S.Source.faults c.args.source.now;
       written = g.O.Sink.written c.args.sink.now;
       write_faults = g.O.Sink.faults c.args.sink.now;
@@ -61,7 +63,7 @@ returns g c =
       seat = c.args.seat.now;
     } in
     let now : SessionView = record {
-      unread = option_map (λ left. c.take_request.new.buffer ++ left) (g.S.Source.left c.take_request.new.source);
+      unread = g.S.Source.left c.take_request.new.source;
       read_faults = g.S.Source.faults c.take_request.new.source;
       written = g.O.Sink.written c.send-sent.new.sink;
       write_faults = g.O.Sink.faults c.send-sent.new.sink;
@@ -74,15 +76,17 @@ returns g c =
       seat = c.answer_request-answered.new.seat;
     } in
     let edge = c.args.edge.now in
-    let tally : Tally = record { placed = c.args.placed.now.items; edge = edge } in
-    let tally_now : Tally = record { placed = c.push_reserved.new.self.items; edge = c.later.result } in
+    let held : List ℕ = c.args.buffer.now in
+    let held_now : List ℕ = c.take_request.new.buffer in
+    let tally : Tally = record { placed = c.args.placed.now.items; edge = edge; held = held } in
+    let tally_now : Tally = record { placed = c.push_reserved.new.self.items; edge = c.later.result; held = held_now } in
     let request = c.in-Ok.request in
     let answers = c.answer_request-answered.ensures in
     let printed = c.print_answer-told.result in
     let is_printed = c.print_answer-told.ensures in
     let one : SessionItem = item c.args.number edge c.now-moment.result request old now c.answer_request-answered.result answers printed in
     let serves_one = serves c.args.number edge c.now-moment.result request old now c.answer_request-answered.result answers printed c.later.result
-    is_printed c.later.ensures c.in-Ok.ensures.takes c.now-moment.ensures.reading
+    held held_now is_printed c.later.ensures c.in-Ok.ensures.takes c.now-moment.ensures.reading
     (clock_told (g.C.Clock.readings c.now-moment.new.self) (g.C.Clock.readings c.args.clock.now) c.now-moment.ensures.told) in
     let text : reply_text (sent_by c.closes_behind.result printed.reply) ≡ item_text c.args.number one =
     sends c.args.number edge c.now-moment.result request old now c.answer_request-answered.result answers printed is_printed c.closes_behind.result

@@ -1,30 +1,13 @@
--- A request is taken from the source, and what was told of it is printed.
-use Rattle.std.specs.Prelude.{◌≡◌, ℕ, Bool, true, false, List, length, Option, Some, None, IfSome, Result, Ok, Err, ⊤}
-use Rattle.http_wire.specs.Messages.{ReadsRequestAt}
+-- What is printed of an answer, and what is told and sent then.
+use Rattle.std.specs.Prelude.{◌≡◌, Bool, true, false, length, Option, Some, None}
 use Rattle.http_wire.specs.ReplyText.{no_memory_reply}
-use Rattle.http_wire.specs.declared.fault.WireFault.{WireFault}
-use Rattle.http_wire.specs.declared.fault.WireFault.TheVariants.{NoMemory, ReadFault}
 use Rattle.http_wire.specs.declared.message.Reply.{Reply}
-use Rattle.http_wire.specs.declared.message.Request.{Request}
 use Rattle.lake_calls.specs.declared.reply.CallReply.{CallReply}
 use Rattle.lake_calls.specs.declared.reply.CallReply.TheVariants as reply
 use Rattle.api_replies.specs.PrintedReplies.{printed_reply}
 use Rattle.call_readings.specs.declared.answers.Answered.{Answered}
 use Rattle.shared_lake.specs.SeatSteps.{LakeSeat}
 use Rattle.lake_session.specs.declared.replies.Printed.{Printed}
-use Rattle.lake_session.specs.SessionTurns.{FailedBehind, IsFaultOf}
-
--- why none was taken
-abbrev pub IsUntaken : WireFault → (unread : Option (List ℕ)) → Type 0
-IsUntaken NoMemory unread = ⊤
-IsUntaken ReadFault unread = FailedBehind unread
-IsUntaken fault unread = IsFaultOf fault unread
-
--- the first request of the bytes was taken out of them, or none
-abbrev pub TakesRequest : (unread unread_now : Option (List ℕ)) → Result Request WireFault → Type 0
-TakesRequest unread unread_now (Ok request) =
-    IfSome unread (λ bytes. (rest : List ℕ) × (unread_now ≡ Some rest) × ReadsRequestAt bytes (Ok (request, rest)))
-TakesRequest unread unread_now (Err fault) = IsUntaken fault unread
 
 -- whether it is told that a request's form was refused
 abbrev pub tells_form : CallReply → Bool
