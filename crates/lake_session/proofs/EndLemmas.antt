@@ -1,13 +1,11 @@
 -- How a session ends behind what was served so far.
-use Rattle.std.proofs.Common.{◌≡◌, ◌⊎◌, ◌+◌, ◌<◌, ◌≤◌, inl, inr, ℕ, true, false, List, [], ◌∷◌, ◌++◌, map, length, Option, Some, None, IfSome}
-use Rattle.std.proofs.Common.{refl, sym, ap, subst, ◌∙◌, arith, length-append}
+use Rattle.std.proofs.Common.{◌≡◌, ◌+◌, ◌<◌, ◌≤◌, inl, inr, ℕ, true, false, List, [], ◌∷◌, ◌++◌, map, length, Option, Some, None, IfSome}
+use Rattle.std.proofs.Common.{refl, sym, ap, subst, ◌∙◌, append-nil, arith, length-append}
 use Rattle.lake_base.specs.Outside.{Rose}
 use Rattle.http_wire.specs.Filling.{Gave}
 use Rattle.http_wire.specs.ReplyText.{reply_text}
 use Rattle.http_wire.proofs.ReadingLemmas.{gave_then}
 use Rattle.http_wire.specs.SinkFronts.{IsPrefix, Wrote, WroteFront}
-use Rattle.http_wire.specs.declared.fault.WireFault.TheVariants.{Truncated}
-use Rattle.http_wire.specs.declared.message.Reply.{Reply}
 use Rattle.call_placement.proofs.SessionLemmas.{are_placed}
 use Rattle.lake_calls.specs.LakeRules.{lake_rules}
 use Rattle.lake_calls.proofs.RuleLemmas.{lawful}
@@ -18,10 +16,10 @@ use Rattle.lake_session.specs.declared.report.End.TheVariants as end
 use Rattle.lake_session.specs.declared.report.Placed.{Placed}
 use Rattle.lake_session.specs.declared.report.SessionReport.{SessionReport}
 use Rattle.lake_session.specs.SessionItems.{AreFirst, SessionItem, call_item, item_text, placed_item, placed_items, texts}
-use Rattle.lake_session.specs.SessionTexts.{last_reply, reply_to_fault}
+use Rattle.lake_session.specs.SessionTexts.{last_reply}
 use Rattle.lake_session.specs.SessionTurns.{EndsSo, IsLeft, IsTurn, ServesInPart, ServesWhole, Tally, TurnEnds}
 use Rattle.lake_session.specs.SessionViews.{SessionView}
-use Rattle.lake_session.specs.WholeSessions.{AllTellHeld, AreCounted, AreRequests, GoesThrough, HasCause, IsEnded, IsReported, IsSession, IsWritten}
+use Rattle.lake_session.specs.WholeSessions.{AllTellHeld, AreCounted, AreRequests, AreWritten, GoesThrough, HasCause, IsEnded, IsSession}
 use Rattle.lake_session.proofs.ItemLemmas.{first_longer}
 use Rattle.lake_session.proofs.SoFarLemmas.{AreAllServed, Behind, HasRead, HasTold, SoFar, goes_behind, wrote_more, wrote_whole}
 
@@ -38,10 +36,10 @@ pub record Items (old next : SessionView) (items : List SessionItem) (edge : ℕ
 -- how it ended
 pub record Ending (old next : SessionView) (items : List SessionItem) (rest : Option (List ℕ)) (ended : End) (placed : List Placed) : Type 0 where
   pub requests : IfSome old.unread (λ bytes. AreRequests items ended bytes next.unread rest)
-  pub written : (out : List ℕ) × IsWritten items ended rest out × Wrote old.written next.written out
-  pub is_end : IsEnded items ended
+  pub out : List ℕ
+  pub wrote : Wrote old.written next.written out
+  pub is_end : IsEnded items ended rest out placed
   pub cause : HasCause old next ended
-  pub reported : IsReported items ended placed
 
 -- the requests of a session that ended behind what is held, of which nothing is said
 requests_held : (unread left : Option (List ℕ)) (held : List ℕ) (items : List SessionItem) (ended : End)
@@ -102,12 +100,12 @@ session_of old next items rest edge report of_items ending from to = record {
   counted = of_items.counted;
   fitting = of_items.fitting;
   tells = of_items.tells;
-  written = ending.written;
+  out = ending.out;
+  written = ending.wrote;
   ended = ending.is_end;
   cause = ending.cause;
   from = from;
   to = to;
-  reported = ending.reported;
 }
 
 -- ---- nothing more was served
@@ -144,63 +142,78 @@ front_behind : (before now next : Option (List ℕ)) (out text : List ℕ) → W
     → (front : List ℕ) × IsPrefix front text × Wrote before next (out ++ front)
 front_behind before now next out text wrote part = (part.out, part.front, wrote_more before now next out part.out wrote part.wrote)
 
+-- what is reported of items behind which nothing more was served
+unserved_placed : (now next : SessionView) (tally tally_next : Tally) (items : List SessionItem) (ended : End) → EndsSo now next tally tally_next ended
+    → tally.placed ≡ placed_items 1 items → tally_next.placed ≡ placed_items 1 items
+unserved_placed now next tally tally_next items ended ends placed = ap (λ (t : Tally). t.placed) ends.tally_is ∙ placed
+
+-- the replies to items are all that was written
+only_these : (items : List SessionItem) (placed : List Placed) → placed ≡ placed_items 1 items → AreWritten items [] (texts 1 items) placed
+only_these items placed is = (sym (append-nil (texts 1 items)), is)
+
 unserved_ending : (old now next : SessionView) (tally tally_next : Tally) (items : List SessionItem) (ended : End) → length items < 10000
     → SoFar old now tally items → (ends : EndsSo now next tally tally_next ended) → Ending old next items ends.behind ended tally_next.placed
 unserved_ending old now next tally tally_next items end.SourceEnded few so ends = record {
   requests = requests_read old.unread now.unread next.unread tally.held items end.SourceEnded ends.behind so.read ends.read;
-  written = (texts 1 items, refl, wrote_nothing old.written now.written next.written (texts 1 items) ends.ends so.wrote);
-  is_end = (so.none, few);
+  out = texts 1 items;
+  wrote = wrote_nothing old.written now.written next.written (texts 1 items) ends.ends so.wrote;
+  is_end = (
+    (so.none, few),
+    only_these items tally_next.placed (unserved_placed now next tally tally_next items end.SourceEnded ends so.placed),
+  );
   cause = tt;
-  reported = ap (λ (t : Tally). t.placed) ends.tally_is ∙ so.placed;
 }
 unserved_ending old now next tally tally_next items end.ReadFault few so ends = record {
   requests = requests_read old.unread now.unread next.unread tally.held items end.ReadFault ends.behind so.read ends.read;
-  written = (texts 1 items, refl, wrote_nothing old.written now.written next.written (texts 1 items) ends.ends.1 so.wrote);
-  is_end = (so.none, few);
+  out = texts 1 items;
+  wrote = wrote_nothing old.written now.written next.written (texts 1 items) ends.ends.1 so.wrote;
+  is_end = ((so.none, few), only_these items tally_next.placed (unserved_placed now next tally tally_next items end.ReadFault ends so.placed));
   cause = rose_since old.read_faults now.read_faults next.read_faults so.rose.0 ends.ends.0;
-  reported = ap (λ (t : Tally). t.placed) ends.tally_is ∙ so.placed;
 }
-unserved_ending old now next tally tally_next items (end.Wire fault) few so ends = record {
-  requests = requests_read old.unread now.unread next.unread tally.held items (end.Wire fault) ends.behind so.read ends.read;
-  written = answered ends.ends;
-  is_end = (so.none, few);
-  cause = tt;
-  reported = ap (λ (t : Tally). t.placed) ends.tally_is ∙ so.placed;
-}
+unserved_ending old now next tally tally_next items (end.Wire fault) few so ends = elim ends.ends [
+  | inl (n, is, same) ↦ record {
+    requests = requests;
+    out = texts 1 items;
+    wrote = wrote_nothing old.written now.written next.written (texts 1 items) same so.wrote;
+    is_end = ((so.none, few), inl (n, is, only_these items tally_next.placed placed));
+    cause = tt;
+  }
+  | inr (sent, is, wrote) ↦ record {
+    requests = requests;
+    out = texts 1 items ++ reply_text sent;
+    wrote = wrote_more old.written now.written next.written (texts 1 items) (reply_text sent) so.wrote wrote;
+    is_end = ((so.none, few), inr (sent, is, (refl, placed)));
+    cause = tt;
+  }
+]
   where
-    answered : ((n : ℕ) × (fault ≡ Truncated n) × (next.written ≡ now.written))
-        ⊎ ((sent : Reply) × (reply_to_fault fault ≡ Some sent) × Wrote now.written next.written (reply_text sent))
-        → (out : List ℕ) × IsWritten items (end.Wire fault) ends.behind out × Wrote old.written next.written out
-    answered (inl (n, is, same)) =
-        (texts 1 items, inl (n, is, refl), wrote_nothing old.written now.written next.written (texts 1 items) same so.wrote)
-    answered (inr (sent, is, wrote)) = (
-      texts 1 items ++ reply_text sent,
-      inr (sent, is, refl),
-      wrote_more old.written now.written next.written (texts 1 items) (reply_text sent) so.wrote wrote,
-    )
+    requests : IfSome old.unread (λ bytes. AreRequests items (end.Wire fault) bytes next.unread ends.behind)
+    requests = requests_read old.unread now.unread next.unread tally.held items (end.Wire fault) ends.behind so.read ends.read
+
+    placed : tally_next.placed ≡ placed_items 1 items
+    placed = unserved_placed now next tally tally_next items (end.Wire fault) ends so.placed
 unserved_ending old now next tally tally_next items end.NoMemory few so ends = record {
   requests = requests_read old.unread now.unread next.unread tally.held items end.NoMemory ends.behind so.read ends.read;
-  written = (
-    texts 1 items ++ reply_text last_reply,
-    refl,
-    wrote_more old.written now.written next.written (texts 1 items) (reply_text last_reply) so.wrote ends.ends,
-  );
-  is_end = (so.none, few);
+  out = texts 1 items ++ reply_text last_reply;
+  wrote = wrote_more old.written now.written next.written (texts 1 items) (reply_text last_reply) so.wrote ends.ends;
+  is_end = ((so.none, few), (refl, unserved_placed now next tally tally_next items end.NoMemory ends so.placed));
   cause = tt;
-  reported = ap (λ (t : Tally). t.placed) ends.tally_is ∙ so.placed;
 }
 unserved_ending old now next tally tally_next items end.WriteFault few so ends =
     let part = front_behind old.written now.written next.written (texts 1 items) (reply_text ends.ends.1) so.wrote ends.ends.3 in
     record {
       requests = requests_read old.unread now.unread next.unread tally.held items end.WriteFault ends.behind so.read ends.read;
-      written = (
-        texts 1 items ++ part.0,
-        (items, reply_text ends.ends.1, part.0, part.1, refl, inr (refl, ends.ends.1, ends.ends.2, refl)),
-        part.2,
+      out = texts 1 items ++ part.0;
+      wrote = part.2;
+      is_end = inr (
+        ends.ends.1,
+        part.0,
+        (so.none, few),
+        ends.ends.2,
+        part.1,
+        (refl, unserved_placed now next tally tally_next items end.WriteFault ends so.placed),
       );
-      is_end = inl (so.none, few);
       cause = rose_since old.write_faults now.write_faults next.write_faults so.rose.1 ends.ends.0;
-      reported = inl (ap (λ (t : Tally). t.placed) ends.tally_is ∙ so.placed);
     }
 unserved_ending old now next tally tally_next items end.Closed few so ends = absurd ends.ends
 unserved_ending old now next tally tally_next items end.RequestLimit few so ends = absurd ends.ends
@@ -234,10 +247,10 @@ closed_ending number old now next tally tally_next items item at few so serves c
     let wrote = wrote_whole number old now next tally tally_next items item at so serves in
     record {
       requests = behind_requests number old next tally_next items item end.Closed (λ rest last. tt) behind;
-      written = (texts 1 (items ++ item ∷ []), refl, wrote.0);
-      is_end = (items, item, refl, so.none, closes, omega (arith, at, few, length-append items (item ∷ [])));
+      out = texts 1 (items ++ item ∷ []);
+      wrote = wrote.0;
+      is_end = (items, item, refl, (so.none, omega (arith, at, few)), closes, only_these (items ++ item ∷ []) tally_next.placed wrote.1);
       cause = tt;
-      reported = wrote.1;
     }
 
 in_part_ending : (number : ℕ) (old now next : SessionView) (tally tally_next : Tally) (items : List SessionItem) (item : SessionItem)
@@ -249,20 +262,20 @@ in_part_ending number old now next tally tally_next items item at few so serves 
     let part = front_behind old.written now.written next.written (texts 1 items) (item_text number item) so.wrote serves.wrote in
     record {
       requests = behind_requests number old next tally_next items item end.WriteFault (λ rest last. tt) behind;
-      written = (
-        texts 1 items ++ part.0,
-        (items, item_text number item, part.0, part.1, refl, inl (item, refl, ap (λ n. item_text n item) long)),
-        part.2,
-      );
-      is_end = inr (items, item, refl, so.none, omega (arith, long, few));
-      cause = rose_since old.write_faults now.write_faults next.write_faults so.rose.1 serves.failed;
-      reported = inr (
+      out = texts 1 items ++ part.0;
+      wrote = part.2;
+      is_end = inl (
         items,
         item,
+        part.0,
+        refl,
+        (so.none, omega (arith, at, few)),
+        subst (λ n. IsPrefix part.0 (item_text n item)) long part.1,
         refl,
         serves.placed ∙ ap (λ placed. placed ++ placed_item number item false ∷ []) so.placed
             ∙ ap (λ n. placed_items 1 items ++ placed_item n item false ∷ []) long,
       );
+      cause = rose_since old.write_faults now.write_faults next.write_faults so.rose.1 serves.failed;
     }
 
 -- ---- all
@@ -329,8 +342,8 @@ ends_at_limit old now tally items report all so is placed from to =
     (subst (Ending old now items (Some tally.held) end.RequestLimit) (sym placed)
     (record {
       requests = requests_held old.unread now.unread tally.held items end.RequestLimit (λ rest last. tt) so.read;
-      written = (texts 1 items, refl, so.wrote);
-      is_end = (so.none, all);
+      out = texts 1 items;
+      wrote = so.wrote;
+      is_end = (so.none, all, only_these items tally.placed so.placed);
       cause = tt;
-      reported = so.placed;
     }))) from to

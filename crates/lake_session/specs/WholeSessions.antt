@@ -88,37 +88,38 @@ pub record AreRequests (items : List SessionItem) (ended : End) (bytes : List �
   pub first : AreFirst items given rest
   pub is_left : IsLeft ended rest left
 
--- WHAT WAS WRITTEN by a session that ended so: the reply to each item, whole, in order; and behind these the reply to a message that isn't
--- read, or that of want of memory. Where the sink failed, of the reply then due a front, which may be that to the last item.
-abbrev pub IsWritten : List SessionItem → End → (rest : Option (List ℕ)) → (out : List ℕ) → Type 0
-IsWritten items (end.Wire fault) rest out =
-    ((n : ℕ) × (fault ≡ Truncated n) × (out ≡ texts 1 items))
-    ⊎ ((sent : Reply) × (reply_to_fault fault ≡ Some sent) × (out ≡ texts 1 items ++ reply_text sent))
-IsWritten items end.NoMemory rest out = out ≡ texts 1 items ++ reply_text last_reply
-IsWritten items end.WriteFault rest out = (whole : List SessionItem) × (text front : List ℕ) × IsPrefix front text × (out ≡ texts 1 whole ++ front)
-    × (((item : SessionItem) × (items ≡ whole ++ item ∷ []) × (text ≡ item_text (length items) item))
-    ⊎ ((items ≡ whole) × (sent : Reply) × IsLastReply rest sent × (text ≡ reply_text sent)))
-IsWritten items ended rest out = out ≡ texts 1 items
+-- a session goes on behind these items: none of their clients asked for the connection to close, and there are fewer than 10,000
+abbrev pub StayOpen : List SessionItem → Type 0
+StayOpen items = NoneCloses items × (length items < 10000)
 
--- WHICH CLIENT ASKED for the connection to close: of a session that ended so the last, or none; and there were fewer than 10,000, or
--- just so many, and never more.
-abbrev pub IsEnded : List SessionItem → End → Type 0
-IsEnded items end.Closed =
-    (before : List SessionItem) × (last : SessionItem) × (items ≡ before ++ last ∷ []) × NoneCloses before × (last.request.close ≡ true)
-    × (length items ≤ 10000)
-IsEnded items end.RequestLimit = NoneCloses items × (length items ≡ 10000)
-IsEnded items end.WriteFault =
-    (NoneCloses items × (length items < 10000))
-    ⊎ ((before : List SessionItem) × (last : SessionItem) × (items ≡ before ++ last ∷ []) × NoneCloses before × (length items ≤ 10000))
-IsEnded items ended = NoneCloses items × (length items < 10000)
+-- the replies to these items were written, whole and in order, and behind them these bytes; and the items are reported so
+abbrev pub AreWritten : List SessionItem → (behind out : List ℕ) → List Placed → Type 0
+AreWritten items behind out placed = (out ≡ texts 1 items ++ behind) × (placed ≡ placed_items 1 items)
 
--- what is reported of the items: all were written, but the last where the sink failed in its reply
-abbrev pub IsReported : List SessionItem → End → List Placed → Type 0
-IsReported items end.WriteFault placed =
-    (placed ≡ placed_items 1 items)
-    ⊎ ((whole : List SessionItem) × (item : SessionItem) × (items ≡ whole ++ item ∷ [])
-    × (placed ≡ placed_items 1 whole ++ placed_item (length items) item false ∷ []))
-IsReported items ended placed = placed ≡ placed_items 1 items
+-- HOW A SESSION ENDED, by the end that it tells: who asked for the connection to close, what was written, and what is reported of the
+-- items.
+abbrev pub IsEnded : List SessionItem → End → (rest : Option (List ℕ)) → (out : List ℕ) → List Placed → Type 0
+-- the last client asked for that, and none before it
+IsEnded items end.Closed rest out placed = (before : List SessionItem) × (last : SessionItem) × (items ≡ before ++ last ∷ []) × StayOpen before
+    × (last.request.close ≡ true) × AreWritten items [] out placed
+-- 10,000 requests were answered, and none of their clients asked for that
+IsEnded items end.RequestLimit rest out placed = NoneCloses items × (length items ≡ 10000) × AreWritten items [] out placed
+-- what came then was no request: the source ended inside a message, and there was no reply, or the fault has one, which was written
+IsEnded items (end.Wire fault) rest out placed = StayOpen items × (
+    ((n : ℕ) × (fault ≡ Truncated n) × AreWritten items [] out placed)
+    ⊎ ((sent : Reply) × (reply_to_fault fault ≡ Some sent) × AreWritten items (reply_text sent) out placed))
+-- no memory was left for a request, and the reply that tells this was written
+IsEnded items end.NoMemory rest out placed = StayOpen items × AreWritten items (reply_text last_reply) out placed
+-- THE SINK FAILED in the reply to the last item, of which a front was written, and which alone is reported as not written; or in the
+-- reply to a message that isn't read, or that of want of memory, behind items whose replies were all written
+IsEnded items end.WriteFault rest out placed =
+    ((whole : List SessionItem) × (last : SessionItem) × (front : List ℕ) × (items ≡ whole ++ last ∷ []) × StayOpen whole
+    × IsPrefix front (item_text (length items) last) × (out ≡ texts 1 whole ++ front)
+    × (placed ≡ placed_items 1 whole ++ placed_item (length items) last false ∷ []))
+    ⊎ ((sent : Reply) × (front : List ℕ) × StayOpen items × IsLastReply rest sent × IsPrefix front (reply_text sent)
+    × AreWritten items front out placed)
+-- the source ended where a request would begin, or failed
+IsEnded items ended rest out placed = StayOpen items × AreWritten items [] out placed
 
 -- a fault of a stream is told only where its count rose
 abbrev pub HasCause : (old now : SessionView) → End → Type 0
@@ -133,7 +134,8 @@ HasCause old now ended = ⊤
 --
 -- The requests are the first messages of the bytes that the source gave, and all of them unless the session ended before. The moments
 -- are the clock's next readings. The calls are placed in one legal history, in which each accepted change of theirs stands once, and
--- none lies before anything that their client had seen. What was written is the printed replies, in order.
+-- none lies before anything that their client had seen. What was written is the printed replies, in order, and the report tells of
+-- each whether it was.
 pub record IsSession (old now : SessionView) (report : SessionReport) : Type 0 where
   pub items : List SessionItem
   pub rest : Option (List ℕ)
@@ -147,9 +149,9 @@ pub record IsSession (old now : SessionView) (report : SessionReport) : Type 0 w
   pub counted : AreCounted old.store items now.store
   pub fitting : KeepsFitting old.seat now.seat old.store.held now.store.held
   pub tells : AllTellHeld old.seat now.seat old.store.held items
-  pub written : (out : List ℕ) × IsWritten items report.end rest out × Wrote old.written now.written out
-  pub ended : IsEnded items report.end
+  pub out : List ℕ
+  pub written : Wrote old.written now.written out
+  pub ended : IsEnded items report.end rest out report.placed
   pub cause : HasCause old now report.end
   pub from : report.from ≡ length old.seat.seen
   pub to : report.to ≡ length now.seat.seen
-  pub reported : IsReported items report.end report.placed

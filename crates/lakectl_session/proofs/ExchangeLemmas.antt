@@ -13,10 +13,11 @@ use Rattle.lakectl_words.specs.WireRequests.{head_text}
 use Rattle.lakectl_requests.specs.SentReadings.{read_back}
 use Rattle.lake_session.specs.SessionItems.{AreFirst, NoneCloses, SessionItem, item_text}
 use Rattle.lake_session.specs.SessionTurns.{IsLeft}
-use Rattle.lake_session.specs.WholeSessions.{AreRequests, HasCause, IsEnded, IsSession, IsWritten}
+use Rattle.lake_session.specs.WholeSessions.{AreRequests, HasCause, IsEnded, IsSession}
 use Rattle.lake_session.proofs.ItemLemmas.{fault_of_all, first_longer}
 use Rattle.lake_session.specs.declared.report.End.{End}
 use Rattle.lake_session.specs.declared.report.End.TheVariants as end
+use Rattle.lake_session.specs.declared.report.Placed.{Placed}
 use Rattle.lakectl_session.specs.Exchanges.{Answered, AnsweredUnwritten, Exchanges, LakeView, ServesItems, Starved, Unread, UnservedUnwritten}
 use Rattle.lakectl_session.specs.SessionsInMemory.{IsClosingText, IsSessionOf, in_memory}
 
@@ -111,8 +112,8 @@ module _ (request : Request) (text : List ℕ) (closing : IsClosingText request 
     left : List ℕ
     first : AreFirst items text left
     is_left : LeavesFault ended left
-    written : IsWritten items ended rest out
-    is_end : IsEnded items ended
+    placed : List Placed
+    is_end : IsEnded items ended rest out placed
     quiet : ended ≢ end.ReadFault
     serves : ServesItems old now items
 
@@ -155,17 +156,17 @@ module _ (request : Request) (text : List ℕ) (closing : IsClosingText request 
     | inr part ↦ UnservedUnwritten course.serves part.0
   ]
   unserved (end.Wire fault) out course written told = elim told [
-    | inl whole ↦ elim course.written [
+    | inl whole ↦ elim course.is_end.1 [
       | inl cut ↦ absurd (not_truncated request cut.0 (fault_of (Truncated cut.0) course.left course.first
           (subst (λ (f : WireFault). ReadsRequestAt course.left (Err f)) cut.1 course.is_left)))
       | inr answered ↦ Unread fault answered.0 (fault_of fault course.left course.first course.is_left) answered.1 course.serves
-          (whole.0 ∙ ap Some answered.2)
+          (whole.0 ∙ ap Some answered.2.0)
     ]
     | inr part ↦ let never : ⊥ = cc part.1 in absurd never
   ]
   unserved end.RequestLimit out course written told = let never : ⊥ = cc course.is_end.1 in absurd never
   unserved end.NoMemory out course written told = elim told [
-    | inl whole ↦ Starved course.serves (whole.0 ∙ ap Some course.written)
+    | inl whole ↦ Starved course.serves (whole.0 ∙ ap Some course.is_end.1.0)
     | inr part ↦ let never : ⊥ = cc part.1 in absurd never
   ]
 
@@ -174,7 +175,7 @@ module _ (request : Request) (text : List ℕ) (closing : IsClosingText request 
       → Exchanges request old now written
   one item end.Closed out course written told = elim told [
     | inl whole ↦ Answered item (its_request item [] course.left course.first) (its_bytes item [] course.left course.first) course.serves
-        (whole.0 ∙ ap Some (course.written ∙ append-nil (item_text 1 item)))
+        (whole.0 ∙ ap Some (course.is_end.5.0 ∙ append-nil (item_text 1 item ++ []) ∙ append-nil (item_text 1 item)))
     | inr part ↦ let never : ⊥ = cc part.1 in absurd never
   ]
   one item end.WriteFault out course written told = elim told [
@@ -182,11 +183,11 @@ module _ (request : Request) (text : List ℕ) (closing : IsClosingText request 
     | inr part ↦ AnsweredUnwritten item (its_request item [] course.left course.first) (its_bytes item [] course.left course.first)
         course.serves part.0
   ]
-  one item end.SourceEnded out course written told = absurd (open_item item [] course.left course.first course.is_end.0)
+  one item end.SourceEnded out course written told = absurd (open_item item [] course.left course.first course.is_end.0.0)
   one item end.ReadFault out course written told = absurd (course.quiet refl)
-  one item (end.Wire fault) out course written told = absurd (open_item item [] course.left course.first course.is_end.0)
+  one item (end.Wire fault) out course written told = absurd (open_item item [] course.left course.first course.is_end.0.0)
   one item end.RequestLimit out course written told = absurd (open_item item [] course.left course.first course.is_end.0)
-  one item end.NoMemory out course written told = absurd (open_item item [] course.left course.first course.is_end.0)
+  one item end.NoMemory out course written told = absurd (open_item item [] course.left course.first course.is_end.0.0)
 
   -- no others are, behind one that closes
   open_first : (item other : SessionItem) (more : List SessionItem) (left : List ℕ) → AreFirst (item ∷ other ∷ more) text left
@@ -196,16 +197,16 @@ module _ (request : Request) (text : List ℕ) (closing : IsClosingText request 
 
   many : (item other : SessionItem) (more : List SessionItem) (ended : End) (out : List ℕ) → Course (item ∷ other ∷ more) ended out → ⊥
   many item other more end.Closed out course =
-      open_first item other more course.left course.first course.is_end.0 course.is_end.1 course.is_end.2 course.is_end.3
+      open_first item other more course.left course.first course.is_end.0 course.is_end.1 course.is_end.2 course.is_end.3.0
   many item other more end.WriteFault out course = elim course.is_end [
-    | inl few ↦ open_item item (other ∷ more) course.left course.first few.0
-    | inr last ↦ open_first item other more course.left course.first last.0 last.1 last.2 last.3
+    | inl part ↦ open_first item other more course.left course.first part.0 part.1 part.3 part.4.0
+    | inr whole ↦ open_item item (other ∷ more) course.left course.first whole.2.0
   ]
-  many item other more end.SourceEnded out course = open_item item (other ∷ more) course.left course.first course.is_end.0
+  many item other more end.SourceEnded out course = open_item item (other ∷ more) course.left course.first course.is_end.0.0
   many item other more end.ReadFault out course = absurd (course.quiet refl)
-  many item other more (end.Wire fault) out course = open_item item (other ∷ more) course.left course.first course.is_end.0
+  many item other more (end.Wire fault) out course = open_item item (other ∷ more) course.left course.first course.is_end.0.0
   many item other more end.RequestLimit out course = open_item item (other ∷ more) course.left course.first course.is_end.0
-  many item other more end.NoMemory out course = open_item item (other ∷ more) course.left course.first course.is_end.0
+  many item other more end.NoMemory out course = open_item item (other ∷ more) course.left course.first course.is_end.0.0
 
   came : (items : List SessionItem) (ended : End) (out : List ℕ) → Course items ended out → (written : Option (List ℕ)) → IsTold ended out written
       → Exchanges request old now written
@@ -231,16 +232,16 @@ module _ (request : Request) (text : List ℕ) (closing : IsClosingText request 
   exchanged written s =
       let session : IsSession (in_memory old (Some text) [] 0) (in_memory now s.left s.out s.faults) s.report = s.is in
       let requests : AreRequests session.items s.report.end text s.left session.rest = session.requests in
-      let wrote : Some s.out ≡ Some (session.written.0) = session.written.2 in
-      let same : s.out ≡ session.written.0 = cc wrote in
+      let wrote : Some s.out ≡ Some session.out = session.written in
+      let same : s.out ≡ session.out = cc wrote in
       let course : Course session.items s.report.end s.out = record {
         rest = session.rest;
         left = requests.rest ++ requests.left;
         first = subst (λ (b : List ℕ). AreFirst session.items b (requests.rest ++ requests.left)) requests.gave
             (first_longer session.items requests.given requests.rest requests.left requests.first);
         is_left = leaves_fault s.report.end requests.rest requests.left requests.is_left;
-        written = subst (IsWritten session.items s.report.end session.rest) (sym same) session.written.1;
-        is_end = session.ended;
+        placed = s.report.placed;
+        is_end = subst (λ out. IsEnded session.items s.report.end session.rest out s.report.placed) (sym same) session.ended;
         quiet = never_read_fault s.left s.out s.faults s.report.end session.cause;
         serves = record {
           moment = session.moment;

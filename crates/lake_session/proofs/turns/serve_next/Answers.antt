@@ -1,4 +1,4 @@
-use Rattle.std.proofs.Common.{◌≡◌, ◌++◌, ℕ, List, [], ◌∷◌, Some, Err, ap, sym, subst, ◌∙◌, refl}
+use Rattle.std.proofs.Common.{◌≡◌, ◌++◌, ℕ, List, [], ◌∷◌, Err, ap, sym, subst, ◌∙◌, refl}
 use Rattle.http_wire.specs.ReplyText.{reply_text}
 use Rattle.lake_session.specs.declared.report.Placed.{Placed}
 use Rattle.lake_session.specs.SessionItems.{SessionItem, item_text}
