@@ -1,5 +1,5 @@
 -- A seat, the store of objects and the clock over the lines of a batch.
-use Rattle.std.proofs.Common.{inl, inr, ◌≡◌, ◌⊎◌, ◌++◌, ◌∷◌, [], ℕ, List, Option, Some, None, IfSome, All, Result, Ok, Err}
+use Rattle.std.proofs.Common.{◌≡◌, ◌++◌, ◌∷◌, [], ℕ, List, Option, Some, None, IfSome, Result, Ok, Err}
 use Rattle.std.proofs.Common.{refl, sym, ◌∙◌, ap, subst, append_assoc, append-nil}
 use Rattle.lake_base.specs.declared.outside.Trouble.{Trouble}
 use Rattle.http_wire.specs.declared.message.Request.{Request}
@@ -90,23 +90,23 @@ module _ (old now : CommandView) where
   pass_shown host words shown (Sent call request written reply is sent exchanged read shows saved) =
       pass_exchange request old.lake now.lake (Some written) exchanged
 
-  pass_stopped : (host : List ℕ) (words : List (List ℕ)) → CommandStops host words old now → Passes old.lake now.lake
-  pass_stopped host words (Unsent same) = unchanged same
-  pass_stopped host words (Behind call request written is sent exchanged saved) = pass_exchange request old.lake now.lake written exchanged
+  pass_stopped : (host : List ℕ) (words : List (List ℕ)) (trouble : Trouble) → CommandStops host words old now trouble → Passes old.lake now.lake
+  pass_stopped host words trouble (Unsent same named) = unchanged same
+  pass_stopped host words trouble (Behind call request written is sent exchanged saved named) = pass_exchange request old.lake now.lake written exchanged
 
   line_shows : (shown : Shown) (words : LineWords) → LineShows words old now shown → Passes old.lake now.lake
   line_shows shown line.Skipped is = unchanged is.0
   line_shows shown line.Bad is = unchanged is.0
   line_shows shown (line.Words words) is = pass_shown _ words shown is
 
-  line_stops : (words : LineWords) → LineStops words old now → Passes old.lake now.lake
-  line_stops line.Skipped is = unchanged is
-  line_stops line.Bad is = unchanged is
-  line_stops (line.Words words) is = pass_stopped _ words is
+  line_stops : (trouble : Trouble) (words : LineWords) → LineStops words old now trouble → Passes old.lake now.lake
+  line_stops trouble line.Skipped is = unchanged is.0
+  line_stops trouble line.Bad is = unchanged is.0
+  line_stops trouble (line.Words words) is = pass_stopped _ words trouble is
 
   pass_line : (line : List ℕ) (reply : Result Shown Trouble) → LineEnds line old now reply → Passes old.lake now.lake
   pass_line line (Ok shown) ends = line_shows shown (line_of line) ends
-  pass_line line (Err trouble) ends = line_stops (line_of line) ends
+  pass_line line (Err trouble) ends = line_stops trouble (line_of line) ends
 
 -- the lines of a batch
 pub pass_lines : (lines : List (List ℕ)) (first last : CommandView) (effects : List LineEffect) → AreServed LineEnds lines first effects last

@@ -1,5 +1,5 @@
 -- How the bytes that a command sends are made.
-use Rattle.std.specs.Prelude.{◌≡◌, ◌⊎◌, List, ℕ, Option, Some, None, IfSome, Result, Ok, Err}
+use Rattle.std.specs.Prelude.{◌≡◌, ◌⊎◌, List, ℕ, Option, Some, None, IfSome, IsSome, Result, Ok, Err}
 use Rattle.std.specs.FinMap.{get}
 use Rattle.http_wire.specs.declared.message.Request.{Request}
 use Rattle.lakectl_shown.specs.declared.showing.Shown.{Shown}
@@ -23,6 +23,10 @@ IsFilled held (Some name) request (Ok filled) =
     (bytes : List ℕ) × (filled ≡ carrying bytes request) × IfSome held (λ files. get files name ≡ Some bytes)
 IsFilled held file request (Err shown) =
     (name : List ℕ) × (file ≡ Some name) × IfSome held (λ files. get files name ≡ None) × (shown ≡ no_file_shown name)
+
+-- words of a command whose body is a file's bytes
+abbrev pub NamesFile : (words : List (List ℕ)) → Type 0
+NamesFile words = (call : WireCall) × (call_of words ≡ Ok call) × IsSome call.body_file
 
 -- what words send, or what is shown where they send nothing
 abbrev pub IsSending : (host : List ℕ) → (words : List (List ℕ)) → (held : Option HeldFiles) → Result Sending Shown → Type 0

@@ -1,6 +1,7 @@
 -- What a command sends to a session, and what is read of the bytes that come back.
-use Rattle.std.specs.Prelude.{◌≡◌, ◌<◌, ◌^◌, ℕ, List, length, Option, Some, None, IfSome, Ok, Err}
+use Rattle.std.specs.Prelude.{◌≡◌, ◌<◌, ◌^◌, ℕ, List, [], length, Option, Some, None, IfSome, Ok, Err}
 use Rattle.std.specs.FinMap.{get}
+use Rattle.http_wire.specs.Filling.{Gave}
 use Rattle.http_wire.specs.Messages.{ReadsReplyAt}
 use Rattle.http_wire.specs.declared.fault.WireFault.{WireFault}
 use Rattle.http_wire.specs.declared.message.Reply.{Reply}
@@ -23,3 +24,8 @@ pub record IsSent (host : List ℕ) (words : List (List ℕ)) (held : Option Hel
 abbrev pub IsReplyRead : (bytes : List ℕ) → Option Reply → Type 0
 IsReplyRead bytes (Some reply) = (rest : List ℕ) × ReadsReplyAt bytes (Ok (reply, rest))
 IsReplyRead bytes None = (fault : WireFault) × ReadsReplyAt bytes (Err fault)
+
+-- WHAT IS READ of a source, which had some bytes and has the rest of them left: the reply at the front of what it gave, and so of all that
+-- it had; or that none is there
+abbrev pub ReadsReplyOf : (had left : Option (List ℕ)) → Option Reply → Type 0
+ReadsReplyOf had left reply = IfSome had (λ bytes. Gave [] bytes left (λ came rest. IsReplyRead came reply × IsReplyRead bytes reply))

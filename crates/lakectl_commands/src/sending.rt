@@ -1,8 +1,8 @@
 //! The words of a command become the bytes that are sent.
-ghost use Rattle.std.specs.Prelude.{◌≡◌, ◌<◌, ◌^◌, ℕ, IfOk, length, option_map};
+ghost use Rattle.std.specs.Prelude.{◌≡◌, ◌<◌, ◌^◌, ℕ, Err, IfOk, IsSome, length, option_map};
 ghost use Rattle.block_store.specs.Blocks.{FailsByFault};
 ghost use Rattle.lakectl_words.specs.WireRequests.{addressed, request_text};
-ghost use Rattle.lakectl_commands.specs.Sendings.{IsCommand, IsFilled, IsSending};
+ghost use Rattle.lakectl_commands.specs.Sendings.{IsCommand, IsFilled, IsSending, NamesFile};
 
 use crate::files::Files;
 use crate::texts::{no_file_shown, usage_shown};
@@ -43,6 +43,7 @@ fn filled<F: Files>(
     file: Option<Text>,
 ) -> Result<Result<Request, Shown>, Trouble>
     ensures filled { IfOk result (IsFilled (F.files files.old) file request) }
+    ensures named { result ≡ Err Trouble.Failed → IsSome file }
     ensures files { F.files files.new ≡ F.files files.old }
     ensures cause { FailsByFault (F.faults files.old) (F.faults files.new) result }
 {
@@ -75,6 +76,7 @@ pub fn prepare<F: Files>(
     words: &[Text],
 ) -> Result<Result<Sending, Shown>, Trouble>
     ensures sends { IfOk result (IsSending host.now words.now (F.files files.old)) }
+    ensures named { result ≡ Err Trouble.Failed → NamesFile words.now }
     ensures files { F.files files.new ≡ F.files files.old }
     ensures cause { FailsByFault (F.faults files.old) (F.faults files.new) result }
 {

@@ -1,5 +1,5 @@
 //! What is shown of a reply, and the file that is saved.
-ghost use Rattle.std.specs.Prelude.{◌≡◌, ℕ, IfOk, OnErr, OnOk};
+ghost use Rattle.std.specs.Prelude.{◌≡◌, ℕ, Err, IfOk, IsSome, OnErr, OnOk};
 ghost use Rattle.block_store.specs.Blocks.{FailsByFault};
 ghost use Rattle.lakectl_commands.specs.SavedReplies.{MayHaveSaved, Saves, reply_shown};
 
@@ -31,6 +31,7 @@ fn save<F: Files>(
     status: u8,
 ) -> Result<(), Trouble>
     ensures saved { OnOk result (Saves name.now reply.now status (F.files files.old) (F.files files.new)) }
+    ensures named { OnErr result (IsSome name.now × (status ≡ 0)) }
     ensures stopped { OnErr result (MayHaveSaved name.now (F.files files.old) (F.files files.new)) }
     ensures cause { FailsByFault (F.faults files.old) (F.faults files.new) result }
 {
@@ -50,6 +51,7 @@ pub fn show_reply<F: Files>(
 ) -> Result<Shown, Trouble>
     ensures shown { IfOk result (λ shown. shown ≡ reply_shown layout.now reply.now) }
     ensures saved { IfOk result (λ shown. Saves name.now reply.now shown.status (F.files files.old) (F.files files.new)) }
+    ensures named { result ≡ Err Trouble.Failed → IsSome name.now × ((reply_shown layout.now reply.now).status ≡ 0) }
     ensures stopped { OnErr result (MayHaveSaved name.now (F.files files.old) (F.files files.new)) }
     ensures cause { FailsByFault (F.faults files.old) (F.faults files.new) result }
 {

@@ -1,7 +1,9 @@
 -- What a command comes to, by what its parts do.
-use Rattle.std.proofs.Common.{◌≡◌, inl, inr, ℕ, List, codes, Option, Some, None, Result, Ok, Err, IfOk, OnErr, sym, ap, subst, ◌∙◌}
+use Rattle.std.proofs.Common.{◌≡◌, inl, inr, ℕ, List, codes, Option, Some, None, Result, Ok, Err, IfOk, IsSome, OnErr, refl, sym, ap, subst, ◌∙◌}
 use Rattle.lake_base.specs.declared.outside.NoMemory.{NoMemory}
 use Rattle.lake_base.specs.declared.outside.Trouble.{Trouble}
+use Rattle.lake_base.specs.declared.outside.Trouble.TheVariants as trouble
+use Rattle.lake_base.specs.declared.outside.Trouble.TheVariants.{Failed}
 use Rattle.http_wire.specs.declared.message.Reply.{Reply}
 use Rattle.http_wire.specs.declared.message.Request.{Request}
 use Rattle.lakectl_shown.specs.declared.showing.Shown.{Shown}
@@ -61,48 +63,55 @@ module _ (words : List (List ℕ)) (old now : CommandView) where
         (subst (λ (files : Option HeldFiles). Saves sending.save reply shown.status files now.files) same saves))
 
     -- it stopped behind that
-    pub stopped_behind : (reply : Option Reply) (middle : Option HeldFiles) → Exchanged sending.text (Ok reply) → middle ≡ old.files
-        → MayHaveSaved sending.save middle now.files → CommandStops host words old now
-    stopped_behind reply middle exchanged same saves =
+    stopped_behind : (reply : Option Reply) (middle : Option HeldFiles) (trouble : Trouble) → Exchanged sending.text (Ok reply) → middle ≡ old.files
+        → MayHaveSaved sending.save middle now.files
+        → (trouble ≡ Failed → IsSome sending.save × ((reply_shown sending.layout reply).status ≡ 0)) → CommandStops host words old now trouble
+    stopped_behind reply middle trouble exchanged same saves named =
         let came = exchanged request closing in
         Behind call request (Some came.0) sends.1 sends.3 came.1
         (subst (λ (name : Option (List ℕ)). MayHaveSaved name old.files now.files) same_save
         (subst (λ (files : Option HeldFiles). MayHaveSaved sending.save files now.files) same saves))
+        (λ failed. let names = named failed in (
+          subst IsSome same_save names.0,
+          (reply, came.2, ap (λ (s : Sending). (reply_shown s.layout reply).status) (sym sends.4) ∙ names.1),
+        ))
 
     -- the one or the other
     pub ended : (reply : Option Reply) (result : Result Shown Trouble) (middle : Option HeldFiles) → Exchanged sending.text (Ok reply)
-        → middle ≡ old.files → IfOk result (λ shown. shown ≡ reply_shown sending.layout reply)
+        → middle ≡ old.files → (result ≡ Err Failed → IsSome sending.save × ((reply_shown sending.layout reply).status ≡ 0)) → IfOk result (λ shown. shown ≡ reply_shown sending.layout reply)
         → IfOk result (λ shown. Saves sending.save reply shown.status middle now.files) → OnErr result (MayHaveSaved sending.save middle now.files)
         → CommandEnds host words old now result
-    ended reply (Ok shown) middle exchanged same shows saves stops = sent_shown reply shown middle exchanged same shows saves
-    ended reply (Err trouble) middle exchanged same shows saves stops = stopped_behind reply middle exchanged same stops
+    ended reply (Ok shown) middle exchanged same named shows saves stops = sent_shown reply shown middle exchanged same shows saves
+    ended reply (Err trouble) middle exchanged same named shows saves stops =
+        stopped_behind reply middle trouble exchanged same stops (λ failed. named (ap Err failed))
 
     -- it stopped in that
     not_saved : (save : Option (List ℕ)) → now.files ≡ old.files → MayHaveSaved save old.files now.files
     not_saved None same = same
     not_saved (Some name) same = inl same
 
-    pub stopped_there : (starved : NoMemory) → Exchanged sending.text (Err starved) → now.files ≡ old.files → CommandStops host words old now
+    pub stopped_there : (starved : NoMemory) → Exchanged sending.text (Err starved) → now.files ≡ old.files
+        → CommandStops host words old now trouble.NoMemory
     stopped_there starved exchanged same =
         let came = exchanged request closing in
-        Behind call request came.0 sends.1 sends.3 came.1 (not_saved call.save same)
+        Behind call request came.0 sends.1 sends.3 came.1 (not_saved call.save same) (λ failed. absurd cc)
 
 -- ---- a line
 
 -- a line of which nothing was made
-pub line_untouched : (bytes : List ℕ) (old now : CommandView) → now ≡ old → LineStops (line_of bytes) old now
+pub line_untouched : (bytes : List ℕ) (old now : CommandView) → now ≡ old → LineStops (line_of bytes) old now trouble.NoMemory
 line_untouched bytes old now same = stops (line_of bytes)
   where
-    stops : (words : LineWords) → LineStops words old now
-    stops line.Skipped = same
-    stops line.Bad = same
-    stops (line.Words words) = Unsent same
+    stops : (words : LineWords) → LineStops words old now trouble.NoMemory
+    stops line.Skipped = (same, refl)
+    stops line.Bad = (same, refl)
+    stops (line.Words words) = Unsent same (λ failed. absurd cc)
 
 -- a line of words is a command
 pub line_of_words : (bytes : List ℕ) (words : List (List ℕ)) (old now : CommandView) (result : Result Shown Trouble)
     → line_of bytes ≡ line.Words words → CommandEnds (codes "localhost") words old now result → LineEnds bytes old now result
 line_of_words bytes words old now (Ok shown) is ends = subst (λ (w : LineWords). LineShows w old now shown) (sym is) ends
-line_of_words bytes words old now (Err trouble) is ends = subst (λ (w : LineWords). LineStops w old now) (sym is) ends
+line_of_words bytes words old now (Err trouble) is ends = subst (λ (w : LineWords). LineStops w old now trouble) (sym is) ends
 
 pub line_skipped : (bytes : List ℕ) (old now : CommandView) (shown : Shown) → line_of bytes ≡ line.Skipped → now ≡ old → shown ≡ nothing_shown
     → LineEnds bytes old now (Ok shown)

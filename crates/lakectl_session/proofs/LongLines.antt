@@ -35,4 +35,4 @@ told_by_fronts front line old now reply long (rest, whole) ends =
 
     of_rest : (answer : Result Shown Trouble) → LineEnds front old now answer → LineEnds (front ++ rest) old now answer
     of_rest (Ok shown) is = subst (λ (words : LineWords). LineShows words old now shown) same is
-    of_rest (Err trouble) is = subst (λ (words : LineWords). LineStops words old now) same is
+    of_rest (Err trouble) is = subst (λ (words : LineWords). LineStops words old now trouble) same is

@@ -1,7 +1,8 @@
 -- WHAT A COMMAND COMES TO, whose words are these.
-use Rattle.std.specs.Prelude.{◌≡◌, ℕ, List, codes, Option, Some, None, IfSome, Result, Ok, Err}
+use Rattle.std.specs.Prelude.{◌≡◌, ℕ, List, codes, Option, Some, None, IfSome, IsSome, Result, Ok, Err}
 use Rattle.std.specs.FinMap.{get}
 use Rattle.lake_base.specs.declared.outside.Trouble.{Trouble}
+use Rattle.lake_base.specs.declared.outside.Trouble.TheVariants.{Failed, NoMemory}
 use Rattle.http_wire.specs.declared.message.Reply.{Reply}
 use Rattle.http_wire.specs.declared.message.Request.{Request}
 use Rattle.lakectl_shown.specs.declared.showing.Shown.{Shown}
@@ -15,6 +16,7 @@ use Rattle.lakectl_session.specs.Exchanges.{Exchanges, LakeView}
 use Rattle.lakectl_commands.specs.HeldFiles.{HeldFiles}
 use Rattle.lakectl_commands.specs.SentCommands.{IsReplyRead, IsSent}
 use Rattle.lakectl_commands.specs.SavedReplies.{MayHaveSaved, Saves, reply_shown}
+use Rattle.lakectl_commands.specs.Sendings.{NamesFile}
 use Rattle.lakectl_commands.specs.ShownTexts.{bad_line_shown, no_file_shown, nothing_shown, usage_shown}
 
 -- what a command works on: a lake, and files
@@ -23,6 +25,10 @@ pub record CommandView : Type 0 where
   pub files : Option HeldFiles
 
 -- ---- a command
+
+-- what came back shows that the command is done
+abbrev pub IsDone : WireCall → (written : Option (List ℕ)) → Type 0
+IsDone call written = IfSome written (λ bytes. (reply : Option Reply) × IsReplyRead bytes reply × ((reply_shown call.layout reply).status ≡ 0))
 
 module _ (host : List ℕ) (words : List (List ℕ)) (old now : CommandView) where
   -- THE COMMAND SHOWED THIS
@@ -37,16 +43,18 @@ module _ (host : List ℕ) (words : List (List ℕ)) (old now : CommandView) whe
         → IsSent host words old.files request → Exchanges request old.lake now.lake (Some written) → IsReplyRead written reply
         → shown ≡ reply_shown call.layout reply → Saves call.save reply shown.status old.files now.files → CommandShows shown
 
-  -- THE COMMAND STOPPED for want of memory, or since a file couldn't be read or written: before anything was sent, or behind that
-  pub data CommandStops : Type 0 where
-    Unsent : now ≡ old → CommandStops
+  -- THE COMMAND STOPPED for want of memory, or since a file couldn't be read or written that its words name: before anything was sent, or
+  -- behind that, where what was sent is done
+  pub data CommandStops (trouble : Trouble) : Type 0 where
+    Unsent : now ≡ old → (trouble ≡ Failed → NamesFile words) → CommandStops trouble
     Behind : (call : WireCall) (request : Request) (written : Option (List ℕ)) → call_of words ≡ Ok call → IsSent host words old.files request
-        → Exchanges request old.lake now.lake written → MayHaveSaved call.save old.files now.files → CommandStops
+        → Exchanges request old.lake now.lake written → MayHaveSaved call.save old.files now.files
+        → (trouble ≡ Failed → IsSome call.save × IsDone call written) → CommandStops trouble
 
   -- the one or the other
   abbrev pub CommandEnds : Result Shown Trouble → Type 0
   CommandEnds (Ok shown) = CommandShows shown
-  CommandEnds (Err trouble) = CommandStops
+  CommandEnds (Err trouble) = CommandStops trouble
 
 -- ---- a line of a batch
 
@@ -56,12 +64,12 @@ LineShows line.Skipped old now shown = (now ≡ old) × (shown ≡ nothing_shown
 LineShows line.Bad old now shown = (now ≡ old) × (shown ≡ bad_line_shown)
 LineShows (line.Words words) old now shown = CommandShows (codes "localhost") words old now shown
 
--- one that stopped did nothing, or is a command that stopped
-abbrev pub LineStops : LineWords → (old now : CommandView) → Type 0
-LineStops (line.Words words) old now = CommandStops (codes "localhost") words old now
-LineStops other old now = now ≡ old
+-- one that stopped found no memory and did nothing, or is a command that stopped
+abbrev pub LineStops : LineWords → (old now : CommandView) → Trouble → Type 0
+LineStops (line.Words words) old now trouble = CommandStops (codes "localhost") words old now trouble
+LineStops other old now trouble = (now ≡ old) × (trouble ≡ NoMemory)
 
 -- WHAT A LINE COMES TO
 abbrev pub LineEnds : (line : List ℕ) → (old now : CommandView) → Result Shown Trouble → Type 0
 LineEnds line old now (Ok shown) = LineShows (line_of line) old now shown
-LineEnds line old now (Err trouble) = LineStops (line_of line) old now
+LineEnds line old now (Err trouble) = LineStops (line_of line) old now trouble

@@ -82,4 +82,4 @@ returns-clause-ends g c =
     (subst (λ (r : Result Sending Shown). IsSending c.in_ok-host.host c.args.words.now old.files r) c.in-Ok.is c.in_ok-sending.ensures.sends) in
     ended c.args.words.now old now c.in-Ok.sending sends c.in-Ok-exchange.reply c.show_reply.result (g.F.Files.files c.prepare.new.files)
     (λ request closing. c.in-Ok-exchange.ensures.exchanged request (subst (IsClosingText request) (sym c.as_slice.ensures) closing))
-    c.prepare.ensures.files c.show_reply.ensures.shown c.show_reply.ensures.saved c.show_reply.ensures.stopped
+    c.prepare.ensures.files c.show_reply.ensures.named c.show_reply.ensures.shown c.show_reply.ensures.saved c.show_reply.ensures.stopped

@@ -1,0 +1,3 @@
+pub mod Dialing
+pub mod AskedServers
+pub mod ClientCommands
