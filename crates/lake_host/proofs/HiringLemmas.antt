@@ -6,7 +6,7 @@ use Rattle.std.proofs.Math.Bool.{or-false, or_assoc}
 use Rattle.shared_lake.specs.SeatSteps.{LakeSeat}
 use Rattle.lake_server.specs.ServedConnections.{WorkerView}
 use Rattle.lake_server.proofs.ServedConnectionsLemmas.{told_more, told_none}
-use Rattle.lake_host.specs.Doors.{AreOut, DoorView, door_of}
+use Rattle.lake_host.specs.Doors.{AreOut, DoorView, Opened, door_of}
 use Rattle.lake_host.specs.Shares.{share_of}
 use Rattle.lake_host.specs.Workers.{AreBegun, IsBegun, any_failed}
 
@@ -145,12 +145,12 @@ taken_place all rest left worker seats before now failed far one =
     let mapped : length (map (λ (w : WorkerView). w.carried.seat) far.done) ≡ length far.done = length-map far.done (λ (w : WorkerView). w.carried.seat) in
     omega (arith, sum, whole, many, same, mapped)
 
-none_out : (many : List DoorView) (now : Option (List DoorView)) → is_some now ≡ false → AreOut 1 (Some many) now
+none_out : (many : List Opened) (now : Option (List DoorView)) → is_some now ≡ false → AreOut 1 (Some many) now
 none_out many None none = tt
 none_out many (Some back) none = absurd cc
 
 -- a listener is out that is to be given back
-pub one_out : (all rest left : List WorkerView) (worker : WorkerView) (seats : List LakeSeat) (given before now : Option (List DoorView)) (failed : Bool)
+pub one_out : (all rest left : List WorkerView) (worker : WorkerView) (seats : List LakeSeat) (given : Option (List Opened)) (before now : Option (List DoorView)) (failed : Bool)
     → TakenSoFar all rest seats before now failed → rest ≡ worker ∷ left → AreOut (length all) given before → AreOut 1 given now
 one_out all rest left worker seats None before now failed far one out = tt
 one_out all rest left worker seats (Some many) None now failed far one out = none_out many now far.told

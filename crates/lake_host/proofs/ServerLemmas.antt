@@ -14,7 +14,7 @@ use Rattle.shared_lake.specs.SeatSteps.{Finds, LakeSeat, origin_of}
 use Rattle.lake_server.specs.ServedConnections.{IsReady, PartViews, WorkerView, worker_view}
 use Rattle.lake_server.specs.Workers.{HaveServed}
 use Rattle.lake_server.specs.declared.worker.Worker.{Worker}
-use Rattle.lake_host.specs.Doors.{AreOut, DoorView, door_of}
+use Rattle.lake_host.specs.Doors.{AreOut, DoorView, Opened, door_of, opened_at}
 use Rattle.lake_host.specs.Workers.{AreBegun}
 use Rattle.lake_host.specs.declared.server.ServerEnd.{ServerEnd}
 use Rattle.lake_host.specs.declared.server.ServerEnd.TheVariants as end
@@ -73,7 +73,7 @@ as_many connections workers number (seat ∷ seats) (begin ∷ begins) (last ∷
     ap suc (as_many connections workers (number + 1) seats begins ends are.1 served.1)
 
 -- listeners that are out still, of a host that is as it was
-pub out_still : (count many : ℕ) (given now_given returned now_returned : Option (List DoorView)) → count ≡ many → now_given ≡ given
+pub out_still : (count many : ℕ) (given now_given : Option (List Opened)) (returned now_returned : Option (List DoorView)) → count ≡ many → now_given ≡ given
     → now_returned ≡ returned → AreOut count given returned → AreOut many now_given now_returned
 out_still count many given now_given returned now_returned same one other out =
     subst (λ n. AreOut n now_given now_returned) same
@@ -118,7 +118,9 @@ pub origins_found : {K : Type 0} (view : KeeperView K) (lake : LakeValue K) (sea
 origins_found view lake seats finds = λ k d within. (finds k d within).origin
 
 -- the listeners that a host gave are those of the workers
-pub opened_so : (before listened after : Option (List DoorView)) (given begins : List DoorView) → IfSome before (λ doors. listened ≡ Some (doors ++ given))
-    → after ≡ listened → begins ≡ given → IfSome before (λ doors. after ≡ Some (doors ++ begins))
-opened_so None listened after given begins told same are = tt
-opened_so (Some doors) listened after given begins told same are = same ∙ told ∙ ap (λ l. Some (doors ++ l)) (sym are)
+pub opened_so : (at : List ℕ) (before listened after : Option (List Opened)) (given begins : List DoorView)
+    → IfSome before (λ doors. listened ≡ Some (doors ++ opened_at at given)) → after ≡ listened → begins ≡ given
+    → IfSome before (λ doors. after ≡ Some (doors ++ opened_at at begins))
+opened_so at None listened after given begins told same are = tt
+opened_so at (Some doors) listened after given begins told same are =
+    same ∙ told ∙ ap (λ (l : List DoorView). Some (doors ++ opened_at at l)) (sym are)

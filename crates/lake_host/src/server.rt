@@ -52,7 +52,7 @@ pub fn serve_listeners<K: Keeper + Send, H: Host, W: Threads + Wait + Sync>(
         record { opened = H.opened host.old; returned = H.returned host.old; faults = H.faults host.old } in
         let after : HostView =
         record { opened = H.opened host.new; returned = H.returned host.new; faults = H.faults host.new } in
-        HasServedAll view seats.items connections before after result.0 result.1
+        HasServedAll view seats.items at.now connections before after result.0 result.1
         ⊎ HasNotBegun view seats.items before after result.0 result.1 }
     ensures origin { All (λ seat. seat.origin ≡ Some (origin_of
         (record { kept = K.kept; faults = K.faults; calls = K.calls; successes = K.successes }) result.1)) seats.items }

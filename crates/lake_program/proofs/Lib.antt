@@ -1,7 +1,4 @@
-pub mod BatchLemmas
-pub mod MomentLemmas
+pub mod ControlLemmas
 pub mod RunLemmas
-pub mod SeatLemmas
-pub mod StatusLemmas
 pub mod ServerLemmas
-pub mod WordLemmas
+pub mod StatusLemmas

@@ -1,6 +1,6 @@
 -- What became of a server on a fresh lake.
 use native.Mathlib.Omega.{arith}
-use Rattle.std.proofs.Common.{◌≡◌, ◌<◌, ◌⊎◌, ⊎_elim, inl, inr, All, List, [], ◌∷◌, length, Some, sym, ◌∙◌, ap, subst}
+use Rattle.std.proofs.Common.{◌≡◌, ◌<◌, ◌⊎◌, ⊎_elim, inl, inr, All, List, [], ◌∷◌, length, true, Some, sym, ◌∙◌, ap, subst}
 use Rattle.keeper.specs.Keepers.{KeptPairs}
 use Rattle.lake_model.specs.History.{IsLegal}
 use Rattle.lake_model.specs.Soundness.{fresh}
@@ -12,7 +12,7 @@ use Rattle.lake_host.specs.Servers.{HasNotBegun, HasServedAll}
 use Rattle.lake_host.specs.Doors.{HostView}
 use Rattle.lake_host.specs.declared.server.ServerEnd.{ServerEnd}
 use Rattle.batch_lines.specs.declared.status.ExitStatus.{ExitStatus}
-use Rattle.lake_program.specs.declared.words.Service.{Service}
+use Rattle.program_words.specs.ProgramWords.{Serving}
 use Rattle.lake_program.specs.Servers.{IsServed, IsUnserved, status_of}
 
 -- the lake that stands at fresh seats' origin has a history that is legal of the fresh lake
@@ -26,18 +26,20 @@ legal_of lake (seat ∷ seats) some begun origins holds =
     let same : first.origin ≡ origin_of sure_view lake = cc in
     subst (λ state. IsLegal state lake.history) (ap opened_state (sym same) ∙ first.fresh) holds.stands.legal
 
-pub served_so : (service : Service) (before after : HostView) (seats : List LakeSeat) (lake : LakeValue KeptPairs) (how : ServerEnd) (status : ExitStatus)
-    → 0 < service.workers → AreFreshSeats seats → length seats ≡ service.workers
+pub served_so : (serving : Serving) (before after : HostView) (seats : List LakeSeat) (lake : LakeValue KeptPairs) (how : ServerEnd) (status : ExitStatus)
+    → 0 < serving.service.workers → AreFreshSeats seats → length seats ≡ serving.service.workers
+    → (serving.service.workers ≡ 1 → All (λ (seat : LakeSeat). seat.alone ≡ true) seats)
     → All (λ (seat : LakeSeat). seat.origin ≡ Some (origin_of sure_view lake)) seats → Holds sure_view lake
-    → HasServedAll sure_view seats service.connections before after how lake
+    → HasServedAll sure_view seats serving.at serving.service.connections before after how lake
     ⊎ HasNotBegun sure_view seats before after how lake
-    → status ≡ status_of how → IsServed service before after status ⊎ IsUnserved before after status
-served_so service before after seats lake how status some begun many origins holds outcome told =
+    → status ≡ status_of how → IsServed serving before after status ⊎ IsUnserved before after status
+served_so serving before after seats lake how status some begun many alone origins holds outcome told =
     ⊎_elim
     (λ served. inl (record {
       seats = seats;
       begun = begun;
       count = many;
+      alone = alone;
       lake = lake;
       end = how;
       served = served;

@@ -1,6 +1,4 @@
-pub mod Batches
-pub mod Run
-pub mod Servers
-pub mod Usage
 pub mod Views
-pub mod Words
+pub mod Controls
+pub mod Servers
+pub mod Run

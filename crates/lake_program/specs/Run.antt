@@ -1,6 +1,7 @@
 -- What a run of the program promises.
-use Rattle.std.specs.Prelude.{◌≡◌, ◌≤◌, ◌⊎◌, ℕ, false, List, [], ◌++◌, Some, IfSome, IsSome, IsNone}
+use Rattle.std.specs.Prelude.{◌≡◌, ◌≢◌, ◌≤◌, ◌⊎◌, ℕ, false, List, [], ◌∷◌, ◌++◌, Some, IfSome, codes}
 use Rattle.lake_base.specs.Outside.{Rose, Quiet}
+use Rattle.http_wire.specs.SinkFronts.{Wrote, WroteFront}
 use Rattle.lake_session.specs.WholeSessions.{GoesThrough}
 use Rattle.lakectl_session.specs.ServedCommands.{CommandView, LineEnds}
 use Rattle.batch_lines.specs.Lines.{batch_lines, end_text}
@@ -9,12 +10,15 @@ use Rattle.batch_lines.specs.ServedLines.{AreServed, LineEffect, any_failed, tex
 use Rattle.batch_lines.specs.Status.{status_number}
 use Rattle.batch_lines.specs.declared.status.ExitStatus.{ExitStatus}
 use Rattle.batch_lines.specs.declared.status.ExitStatus.TheVariants.{Usage, SourceFailed, SinkFailed, HostFailed, OutOfMemory}
-use Rattle.lake_program.specs.declared.words.Timing.{Timing}
-use Rattle.lake_program.specs.Batches.{HoldsBodies, IsBegun, IsServedBatch, IsTimed}
-use Rattle.lake_program.specs.Usage.{ShowsUsage}
-use Rattle.lake_program.specs.Views.{BatchView, RunView}
+use Rattle.lake_batch.specs.BatchViews.{BatchView}
+use Rattle.lake_batch.specs.Batches.{HoldsBodies, IsBegun, IsServedBatch, IsTimed}
+use Rattle.program_words.specs.declared.batch.Timing.{Timing}
+use Rattle.program_words.specs.ProgramWords.{Asked, Batch, Control, Nothing, Send, Serve, Serving, asked_of}
+use Rattle.lake_program.specs.Controls.{ControlView, Controls}
 use Rattle.lake_program.specs.Servers.{IsServed, IsUnserved}
-use Rattle.lake_program.specs.Words.{IsUsage, service_of, timing_of}
+use Rattle.lake_program.specs.Views.{RunView}
+
+-- ---- a batch
 
 -- neither the source nor the sink nor a file failed
 pub record AreQuiet (before after : RunView) : Type 0 where
@@ -51,42 +55,87 @@ pub record IsUnbegun (before after : RunView) (status : ExitStatus) : Type 0 whe
   pub starved : status ≡ OutOfMemory
   pub same : after ≡ before
 
--- WHAT IS PROMISED of a run with these words that ended so
-pub record Run (words : List (List ℕ)) (before after : RunView) (status : ExitStatus) : Type 0 where
+-- A BATCH WAS RUN
+pub record RunsBatch (timing : Timing) (before after : RunView) (number : ℕ) : Type 0 where
+  pub status : ExitStatus
+  pub tells : number ≡ status_number status
+  pub possible : status ≢ Usage
   -- Where neither the source nor the sink nor a file failed, each line was served, and the sink got just what they show,
   -- unless memory ran out before the first.
-  pub batch : AreQuiet before after
-      → IfSome (timing_of words) (λ timing. IfSome before.batch.left (λ input. IfSome before.batch.written (λ written.
-      IsBatchRun timing input written before.batch after.batch status ⊎ IsUnbegun before after status)))
+  pub quiet : AreQuiet before after → IfSome before.batch.left (λ input. IfSome before.batch.written (λ written.
+      IsBatchRun timing input written before.batch after.batch status ⊎ IsUnbegun before after status))
   -- Whatever failed, the sink got a front of what the lines show that were served, and all of it where the sink didn't fail,
   -- unless memory ran out before the first. Where the sink failed, no more than a piece was read after that; where a file
   -- did, nothing was.
-  pub prefix : IfSome (timing_of words) (λ timing. IsUnbegun before after status ⊎ IfSome before.batch.left (λ input.
-      IsServedBatch timing 1073741824 65536 before.batch after.batch input status))
-  -- A server has served, each of its connections a session, on one lake; or it didn't begin. It touches nothing but the host.
-  pub server : IfSome (service_of words) (λ service.
-      IsServed service before.host after.host status ⊎ IsUnserved before.host after.host status)
-  pub server_alone : IsSome (service_of words) → after ≡ record before { host = after.host }
-  -- Other words are a usage fault, which is shown on `errors`,
-  pub usage : IsUsage words → ShowsUsage before.errors after.errors status
-  -- and only they are. It touches nothing else, and a batch touches neither `errors` nor the host.
-  pub usage_only : status ≡ Usage → IsUsage words
-  pub usage_alone : IsUsage words → after ≡ record before { errors = after.errors; errors_faults = after.errors_faults }
-  pub batch_alone : IsSome (timing_of words)
-      → (after.errors ≡ before.errors) × (after.errors_faults ≡ before.errors_faults) × (after.host ≡ before.host)
-  -- Each failure has its cause.
+  pub prefix : IsUnbegun before after status ⊎ IfSome before.batch.left (λ input.
+      IsServedBatch timing 1073741824 65536 before.batch after.batch input status)
+  -- nothing else was touched
+  pub alone : after ≡ record before { batch = after.batch; source_faults = after.source_faults; file_faults = after.file_faults }
+  -- each failure was counted
   pub source_failed : status ≡ SourceFailed → Rose before.source_faults after.source_faults
-  pub sink_failed : status ≡ SinkFailed → IsSome (timing_of words) → Rose before.batch.sink_faults after.batch.sink_faults
-  pub errors_failed : status ≡ SinkFailed → IsNone (timing_of words) → Rose before.errors_faults after.errors_faults
-  pub file_failed : status ≡ HostFailed → IsNone (service_of words) → Rose before.file_faults after.file_faults
-  -- No count falls.
-  pub source_later : before.source_faults ≤ after.source_faults
-  pub sink_later : before.batch.sink_faults ≤ after.batch.sink_faults
-  pub errors_later : before.errors_faults ≤ after.errors_faults
-  pub files_later : before.file_faults ≤ after.file_faults
-  pub host_later : before.host.faults ≤ after.host.faults
+  pub sink_failed : status ≡ SinkFailed → Rose before.batch.sink_faults after.batch.sink_faults
+  pub file_failed : status ≡ HostFailed → Rose before.file_faults after.file_faults
 
--- What is promised of a run with these words that answers this number: it is that of a status.
-abbrev pub Runs : List (List ℕ) → RunView → RunView → ℕ → Type 0
-Runs words before after number =
-    (status : ExitStatus) × (number ≡ status_number status) × Run words before after status
+-- ---- a server
+
+-- A SERVER WAS RUN: it has served, each of its connections a session, on one lake; or it didn't begin. Nothing but the host was touched.
+pub record RunsServer (serving : Serving) (before after : RunView) (number : ℕ) : Type 0 where
+  pub status : ExitStatus
+  pub tells : number ≡ status_number status
+  pub serves : IsServed serving before.host after.host status ⊎ IsUnserved before.host after.host status
+  pub alone : after ≡ record before { host = after.host }
+
+-- ---- a command that goes to a server
+
+-- what such a command works on
+abbrev pub control_view : RunView → ControlView
+control_view run = record {
+  client = record { files = run.batch.files; file_faults = run.file_faults; dial = run.dial };
+  written = run.batch.written;
+  sink_faults = run.batch.sink_faults;
+  errors = run.errors;
+  errors_faults = run.errors_faults;
+}
+
+-- A COMMAND WAS SENT, or stopped; and what it shows was printed. Nothing of the source, the clock and the host changed.
+pub record RunsControl (control : Control) (before after : RunView) (number : ℕ) : Type 0 where
+  pub controls : Controls (control_view before) (control_view after) control number
+  pub left : after.batch.left ≡ before.batch.left
+  pub source_faults : after.source_faults ≡ before.source_faults
+  pub readings : after.batch.readings ≡ before.batch.readings
+  pub host : after.host ≡ before.host
+
+-- ---- other words
+
+-- what is said of them
+abbrev pub usage_text : List ℕ
+usage_text = codes "Error: usage" ++ 10 ∷ []
+
+-- That was said on `errors`, or a front of it, where that failed and counted it. Nothing else was touched.
+pub record RunsNothing (before after : RunView) (number : ℕ) : Type 0 where
+  pub says : ((number ≡ 2) × Wrote before.errors after.errors usage_text)
+      ⊎ ((number ≡ 4) × WroteFront before.errors after.errors usage_text × Rose before.errors_faults after.errors_faults)
+  pub alone : after ≡ record before { errors = after.errors; errors_faults = after.errors_faults }
+
+-- ---- all of it
+
+-- WHAT CAME OF A RUN, by what its words ask for
+abbrev pub RunsAs : Asked → (before after : RunView) → (number : ℕ) → Type 0
+RunsAs (Batch timing) before after number = RunsBatch timing before after number
+RunsAs (Serve serving) before after number = RunsServer serving before after number
+RunsAs (Send control) before after number = RunsControl control before after number
+RunsAs Nothing before after number = RunsNothing before after number
+
+-- no count of failures falls
+pub record CountsStay (before after : RunView) : Type 0 where
+  pub source : before.source_faults ≤ after.source_faults
+  pub sink : before.batch.sink_faults ≤ after.batch.sink_faults
+  pub errors : before.errors_faults ≤ after.errors_faults
+  pub files : before.file_faults ≤ after.file_faults
+  pub host : before.host.faults ≤ after.host.faults
+  pub dial : before.dial.faults ≤ after.dial.faults
+
+-- WHAT IS PROMISED of a run with these words that ended with this number
+pub record Runs (words : List (List ℕ)) (before after : RunView) (number : ℕ) : Type 0 where
+  pub came : RunsAs (asked_of words) before after number
+  pub counts : CountsStay before after

@@ -1,5 +1,5 @@
 -- A server on a fresh lake in memory.
-use Rattle.std.specs.Prelude.{◌≡◌, ◌⊎◌, List, length}
+use Rattle.std.specs.Prelude.{◌≡◌, ◌⊎◌, true, All, List, length}
 use Rattle.lake_base.specs.Outside.{Rose}
 use Rattle.keeper.specs.Keepers.{KeptPairs}
 use Rattle.lake_model.specs.History.{IsLegal}
@@ -13,7 +13,7 @@ use Rattle.lake_host.specs.declared.server.ServerEnd.{ServerEnd}
 use Rattle.lake_host.specs.declared.server.ServerEnd.TheVariants as end
 use Rattle.batch_lines.specs.declared.status.ExitStatus.{ExitStatus}
 use Rattle.batch_lines.specs.declared.status.ExitStatus.TheVariants.{Done, HostFailed, OutOfMemory}
-use Rattle.lake_program.specs.declared.words.Service.{Service}
+use Rattle.program_words.specs.ProgramWords.{Serving}
 
 -- how a run ends whose server ended so
 abbrev pub status_of : ServerEnd → ExitStatus
@@ -21,16 +21,18 @@ status_of end.Done = Done
 status_of end.Failed = HostFailed
 status_of end.NoMemory = OutOfMemory
 
--- A SERVER HAS SERVED, on a fresh lake in memory: a worker at each of its seats, as many as were asked for. What they did is one legal
+-- A SERVER HAS SERVED, on a fresh lake in memory, at this address: a worker at each of its seats, as many as were asked for. What they did is one legal
 -- history of the fresh lake, and what each seat has seen is a front of it. It ended well where each worker has served its share of the
 -- connections, and failed where a listener failed one.
-pub record IsServed (service : Service) (before after : HostView) (status : ExitStatus) : Type 0 where
+pub record IsServed (serving : Serving) (before after : HostView) (status : ExitStatus) : Type 0 where
   pub seats : List LakeSeat
   pub begun : AreFreshSeats seats
-  pub count : length seats ≡ service.workers
+  pub count : length seats ≡ serving.service.workers
+  -- a lone worker has the only seat
+  pub alone : serving.service.workers ≡ 1 → All (λ (seat : LakeSeat). seat.alone ≡ true) seats
   pub lake : LakeValue KeptPairs
   pub end : ServerEnd
-  pub served : HasServedAll sure_view seats service.connections before after end lake
+  pub served : HasServedAll sure_view seats serving.at serving.service.connections before after end lake
   pub legal : IsLegal (fresh usual_cut) lake.history
   pub holds : Holds sure_view lake
   pub tells : status ≡ status_of end

@@ -1,29 +1,16 @@
 -- What a run works on, as far as that tells what it holds.
 use Rattle.std.specs.Prelude.{ℕ, List, Option}
-use Rattle.lakectl_commands.specs.HeldFiles.{HeldFiles}
-use Rattle.lakectl_session.specs.ServedCommands.{CommandView}
-use Rattle.batch_lines.specs.Outcome.{Trace}
+use Rattle.lake_batch.specs.BatchViews.{BatchView}
 use Rattle.lake_host.specs.Doors.{HostView}
+use Rattle.lakectl_client.specs.Dialing.{DialView}
 
--- what a batch works on: what is left of its source, what its sink got and how often that has failed, the clock's
--- readings, and what the files hold
-pub record BatchView : Type 0 where
-  pub left : Option (List ℕ)
-  pub written : Option (List ℕ)
-  pub sink_faults : ℕ
-  pub readings : Option (List ℕ)
-  pub files : Option HeldFiles
-
--- all that is told of a run at one moment: what a batch works on, what a server does, what was written to `errors`, and how
--- often the source, `errors` and a file have failed
+-- all that is told of a run at one moment: what a batch works on, what a server does, the connections to servers, what was written to
+-- `errors`, and how often the source, `errors` and a file have failed
 pub record RunView : Type 0 where
   pub batch : BatchView
   pub host : HostView
+  pub dial : DialView
   pub errors : Option (List ℕ)
   pub source_faults : ℕ
   pub errors_faults : ℕ
   pub file_faults : ℕ
-
--- what a batch changes line by line: what its commands work on, and the sink
-abbrev pub trace_of : CommandView → BatchView → Trace CommandView
-trace_of command batch = record { server = command; written = batch.written; faults = batch.sink_faults }

@@ -1,21 +1,15 @@
-//! The program as a library: a batch of lakectl's commands on a fresh lake in memory.
+//! The program as a library: a batch of lakectl's commands on a fresh lake in memory, a server on one, and a command
+//! that goes to a server.
 //!
-//! - `run`: the call that the program makes, with the promise of what it prints; `status`: the numbers of its statuses.
-//! - `words`: the words that the program was started with. `limits`: how long a batch may be.
-//! - `server`: a server on a fresh lake.
-//! - `batch`: a batch on a fresh lake; `lines`: what serves its lines.
-//! - `adapters`, `files`: the real streams, the clock and files.
+//! - `run`: the call that the program makes, with the promise of what it does; `status`: the numbers of its statuses.
+//! - `server`: a server on a fresh lake. `control`: a command that goes to a server. `limits`: how long a batch may be.
 //!
-//! The promise to the layer above: what `run` prints is what its lines show, each of which is a command that a session
-//! of its own serves, however the source is cut and whatever fails; and each status has its cause.
+//! The promise to the layer above: what `run` does is a function of what its words ask for, said of each; and each
+//! status has its cause.
 #![tactic(auto)]
 
-pub mod adapters;
-pub mod batch;
-pub mod files;
+pub mod control;
 pub mod limits;
-pub mod lines;
 pub mod run;
 pub mod server;
 pub mod status;
-pub mod words;

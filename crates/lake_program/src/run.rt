@@ -1,25 +1,25 @@
 //! The program as one call.
-ghost use Rattle.std.specs.Prelude.{◌≡◌, ◌≤◌, ◌⊎◌, IfSome, IsSome, IsNone};
+ghost use Rattle.std.specs.Prelude.{◌≡◌, ◌≤◌, ◌⊎◌, IsNone, IsSome, OnErr, OnOk};
 ghost use Rattle.lake_base.specs.Outside.{Rose};
 ghost use Rattle.lake_base.specs.declared.limits.TheConstants.{PATH_LIMIT};
 ghost use Rattle.lake_model.specs.declared.history.TheConstants.{HISTORY_LIMIT};
 ghost use Rattle.lakectl_verbs.specs.declared.line.TheConstants.{LINE_LIMIT};
-ghost use Rattle.lake_host.specs.Doors.{HostView};
-ghost use Rattle.lake_program.specs.Servers.{IsServed, IsUnserved};
-ghost use Rattle.lake_program.specs.Words.{IsUsage, service_of, timing_of};
-ghost use Rattle.lake_program.specs.Usage.{ShowsUsage};
-ghost use Rattle.lake_program.specs.Run.{Runs};
+ghost use Rattle.http_wire.specs.SinkFronts.{Wrote, WroteFront};
+ghost use Rattle.program_words.specs.ProgramWords.{Nothing, asked_of, control_of, service_of, timing_of};
+ghost use Rattle.lake_program.specs.Run.{Runs, usage_text};
 
-use crate::batch::serve_batch;
+use crate::control::run_control;
 use crate::limits::BATCH_LIMIT;
 use crate::server::serve_host;
 use crate::status::number_of;
-use crate::words::{batch_timing, service_words};
 use batch_lines::ExitStatus;
 use http_wire::write::write_all;
 use lake_base::{Clock, Sink, Source, Text};
+use lake_batch::serve_batch;
 use lake_host::Host;
+use lakectl_client::Connect;
 use lakectl_commands::Files;
+use program_words::{batch_timing, control_words, service_words};
 use std::alloc::Global;
 use std::sync::Wait;
 use std::thread::Threads;
@@ -27,13 +27,25 @@ use std::thread::Threads;
 // What is said of words that are none of the program's.
 const USAGE: &[u8] = b"Error: usage\n";
 
-/// Runs the program with these words. `batch`, or `batch --at N`: each line of the source is a command of `lakectl`,
-/// served on a fresh lake in memory; what it shows goes to the sink. `run --listen HOST:PORT [--workers N]
-/// [--connections M]`: the host's listeners at that address are served over HTTP, on a fresh lake in memory. All other
+/// Runs the program with these words.
+///
+/// `batch`, or `batch --at N`: each line of the source is a command of `lakectl`, served on a fresh lake in memory; what
+/// it shows goes to the sink. `run --listen HOST:PORT [--workers N] [--connections M]`: the host's listeners at that
+/// address are served over HTTP, on a fresh lake in memory. `ctl [--at N] --server HOST:PORT WORDS..`: the command of
+/// `lakectl` goes to the server at that address; its output goes to the sink, and its errors to `errors`. All other
 /// words are a usage fault, which is shown on `errors`. It waits.
 ///
-/// The answer is the number of the run's `ExitStatus`, and the clock and the files, which are handed back.
-pub fn run<R: Threads + Wait + Sync, S: Source, O: Sink, E: Sink, C: Clock, F: Files, H: Host>(
+/// The answer is the number of the run's status, and the clock and the files, which are handed back.
+pub fn run<
+    R: Threads + Wait + Sync,
+    S: Source,
+    O: Sink,
+    E: Sink,
+    C: Clock,
+    F: Files,
+    H: Host,
+    N: Connect,
+>(
     rt: &R,
     alloc: Global,
     words: &[Text],
@@ -43,6 +55,7 @@ pub fn run<R: Threads + Wait + Sync, S: Source, O: Sink, E: Sink, C: Clock, F: F
     clock: C,
     files: F,
     host: &mut H,
+    network: &mut N,
 ) -> (u8, C, F)
     ensures run { Runs words.now
         (record {
@@ -53,11 +66,16 @@ pub fn run<R: Threads + Wait + Sync, S: Source, O: Sink, E: Sink, C: Clock, F: F
             readings = C.readings clock;
             files = F.files files;
           };
+          host = record { opened = H.opened host.old; returned = H.returned host.old; faults = H.faults host.old };
+          dial = record {
+            dialed = N.dialed network.old;
+            hung_up = N.hung_up network.old;
+            faults = N.faults network.old;
+          };
           errors = E.written errors.old;
           source_faults = S.faults source.old;
           errors_faults = E.faults errors.old;
           file_faults = F.faults files;
-          host = record { opened = H.opened host.old; returned = H.returned host.old; faults = H.faults host.old };
         })
         (record {
           batch = record {
@@ -67,80 +85,65 @@ pub fn run<R: Threads + Wait + Sync, S: Source, O: Sink, E: Sink, C: Clock, F: F
             readings = C.readings result.1;
             files = F.files result.2;
           };
+          host = record { opened = H.opened host.new; returned = H.returned host.new; faults = H.faults host.new };
+          dial = record {
+            dialed = N.dialed network.new;
+            hung_up = N.hung_up network.new;
+            faults = N.faults network.new;
+          };
           errors = E.written errors.new;
           source_faults = S.faults source.new;
           errors_faults = E.faults errors.new;
           file_faults = F.faults result.2;
-          host = record { opened = H.opened host.new; returned = H.returned host.new; faults = H.faults host.new };
         })
         result.0 }
 
-    // A usage fault touches `errors` alone, a server the host, and a batch neither.
-    ensures usage { IsUsage words.now → (sink.new ≡ sink.old) × (source.new ≡ source.old)
-        × (result.1 ≡ clock) × (result.2 ≡ files) × (host.new ≡ host.old) }
-    ensures server { IsSome (service_of words.now) → (sink.new ≡ sink.old) × (source.new ≡ source.old)
-        × (errors.new ≡ errors.old) × (result.1 ≡ clock) × (result.2 ≡ files) }
-    ensures batch { IsSome (timing_of words.now) → (errors.new ≡ errors.old) × (host.new ≡ host.old) }
+    // A batch touches neither `errors` nor host and network, a server the host alone, a command neither the source nor
+    // the clock nor the host, and a usage fault `errors` alone.
+    ensures batch { IsSome (timing_of words.now)
+        → (errors.new ≡ errors.old) × (host.new ≡ host.old) × (network.new ≡ network.old) }
+    ensures server { IsNone (timing_of words.now) → IsSome (service_of words.now)
+        → (sink.new ≡ sink.old) × (source.new ≡ source.old) × (errors.new ≡ errors.old) × (result.1 ≡ clock)
+        × (result.2 ≡ files) × (network.new ≡ network.old) }
+    ensures control { IsNone (timing_of words.now) → IsNone (service_of words.now) → IsSome (control_of words.now)
+        → (source.new ≡ source.old) × (result.1 ≡ clock) × (host.new ≡ host.old) }
+    ensures usage { asked_of words.now ≡ Nothing
+        → (sink.new ≡ sink.old) × (source.new ≡ source.old) × (result.1 ≡ clock) × (result.2 ≡ files)
+        × (host.new ≡ host.old) × (network.new ≡ network.old) }
 
     ensures limits { (BATCH_LIMIT ≡ 1073741824) × (LINE_LIMIT ≡ 65536)
         × (HISTORY_LIMIT ≡ 4194304) × (PATH_LIMIT ≡ 1024) }
 {
-    match batch_timing(words) {
-        Some(timing) => {
-            let (status, clock, files) = serve_batch(
-                rt,
-                alloc,
-                BATCH_LIMIT,
-                timing,
-                source,
-                sink,
-                clock,
-                files,
-            );
-            (number_of(status), clock, files)
-        }
-        None => (
-            number_of(serve_or_refuse(rt, alloc, words, errors, host)),
+    if let Some(timing) = batch_timing(words) {
+        let (status, clock, files) = serve_batch(
+            rt,
+            alloc,
+            BATCH_LIMIT,
+            timing,
+            source,
+            sink,
             clock,
             files,
-        ),
+        );
+        return (number_of(status), clock, files);
     }
-}
-
-// Serves the host's listeners, where the words ask for that, and else shows that they are a usage fault.
-fn serve_or_refuse<R: Threads + Wait + Sync, E: Sink, H: Host>(
-    rt: &R,
-    alloc: Global,
-    words: &[Text],
-    errors: &mut E,
-    host: &mut H,
-) -> ExitStatus
-    ensures serves { let before : HostView =
-        record { opened = H.opened host.old; returned = H.returned host.old; faults = H.faults host.old } in
-        let after : HostView =
-        record { opened = H.opened host.new; returned = H.returned host.new; faults = H.faults host.new } in
-        IfSome (service_of words.now) (λ service.
-        IsServed service before after result ⊎ IsUnserved before after result) }
-    ensures server_alone { IsSome (service_of words.now) → errors.new ≡ errors.old }
-    ensures refuses { IsNone (service_of words.now)
-        → ShowsUsage (E.written errors.old) (E.written errors.new) result
-        × ((result ≡ ExitStatus.Usage)
-        ⊎ ((result ≡ ExitStatus.SinkFailed) × Rose (E.faults errors.old) (E.faults errors.new))) }
-    ensures usage_alone { IsNone (service_of words.now) → host.new ≡ host.old }
-    ensures errors { E.faults errors.old ≤ E.faults errors.new }
-    ensures host { H.faults host.old ≤ H.faults host.new }
-{
-    match service_words(words) {
-        Some((at, service)) => serve_host(rt, alloc, at, service, host),
-        None => show_usage(errors),
+    if let Some((at, service)) = service_words(words) {
+        let status = serve_host(rt, alloc, at, service, host);
+        return (number_of(status), clock, files);
     }
+    if let Some((at, command)) = control_words(words) {
+        let mut files = files;
+        let number = run_control(alloc, at, command, sink, errors, &mut files, network);
+        return (number, clock, files);
+    }
+    (number_of(show_usage(errors)), clock, files)
 }
 
 // Shows that the words are a usage fault.
 fn show_usage<E: Sink>(errors: &mut E) -> ExitStatus
-    ensures shows { ShowsUsage (E.written errors.old) (E.written errors.new) result }
-    ensures statuses { (result ≡ ExitStatus.Usage)
-        ⊎ ((result ≡ ExitStatus.SinkFailed) × Rose (E.faults errors.old) (E.faults errors.new)) }
+    ensures shows { ((result ≡ ExitStatus.Usage) × Wrote (E.written errors.old) (E.written errors.new) usage_text)
+        ⊎ ((result ≡ ExitStatus.SinkFailed) × WroteFront (E.written errors.old) (E.written errors.new) usage_text
+        × Rose (E.faults errors.old) (E.faults errors.new)) }
     ensures later { E.faults errors.old ≤ E.faults errors.new }
 {
     match write_all(errors, USAGE) {

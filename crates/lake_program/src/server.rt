@@ -3,11 +3,11 @@ ghost use Rattle.std.specs.Prelude.{◌≡◌, ◌<◌, ◌≤◌, ◌⊎◌};
 ghost use Rattle.lake_host.specs.Doors.{HostView};
 ghost use Rattle.lake_program.specs.Servers.{IsServed, IsUnserved, status_of};
 
-use crate::words::Service;
 use batch_lines::ExitStatus;
 use fresh_lakes::fresh_lake;
 use lake_base::Text;
 use lake_host::{Host, ServerEnd, serve_listeners};
+use program_words::Service;
 use std::alloc::Global;
 use std::sync::Wait;
 use std::thread::Threads;
@@ -26,7 +26,7 @@ pub fn serve_host<R: Threads + Wait + Sync, H: Host>(
         record { opened = H.opened host.old; returned = H.returned host.old; faults = H.faults host.old } in
         let after : HostView =
         record { opened = H.opened host.new; returned = H.returned host.new; faults = H.faults host.new } in
-        IsServed service before after result ⊎ IsUnserved before after result }
+        IsServed (record { at = at.now; service = service }) before after result ⊎ IsUnserved before after result }
     ensures later { H.faults host.old ≤ H.faults host.new }
 {
     let Ok((lake, seats)) = fresh_lake(alloc, service.workers) else {

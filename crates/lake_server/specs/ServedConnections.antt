@@ -102,6 +102,18 @@ pub record PartViews (B C L : Type 0) : Type 0 where
   pub returned : L → Option (List Returned)
   pub faults : L → ℕ
 
+abbrev pub part_views : {B C L : Type 0} → (held : B → Option HeldObjects) → (block_faults misses : B → ℕ) → (readings : C → Option (List ℕ))
+    → (accepted : L → Option (List Streams)) → (returned : L → Option (List Returned)) → (faults : L → ℕ) → PartViews B C L
+part_views held block_faults misses readings accepted returned faults = record {
+  held = held;
+  block_faults = block_faults;
+  misses = misses;
+  readings = readings;
+  accepted = accepted;
+  returned = returned;
+  faults = faults;
+}
+
 -- what a worker shows
 abbrev pub worker_view : {B C L : Type 0} → PartViews B C L → Worker B C L → WorkerView
 worker_view show worker = record {

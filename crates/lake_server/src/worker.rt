@@ -1,7 +1,7 @@
 //! A worker, which serves one connection after the other.
 ghost use Rattle.std.specs.Prelude.{◌≡◌, ◌≢◌, ◌≤◌, Some, IfSome, MatchBool};
 ghost use Rattle.lake_base.specs.Outside.{last_count};
-ghost use Rattle.lake_server.specs.ServedConnections.{HasServed, IsReady, PartViews, worker_view};
+ghost use Rattle.lake_server.specs.ServedConnections.{HasServed, IsReady, part_views, worker_view};
 ghost use Rattle.lake_server.specs.WorkerSteps.{GoesOnCounting, ServesOrFails};
 
 use crate::listen::Listen;
@@ -36,15 +36,7 @@ pub fn serve_connections<K: Keeper, B: Blocks, C: Clock, L: Listen, W: Wait>(
     worker: &mut Worker<B, C, L>,
 )
     requires { IsReady lake.now worker.old }
-    ensures { let views : PartViews B C L = record {
-      held = B.held;
-      block_faults = B.faults;
-      misses = B.misses;
-      readings = C.readings;
-      accepted = L.accepted;
-      returned = L.returned;
-      faults = L.faults;
-    } in
+    ensures { let views = part_views B.held B.faults B.misses C.readings L.accepted L.returned L.faults in
         HasServed (worker_view views worker.old) (worker_view views worker.new) }
 {
     for _ in rt.forever() {
@@ -79,25 +71,9 @@ fn serve_one<K: Keeper, B: Blocks, C: Clock, L: Listen, W: Wait>(
     worker: &mut Worker<B, C, L>,
 ) -> Result<(), Failed>
     requires { worker.old.seat.turn ≡ lake.now }
-    ensures serves { let views : PartViews B C L = record {
-      held = B.held;
-      block_faults = B.faults;
-      misses = B.misses;
-      readings = C.readings;
-      accepted = L.accepted;
-      returned = L.returned;
-      faults = L.faults;
-    } in
+    ensures serves { let views = part_views B.held B.faults B.misses C.readings L.accepted L.returned L.faults in
         ServesOrFails (worker_view views worker.old) (worker_view views worker.new) result }
-    ensures counting { let views : PartViews B C L = record {
-      held = B.held;
-      block_faults = B.faults;
-      misses = B.misses;
-      readings = C.readings;
-      accepted = L.accepted;
-      returned = L.returned;
-      faults = L.faults;
-    } in
+    ensures counting { let views = part_views B.held B.faults B.misses C.readings L.accepted L.returned L.faults in
         GoesOnCounting (worker_view views worker.old) (worker_view views worker.new) }
 {
     let (mut input, mut output) = worker.listener.accept()?;

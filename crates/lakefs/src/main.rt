@@ -1,15 +1,14 @@
-//! The program `lakefs`: a lake of objects with Git-like branches, driven by lakectl's commands.
+//! The program `lakefs`: a lake of objects with Git-like branches, driven by lakectl's commands and over HTTP.
 //!
 //! What it does is `lake_program::run::run`; here are only the real streams, clock, files, sockets and words.
 #![tactic(auto)]
 
 use batch_lines::ExitStatus;
 use lake_base::{NoMemory, Text};
-use lake_program::adapters::{StdSink, StdSource, SystemClock};
-use lake_program::files::StdFiles;
+use lake_machine::{StdFiles, StdSink, StdSource, SystemClock};
 use lake_program::run::run;
 use lake_program::status::number_of;
-use lake_sockets::SocketHost;
+use lake_sockets::{SocketHost, SocketNetwork};
 use std::env;
 use std::io::ErrorKind;
 use std::process::ExitCode;
@@ -38,6 +37,7 @@ fn main(rt: HostRuntime) -> ExitCode {
     let mut sink = StdSink::new(rt.stdout());
     let mut errors = StdSink::new(rt.stderr());
     let mut host = SocketHost::new(&rt, alloc);
+    let mut network = SocketNetwork::new(&rt);
     let (status, _, _) = run(
         &rt,
         alloc,
@@ -48,6 +48,7 @@ fn main(rt: HostRuntime) -> ExitCode {
         SystemClock::new(&rt),
         StdFiles::new(&rt, alloc),
         &mut host,
+        &mut network,
     );
     ExitCode::from(status)
 }

@@ -1,8 +1,7 @@
 //! Real files and the real clock.
 
 use lake_base::{Clock, Sink, Source, Text, Trouble};
-use lake_program::adapters::{StdSink, StdSource, SystemClock};
-use lake_program::files::StdFiles;
+use lake_machine::{StdFiles, StdSink, StdSource, SystemClock};
 use lakectl_commands::Files;
 use std::fs;
 use std::test::Fail;

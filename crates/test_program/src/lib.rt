@@ -4,7 +4,7 @@
 //! - `streams`: a run of the program over streams in memory, and what it comes to.
 //! - `batches`, `commands`, `failures`, `words`: tables of such runs.
 //! - `limits`: how long lines, texts and batches may be.
-//! - `servers`: a server over a host in memory, `hosts`. `files`: files in memory.
+//! - `servers`: a server over a host in memory. `controls`: commands that go to a server, over a network in memory.
 //! - `adapters`: the real streams, files and clock.
 #![tactic(auto)]
 
@@ -15,11 +15,9 @@ mod batches;
 #[cfg(test)]
 mod commands;
 #[cfg(test)]
+mod controls;
+#[cfg(test)]
 mod failures;
-#[cfg(test)]
-mod files;
-#[cfg(test)]
-mod hosts;
 #[cfg(test)]
 mod limits;
 #[cfg(test)]

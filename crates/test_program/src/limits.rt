@@ -1,13 +1,13 @@
 //! How long a line, a text that is held back and a batch may be.
 ghost use Rattle.std.specs.Prelude.{◌<◌};
 
-use crate::files::MemoryFiles;
 use crate::streams::{DEMO, DEMO_PRINTS, SURE, Streams, run_batch, sink_of, source_of};
 use batch_lines::output::PendingOutput;
 use lake_base::FixedClock;
-use lake_program::batch::serve_batch;
+use lake_batch::serve_batch;
 use lake_program::status::number_of;
-use lake_program::words::Timing;
+use memory_machine::MemoryFiles;
+use program_words::Timing;
 use std::alloc::Global;
 use std::process::Abort;
 use std::sync::Wait;
@@ -130,7 +130,7 @@ fn check_limit(
         &mut source,
         &mut sink,
         FixedClock::new(0),
-        MemoryFiles::new(alloc),
+        MemoryFiles::new(alloc, Vec::new(alloc)),
     );
     assert_eq!(rt; number_of(found), status, "at {limit}");
     assert_eq!(rt; sink.written(), prints, "at {limit}");

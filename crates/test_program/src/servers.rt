@@ -1,6 +1,6 @@
 //! A server over a host in memory.
-use crate::hosts::MemoryHost;
 use crate::streams::{SURE, run_with};
+use memory_machine::MemoryHost;
 use std::alloc::Global;
 use std::process::Abort;
 use std::test::Fail;
@@ -27,7 +27,7 @@ fn two_doors(alloc: Global) -> Result<MemoryHost, Fail> {
 
 // Checks that the listener at a place was given back with so many connections, each answered.
 fn check_door(rt: &impl Abort, host: &MemoryHost, place: usize, count: usize) {
-    let Some(door) = host.returned.get(place) else {
+    let Some(door) = host.returned().get(place) else {
         panic!(rt; "a listener wasn't given back");
     };
     assert_eq!(rt; door.returned().len(), count);

@@ -1,9 +1,8 @@
 //! A run of the program over streams in memory, and what it comes to.
 
-use crate::files::MemoryFiles;
-use crate::hosts::MemoryHost;
 use lake_base::{MemorySink, MemorySource, ScriptClock, Text};
 use lake_program::run::run;
+use memory_machine::{MemoryFiles, MemoryHost, MemoryNetwork};
 use std::alloc::Global;
 use std::process::Abort;
 use std::sync::Wait;
@@ -80,6 +79,9 @@ pub(crate) fn run_over<R: Threads + Wait + Sync>(
     run_with(rt, alloc, words, input, streams, &mut host)
 }
 
+// The only name under which no file can be written.
+static NEVER: [&str; 1] = ["never"];
+
 /// The same, with a host.
 pub(crate) fn run_with<R: Threads + Wait + Sync>(
     rt: &R,
@@ -89,10 +91,25 @@ pub(crate) fn run_with<R: Threads + Wait + Sync>(
     streams: &Streams,
     host: &mut MemoryHost,
 ) -> Result<Came, Fail> {
+    let mut network = MemoryNetwork::new(alloc, Vec::new(alloc))?;
+    run_among(rt, alloc, words, input, streams, host, &mut network)
+}
+
+/// The same, with a network too.
+pub(crate) fn run_among<R: Threads + Wait + Sync>(
+    rt: &R,
+    alloc: Global,
+    words: &[&str],
+    input: &[u8],
+    streams: &Streams,
+    host: &mut MemoryHost,
+    network: &mut MemoryNetwork,
+) -> Result<Came, Fail> {
     let texts = texts_of(alloc, words)?;
     let mut source = source_of(alloc, input, streams)?;
     let mut sink = sink_of(alloc, streams)?;
     let mut errors = sink_of(alloc, streams)?;
+    let never = texts_of(alloc, &NEVER)?;
     let (status, _, _) = run(
         rt,
         alloc,
@@ -101,8 +118,9 @@ pub(crate) fn run_with<R: Threads + Wait + Sync>(
         &mut sink,
         &mut errors,
         ScriptClock::new(Vec::new(alloc)),
-        MemoryFiles::new(alloc),
+        MemoryFiles::new(alloc, never),
         host,
+        network,
     );
     Ok(Came {
         status,

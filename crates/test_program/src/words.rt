@@ -3,7 +3,7 @@
 use crate::streams::{DEMO, DEMO_PRINTS, SURE, Streams, check_came, run_over};
 use std::test::Fail;
 
-static OTHER_WORDS: [&[&str]; 17] = [
+static OTHER_WORDS: [&[&str]; 22] = [
     &[],
     &["lakefs"],
     &["batch", "--at"],
@@ -29,6 +29,11 @@ static OTHER_WORDS: [&[&str]; 17] = [
         "1",
     ],
     &["run", "--listen", "x", "--workers", "1", "--workers", "1"],
+    &["ctl"],
+    &["ctl", "--server"],
+    &["ctl", "--server", ""],
+    &["ctl", "--at", "x", "--server", "a:1", "fs"],
+    &["ctl", "--local", "x", "fs"],
 ];
 
 static USAGE: &[u8] = b"Error: usage\n";

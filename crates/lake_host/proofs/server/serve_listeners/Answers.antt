@@ -75,7 +75,7 @@ returns-in-Ok-listen-clause-server g c =
       finds = all_mapped (λ seat. Finds view seat c.close-in-Ok-listen.result) (λ (worker : WorkerView). worker.carried.seat)
           (map (worker_view show) c.serve_all-workers.result.items)
           (subst (λ seats. All (λ seat. Finds view seat c.close-in-Ok-listen.result) seats) c.dismiss-failed.ensures.seats c.close-in-Ok-listen.ensures.found);
-      opened = opened_so (g.H.Host.opened c.args.host.now) (g.H.Host.opened c.listen.new.self) (g.H.Host.opened c.dismiss-failed.new.host)
+      opened = opened_so c.args.at.now (g.H.Host.opened c.args.host.now) (g.H.Host.opened c.listen.new.self) (g.H.Host.opened c.dismiss-failed.new.host)
           (map (door_view g.H.Door.Listen.accepted g.H.Door.Listen.returned g.H.Door.Listen.faults) c.in-Ok-listen.doors.items)
           (map door_of (map (worker_view show) c.hire-workers.result.items))
           c.in-Ok-listen.ensures.opened (c.dismiss-failed.ensures.opened ∙ c.hire-workers.ensures.opened) c.hire-workers.ensures.listeners;

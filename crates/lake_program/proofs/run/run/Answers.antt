@@ -1,41 +1,49 @@
-use Rattle.std.proofs.Common.{inl, inr, ⊎_elim, refl, sym, ◌∙◌, ap}
+use Rattle.std.proofs.Common.{inl, inr, ⊎_elim, refl, sym, ◌∙◌}
 use Rattle.lake_host.specs.Doors.{HostView}
+use Rattle.lakectl_client.specs.Dialing.{DialView}
 use Rattle.lake_program.specs.Views.{RunView}
-use Rattle.lake_program.proofs.RunLemmas.{run_of_batch, run_of_else}
+use Rattle.lake_program.proofs.RunLemmas.{is_none, maps_none, run_of_batch, run_of_control, run_of_server}
 use Rattle.lake_program.proofs.run.run.Goals as goal
 
 pub returns-in-Some-clause-run : goal.returns-in-Some-clause-run
 returns-in-Some-clause-run g c =
-    let is = sym c.batch_timing.ensures ∙ c.in-Some.is in
-    let outcome = ⊎_elim
-    (λ none. inl (record {
-      starved = none.0;
-      same = λ i. record {
-        batch = record {
-          left = g.S.Source.left (none.1 i);
-          written = g.O.Sink.written (none.2 i);
-          sink_faults = g.O.Sink.faults (none.2 i);
-          readings = g.C.Clock.readings (none.3 i);
-          files = g.F.Files.files (none.4 i);
-        };
-        host = record { opened = g.H.Host.opened c.args.host.now; returned = g.H.Host.returned c.args.host.now; faults = g.H.Host.faults c.args.host.now };
-        errors = g.E.Sink.written c.args.errors.now;
-        source_faults = g.S.Source.faults (none.1 i);
-        errors_faults = g.E.Sink.faults c.args.errors.now;
-        file_faults = g.F.Files.faults (none.4 i);
+    let host : HostView = record {
+      opened = g.H.Host.opened c.args.host.now;
+      returned = g.H.Host.returned c.args.host.now;
+      faults = g.H.Host.faults c.args.host.now;
+    } in
+    let dial : DialView = record {
+      dialed = g.N.Connect.dialed c.args.network.now;
+      hung_up = g.N.Connect.hung_up c.args.network.now;
+      faults = g.N.Connect.faults c.args.network.now;
+    } in
+    let view : _ → _ → _ → _ → RunView = λ source sink clock files. record {
+      batch = record {
+        left = g.S.Source.left source;
+        written = g.O.Sink.written sink;
+        sink_faults = g.O.Sink.faults sink;
+        readings = g.C.Clock.readings clock;
+        files = g.F.Files.files files;
       };
-    }))
-    (λ some. inr some) c.serve_batch-status.ensures.outcome in (
-      c.serve_batch-status.result.0,
-      c.number_of.ensures,
-      run_of_batch c.args.words.now _ _ c.in-Some.timing c.serve_batch-status.result.0 is c.serve_batch-status.ensures.statuses outcome
-          c.serve_batch-status.ensures.source c.serve_batch-status.ensures.sink c.serve_batch-status.ensures.host (refl, refl, refl),
-    )
+      host = host;
+      dial = dial;
+      errors = g.E.Sink.written c.args.errors.now;
+      source_faults = g.S.Source.faults source;
+      errors_faults = g.E.Sink.faults c.args.errors.now;
+      file_faults = g.F.Files.faults files;
+    } in
+    run_of_batch c.args.words.now (view c.args.source.now c.args.sink.now c.args.clock c.args.files)
+    (view c.serve_batch-status.new.source c.serve_batch-status.new.sink c.serve_batch-status.result.1 c.serve_batch-status.result.2)
+    c.in-Some.timing c.serve_batch-status.result.0 c.number_of.result (sym c.batch_timing.ensures ∙ c.in-Some.is) c.number_of.ensures
+    c.serve_batch-status.ensures.statuses
+    (⊎_elim
+    (λ none. inl (record { starved = none.0; same = λ i. view (none.1 i) (none.2 i) (none.3 i) (none.4 i) }))
+    (λ some. inr some) c.serve_batch-status.ensures.outcome)
+    c.serve_batch-status.ensures.source c.serve_batch-status.ensures.sink c.serve_batch-status.ensures.host refl
 
-pub returns-in-None-clause-run : goal.returns-in-None-clause-run
-returns-in-None-clause-run g c =
-    let is = sym c.batch_timing.ensures ∙ c.in-None.is in
-    let before : RunView = record {
+pub returns-in-Some-service_words-clause-run : goal.returns-in-Some-service_words-clause-run
+returns-in-Some-service_words-clause-run g c =
+    let view : _ → RunView = λ host. record {
       batch = record {
         left = g.S.Source.left c.args.source.now;
         written = g.O.Sink.written c.args.sink.now;
@@ -43,23 +51,48 @@ returns-in-None-clause-run g c =
         readings = g.C.Clock.readings c.args.clock;
         files = g.F.Files.files c.args.files;
       };
-      host = record { opened = g.H.Host.opened c.args.host.now; returned = g.H.Host.returned c.args.host.now; faults = g.H.Host.faults c.args.host.now };
+      host = record { opened = g.H.Host.opened host; returned = g.H.Host.returned host; faults = g.H.Host.faults host };
+      dial = record {
+        dialed = g.N.Connect.dialed c.args.network.now;
+        hung_up = g.N.Connect.hung_up c.args.network.now;
+        faults = g.N.Connect.faults c.args.network.now;
+      };
       errors = g.E.Sink.written c.args.errors.now;
       source_faults = g.S.Source.faults c.args.source.now;
       errors_faults = g.E.Sink.faults c.args.errors.now;
       file_faults = g.F.Files.faults c.args.files;
     } in
-    let host_view : _ → HostView = λ h. record { opened = g.H.Host.opened h; returned = g.H.Host.returned h; faults = g.H.Host.faults h } in
-    let after : RunView = record before {
-      host = record { opened = g.H.Host.opened c.serve_or_refuse.new.host; returned = g.H.Host.returned c.serve_or_refuse.new.host; faults = g.H.Host.faults c.serve_or_refuse.new.host };
-      errors = g.E.Sink.written c.serve_or_refuse.new.errors;
-      errors_faults = g.E.Sink.faults c.serve_or_refuse.new.errors;
-    } in (
-      c.serve_or_refuse.result,
-      c.number_of-in-None.ensures,
-      run_of_else c.args.words.now before after c.serve_or_refuse.result is refl c.serve_or_refuse.ensures.errors c.serve_or_refuse.ensures.host
-          c.serve_or_refuse.ensures.serves
-          (λ some. (ap g.E.Sink.written (c.serve_or_refuse.ensures.server_alone some), ap g.E.Sink.faults (c.serve_or_refuse.ensures.server_alone some)))
-          c.serve_or_refuse.ensures.refuses
-          (λ none. ap host_view (c.serve_or_refuse.ensures.usage_alone none)),
-    )
+    run_of_server c.args.words.now (view c.args.host.now) (view c.serve_host-status.new.host)
+    (record { at = c.in-Some-service_words.at.now; service = c.in-Some-service_words.service }) c.serve_host-status.result
+    c.number_of-in-Some-service_words.result (sym c.batch_timing.ensures ∙ is_none c.batch_timing.result c.in_default.not-Some)
+    (sym c.in-Some-service_words.ensures.reads) c.number_of-in-Some-service_words.ensures refl
+    c.serve_host-status.ensures.later c.serve_host-status.ensures.served
+
+pub returns-in-Some-control_words-clause-run : goal.returns-in-Some-control_words-clause-run
+returns-in-Some-control_words-clause-run g c =
+    let view : _ → _ → _ → _ → RunView = λ sink errors files network. record {
+      batch = record {
+        left = g.S.Source.left c.args.source.now;
+        written = g.O.Sink.written sink;
+        sink_faults = g.O.Sink.faults sink;
+        readings = g.C.Clock.readings c.args.clock;
+        files = g.F.Files.files files;
+      };
+      host = record {
+        opened = g.H.Host.opened c.args.host.now;
+        returned = g.H.Host.returned c.args.host.now;
+        faults = g.H.Host.faults c.args.host.now;
+      };
+      dial = record { dialed = g.N.Connect.dialed network; hung_up = g.N.Connect.hung_up network; faults = g.N.Connect.faults network };
+      errors = g.E.Sink.written errors;
+      source_faults = g.S.Source.faults c.args.source.now;
+      errors_faults = g.E.Sink.faults errors;
+      file_faults = g.F.Files.faults files;
+    } in
+    let number = c.run_control-number in
+    run_of_control c.args.words.now (view c.args.sink.now c.args.errors.now c.args.files c.args.network.now)
+    (view number.new.sink number.new.errors number.new.files number.new.network)
+    (record { at = c.in-Some-control_words.at.now; words = c.in-Some-control_words.command.now }) number.result
+    (sym c.batch_timing.ensures ∙ is_none c.batch_timing.result c.in_default.not-Some)
+    (maps_none _ c.service_words.result _ c.service_words.ensures.reads c.in_default-service_words.not-Some) (sym c.in-Some-control_words.ensures) number.ensures.controls (refl, refl, refl, refl)
+    number.ensures.sink number.ensures.errors number.ensures.files number.ensures.network

@@ -1,47 +1,23 @@
 use Rattle.std.proofs.Common.{[], ◌∷◌, ◌++◌, ◌∙◌, sym}
-use Rattle.lake_server.specs.ServedConnections.{PartViews, worker_view}
+use Rattle.lake_server.specs.ServedConnections.{part_views, worker_view}
 use Rattle.lake_server.proofs.ServedConnectionsLemmas.{begins, ends_at_number, ends_failed, goes_all, has_more_now, one_more, serves_at, fails_at}
 use Rattle.lake_server.proofs.worker.serve_connections.Goals as goal
 
 pub loop-init : goal.loop-init
 loop-init g c =
-    let views : PartViews g.row.B.Denot g.row.C.Denot g.row.L.Denot = record {
-      held = g.B.Blocks.held;
-      block_faults = g.B.Blocks.faults;
-      misses = g.B.Blocks.misses;
-      readings = g.C.Clock.readings;
-      accepted = g.L.Listen.accepted;
-      returned = g.L.Listen.returned;
-      faults = g.L.Listen.faults;
-    } in
+    let views = part_views g.B.Blocks.held g.B.Blocks.faults g.B.Blocks.misses g.C.Clock.readings g.L.Listen.accepted g.L.Listen.returned g.L.Listen.faults in
     ([], begins (worker_view views c.args.worker.now) c.requires.served c.requires.failed)
 
 pub returns-then-is_reached : goal.returns-then-is_reached
 returns-then-is_reached g c =
-    let views : PartViews g.row.B.Denot g.row.C.Denot g.row.L.Denot = record {
-      held = g.B.Blocks.held;
-      block_faults = g.B.Blocks.faults;
-      misses = g.B.Blocks.misses;
-      readings = g.C.Clock.readings;
-      accepted = g.L.Listen.accepted;
-      returned = g.L.Listen.returned;
-      faults = g.L.Listen.faults;
-    } in
+    let views = part_views g.B.Blocks.held g.B.Blocks.faults g.B.Blocks.misses g.C.Clock.readings g.L.Listen.accepted g.L.Listen.returned g.L.Listen.faults in
     let way = c.loop.invariant in
     ends_at_number (worker_view views c.args.worker.now) (worker_view views c.loop.worker) way.0 way.1
     (rw c.if-is_reached.true at c.is_reached.ensures.reached)
 
 pub serve_one-requires : goal.serve_one-requires
 serve_one-requires g c =
-    let views : PartViews g.row.B.Denot g.row.C.Denot g.row.L.Denot = record {
-      held = g.B.Blocks.held;
-      block_faults = g.B.Blocks.faults;
-      misses = g.B.Blocks.misses;
-      readings = g.C.Clock.readings;
-      accepted = g.L.Listen.accepted;
-      returned = g.L.Listen.returned;
-      faults = g.L.Listen.faults;
-    } in
+    let views = part_views g.B.Blocks.held g.B.Blocks.faults g.B.Blocks.misses g.C.Clock.readings g.L.Listen.accepted g.L.Listen.returned g.L.Listen.faults in
     let way = c.loop.invariant in (
       c.type_bounds.send-L-In,
       (
@@ -52,15 +28,7 @@ serve_one-requires g c =
 
 pub returns-then-is_err : goal.returns-then-is_err
 returns-then-is_err g c =
-    let views : PartViews g.row.B.Denot g.row.C.Denot g.row.L.Denot = record {
-      held = g.B.Blocks.held;
-      block_faults = g.B.Blocks.faults;
-      misses = g.B.Blocks.misses;
-      readings = g.C.Clock.readings;
-      accepted = g.L.Listen.accepted;
-      returned = g.L.Listen.returned;
-      faults = g.L.Listen.faults;
-    } in
+    let views = part_views g.B.Blocks.held g.B.Blocks.faults g.B.Blocks.misses g.C.Clock.readings g.L.Listen.accepted g.L.Listen.returned g.L.Listen.faults in
     let old = worker_view views c.args.worker.now in
     let now = worker_view views c.loop.worker in
     let next = worker_view views c.serve_one.new.worker in
@@ -72,15 +40,7 @@ returns-then-is_err g c =
 
 pub loop-preserved : goal.loop-preserved
 loop-preserved g c =
-    let views : PartViews g.row.B.Denot g.row.C.Denot g.row.L.Denot = record {
-      held = g.B.Blocks.held;
-      block_faults = g.B.Blocks.faults;
-      misses = g.B.Blocks.misses;
-      readings = g.C.Clock.readings;
-      accepted = g.L.Listen.accepted;
-      returned = g.L.Listen.returned;
-      faults = g.L.Listen.faults;
-    } in
+    let views = part_views g.B.Blocks.held g.B.Blocks.faults g.B.Blocks.misses g.C.Clock.readings g.L.Listen.accepted g.L.Listen.returned g.L.Listen.faults in
     let old = worker_view views c.args.worker.now in
     let now = worker_view views c.loop.worker in
     let next = worker_view views c.serve_one.new.worker in

@@ -1,21 +1,13 @@
 use native.Mathlib.Omega.{arith}
 use Rattle.std.proofs.Crossing.{sync as heap_sync}
 use Rattle.shared_lake.proofs.SendLemmas.{shared_sync}
-use Rattle.lake_server.specs.ServedConnections.{PartViews}
+use Rattle.lake_server.specs.ServedConnections.{part_views}
 use Rattle.lake_server.proofs.WorkersLemmas.{each_served, lent}
 use Rattle.lake_server.proofs.workers.serve_workers.Goals as goal
 
 pub returns : goal.returns
 returns g c =
-    let views : PartViews g.row.B.Denot g.row.C.Denot g.row.L.Denot = record {
-      held = g.B.Blocks.held;
-      block_faults = g.B.Blocks.faults;
-      misses = g.B.Blocks.misses;
-      readings = g.C.Clock.readings;
-      accepted = g.L.Listen.accepted;
-      returned = g.L.Listen.returned;
-      faults = g.L.Listen.faults;
-    } in
+    let views = part_views g.B.Blocks.held g.B.Blocks.faults g.B.Blocks.misses g.C.Clock.readings g.L.Listen.accepted g.L.Listen.returned g.L.Listen.faults in
     each_served views _ _ (omega arith) (λ i d within.
     let at = (c.for_each_mut.ensures i d within).1 in
     lent views at.argument_is at.left at.call)

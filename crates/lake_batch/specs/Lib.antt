@@ -1,0 +1,2 @@
+pub mod BatchViews
+pub mod Batches

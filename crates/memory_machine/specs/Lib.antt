@@ -1,0 +1,3 @@
+pub mod FilesInMemory
+pub mod HostsInMemory
+pub mod NetworksInMemory
