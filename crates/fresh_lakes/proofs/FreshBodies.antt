@@ -53,7 +53,8 @@ module _ (cut : Cut) where
   no_change : (r : Repository) (branch : List ℕ) (b : Branch) (path : List ℕ) (entry : EntryValue) → r ≡ quickstart → get r.branches branch ≡ Some b
       → (get b.sealed path ≡ Some (Put entry)) ⊎ (get b.staged path ≡ Some (Put entry)) → ⊥
   no_change r branch b path entry is there changes =
-      let clean : b ≡ clean_branch first_id = only_there (codes "main") (clean_branch first_id) branch b (ap (λ (r : Repository). get r.branches branch) (sym is) ∙ there) in
+      let clean : b ≡ clean_branch first_id = only_there (codes "main") (clean_branch first_id) branch b
+      (ap (λ (r : Repository). get r.branches branch) (sym is) ∙ there) in
       let none : get (empty {X = Change} {R = byte_order}) path ≡ None = get-empty byte_order path in
       ⊎_elim (λ sealed. let same : get b.sealed path ≡ None = ap (λ (b : Branch). get b.sealed path) clean ∙ none in absurd cc)
       (λ staged. let same : get b.staged path ≡ None = ap (λ (b : Branch). get b.staged path) clean ∙ none in absurd cc) changes

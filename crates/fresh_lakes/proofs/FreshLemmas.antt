@@ -1,5 +1,6 @@
 -- A fresh lake in memory, and the seat at it.
-use Rattle.std.proofs.Common.{◌≡◌, ◌<◌, ◌+◌, ◌==◌, ◌++◌, ℕ, true, All, List, [], ◌∷◌, length, length-append, slice_index_or, Option, Some, None, refl, sym, ◌∙◌, ap, subst, arith}
+use Rattle.std.proofs.Common.{◌≡◌, ◌<◌, ◌+◌, ◌==◌, ◌++◌, ℕ, true, All, List, [], ◌∷◌, length, length-append, slice_index_or, Option, Some, None, refl, sym, ◌∙◌}
+use Rattle.std.proofs.Common.{ap, subst, arith}
 use Rattle.std.specs.FinMap.{empty}
 use Rattle.std.specs.List.{slice_get}
 use Rattle.std.proofs.lemmas.Option.{get_or_from_slice_get}
@@ -56,7 +57,8 @@ pub fresh_seats : {K : Type 0} (view : KeeperView K) (turn : TableId) (lake : La
     → AreFreshSeats seats
 fresh_seats view turn lake count seats founded is many each = λ k d within.
     fresh_seat view turn lake count k (slice_index_or seats k d) founded is
-    (get_or_from_slice_get seats k (new_seat (origin_of view) (λ l. l.history) (λ (e : HistoryEntry). e.by.seat) turn lake count k) d (each k (omega (arith, many, within))))
+    (get_or_from_slice_get seats k (new_seat (origin_of view) (λ l. l.history) (λ (e : HistoryEntry). e.by.seat) turn lake count k) d
+    (each k (omega (arith, many, within))))
 
 -- the only one of them is alone
 pub lone_seats : {K : Type 0} (view : KeeperView K) (turn : TableId) (lake : LakeValue K) (count : ℕ) (seats : List LakeSeat)

@@ -81,7 +81,8 @@ by_clock now old serves view agree limit most before after input status outcome 
 
 module _ (moment limit most : ℕ) (before after : BatchView) (input : List ℕ) (status : ExitStatus) (start stop : FixedClockValue)
     (begins : start ≡ record { at = moment; given = 1 })
-    (o : IsServedBatch Clock limit most (record before { readings = fixed_readings start }) (record after { readings = fixed_readings stop }) input status) where
+    (o : IsServedBatch Clock limit most (record before { readings = fixed_readings start })
+    (record after { readings = fixed_readings stop }) input status) where
   first_reading : o.begin.lake.readings ≡ Some (moment ∷ [])
   first_reading = o.timed.0 ∙ ap fixed_readings begins
 

@@ -1,6 +1,7 @@
 -- Workers that were made so far, and workers that were taken apart so far.
 use native.Mathlib.Omega.{arith}
-use Rattle.std.proofs.Common.{◌≡◌, ◌<◌, ◌++◌, ◌+◌, suc, ℕ, Bool, false, ◌||◌, List, [], ◌∷◌, length, map, Option, Some, None, is_some, IfSome, append_assoc, append-nil, length-append, refl, subst, sym, ◌∙◌, ap}
+use Rattle.std.proofs.Common.{◌≡◌, ◌<◌, ◌++◌, ◌+◌, suc, ℕ, Bool, false, ◌||◌, List, [], ◌∷◌, length, map, Option, Some, None, is_some, IfSome, append_assoc}
+use Rattle.std.proofs.Common.{append-nil, length-append, refl, subst, sym, ◌∙◌, ap}
 use Rattle.std.proofs.lemmas.List.{length-map, map-append}
 use Rattle.std.proofs.Math.Bool.{or-false, or_assoc}
 use Rattle.shared_lake.specs.SeatSteps.{LakeSeat}
@@ -46,7 +47,8 @@ begun_more connections workers number (first ∷ seats) (one ∷ others) seat wo
       (subst (λ n. IsBegun seat (share_of connections workers n) worker) (omega arith) is),
 )
 
-pub hired_one : (connections : Option ℕ) (all rest left : List LakeSeat) (seat : LakeSeat) (begun : List WorkerView) (worker : WorkerView) (doors fewer number : ℕ)
+pub hired_one : (connections : Option ℕ) (all rest left : List LakeSeat) (seat : LakeSeat) (begun : List WorkerView) (worker : WorkerView)
+    (doors fewer number : ℕ)
     → HiredSoFar connections all rest begun doors number → rest ≡ seat ∷ left → doors ≡ suc fewer
     → IsBegun seat (share_of connections (length all) number) worker
     → HiredSoFar connections all left (begun ++ worker ∷ []) fewer (number + 1)
@@ -120,7 +122,8 @@ failed_more : (done : List WorkerView) (worker : WorkerView) → any_failed (don
 failed_more [] worker = or-false worker.failed
 failed_more (one ∷ others) worker = ap (λ b. one.failed || b) (failed_more others worker) ∙ sym (or_assoc one.failed (any_failed others) worker.failed)
 
-pub taken_one : (all rest left : List WorkerView) (worker : WorkerView) (seats more : List LakeSeat) (before now next : Option (List DoorView)) (failed any : Bool)
+pub taken_one : (all rest left : List WorkerView) (worker : WorkerView) (seats more : List LakeSeat) (before now next : Option (List DoorView))
+    (failed any : Bool)
     → TakenSoFar all rest seats before now failed → rest ≡ worker ∷ left → more ≡ seats ++ worker.carried.seat ∷ []
     → IfSome now (λ doors. next ≡ Some (doors ++ door_of worker ∷ [])) → is_some next ≡ is_some now → any ≡ (failed || worker.failed)
     → TakenSoFar all left more before next any
@@ -150,7 +153,8 @@ none_out many None none = tt
 none_out many (Some back) none = absurd cc
 
 -- a listener is out that is to be given back
-pub one_out : (all rest left : List WorkerView) (worker : WorkerView) (seats : List LakeSeat) (given : Option (List Opened)) (before now : Option (List DoorView)) (failed : Bool)
+pub one_out : (all rest left : List WorkerView) (worker : WorkerView) (seats : List LakeSeat) (given : Option (List Opened))
+    (before now : Option (List DoorView)) (failed : Bool)
     → TakenSoFar all rest seats before now failed → rest ≡ worker ∷ left → AreOut (length all) given before → AreOut 1 given now
 one_out all rest left worker seats None before now failed far one out = tt
 one_out all rest left worker seats (Some many) None now failed far one out = none_out many now far.told

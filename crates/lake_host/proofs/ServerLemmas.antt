@@ -1,6 +1,7 @@
 -- Workers over one lake: they begin, serve, and their seats find the lake that is handed out.
 use native.Mathlib.Omega.{arith}
-use Rattle.std.proofs.Common.{◌≡◌, ◌+◌, ◌⊎◌, ⊎_elim, inl, inr, suc, ℕ, All, List, [], ◌∷◌, ◌++◌, append-nil, drop, length, map, take, Option, Some, IfSome, refl, sym, ◌∙◌, ap, subst, None}
+use Rattle.std.proofs.Common.{◌≡◌, ◌+◌, ◌⊎◌, ⊎_elim, inl, inr, suc, ℕ, All, List, [], ◌∷◌, ◌++◌, append-nil, drop, length, map, take, Option, Some, IfSome}
+use Rattle.std.proofs.Common.{refl, sym, ◌∙◌, ap, subst, None}
 use Rattle.std.proofs.Math.ListN.{drop_of_length-le}
 use Rattle.std.proofs.Math.Seq.{take-length}
 use Rattle.std.proofs.lemmas.List.Elements.{All-cons, All-nil}
@@ -95,7 +96,8 @@ unlistened how why before after told rose =
 pub refilled : {X : Type 0} (count : ℕ) (new old : List X) → count ≡ length old → length new ≡ length old
     → take count (new ++ drop (length new) old) ≡ new
 refilled count new old same one =
-    ap (take count) (ap (λ rest. new ++ rest) (drop_of_length-le old (omega (arith, one))) ∙ append-nil new) ∙ subst (λ n. take n new ≡ new) (omega (arith, same, one)) (take-length new)
+    ap (take count) (ap (λ rest. new ++ rest) (drop_of_length-le old (omega (arith, one))) ∙ append-nil new) ∙ subst (λ n. take n new ≡ new)
+    (omega (arith, same, one)) (take-length new)
 
 -- the lake that is handed out goes out from what the seats of workers that began go out from
 pub origins_stay : {K : Type 0} (view : KeeperView K) (lake : LakeValue K) (connections : Option ℕ) (workers number : ℕ) (seats : List LakeSeat)

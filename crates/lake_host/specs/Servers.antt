@@ -26,7 +26,8 @@ pub record HasServedAll {K : Type 0} (view : KeeperView K) (seats : List LakeSea
   pub tells : end ≡ (if any_failed ends then Failed else Done)
 
 -- a server that didn't begin: no listener was given; memory ran out, or the host failed and counted that; the lake is as its seats know it
-pub record HasNotBegun {K : Type 0} (view : KeeperView K) (seats : List LakeSeat) (before after : HostView) (end : ServerEnd) (lake : LakeValue K) : Type 0 where
+pub record HasNotBegun {K : Type 0} (view : KeeperView K) (seats : List LakeSeat) (before after : HostView) (end : ServerEnd)
+    (lake : LakeValue K) : Type 0 where
   pub finds : All (λ seat. Finds view seat lake) seats
   pub opened : after.opened ≡ before.opened
   pub returned : after.returned ≡ before.returned

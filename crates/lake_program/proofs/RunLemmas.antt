@@ -34,7 +34,8 @@ told_all (Some value) P all = all value
 module _ (timing : Timing) (input : List ℕ) (before after : BatchView) (status : ExitStatus)
     (o : IsServedBatch timing 1073741824 65536 before after input status) where
   -- a batch of which all lines were served
-  whole_run : IsWhole 1073741824 65536 input after.left o.outcome.extent status → IfSome before.written (λ written. IsBatchRun timing input written before after status)
+  whole_run : IsWhole 1073741824 65536 input after.left o.outcome.extent status → IfSome before.written
+      (λ written. IsBatchRun timing input written before after status)
   whole_run whole =
       let all : o.outcome.extent.served ≡ batch_lines 1073741824 input =
       sym (append-nil o.outcome.extent.served) ∙ ap (λ (l : List (List ℕ)). o.outcome.extent.served ++ l) (sym whole.all) ∙ o.outcome.lines in

@@ -1,13 +1,15 @@
 -- Connections that were served one after the other, and what a worker shows then.
 use Rattle.std.proofs.Common.{◌≡◌, ◌+◌, ◌<◌, ◌≤◌, ◌≢◌, ℕ, true, false, List, [], ◌∷◌, ◌++◌, map, min, length, take}
-use Rattle.std.proofs.Common.{Option, Some, None, IfSome, MatchBool, Result, Ok, Err, is_err, true≢false, refl, sym, ap, subst, ◌∙◌, append_assoc, append-nil, arith, length-append}
+use Rattle.std.proofs.Common.{Option, Some, None, IfSome, MatchBool, Result, Ok, Err, is_err, true≢false, refl, sym, ap, subst, ◌∙◌, append_assoc, append-nil}
+use Rattle.std.proofs.Common.{arith, length-append}
 use Rattle.std.proofs.Math.Seq.{take-append_seam}
 use Rattle.std.proofs.lemmas.List.{map-append}
 use Rattle.lake_base.specs.Outside.{Rose, last_count}
 use Rattle.lake_model.specs.declared.history.HistoryEntry.{HistoryEntry}
 use Rattle.lake_session.specs.WholeSessions.{GoesThrough, IsSession}
 use Rattle.lake_session.proofs.SeatLemmas.{goes_twice, stays}
-use Rattle.lake_server.specs.ServedConnections.{AreFronts, AreSessions, Carried, Connection, HasEnded, HasServed, WorkerView, carried_by, returned_of, streams_of}
+use Rattle.lake_server.specs.ServedConnections.{AreFronts, AreSessions, Carried, Connection, HasEnded, HasServed, WorkerView, carried_by, returned_of}
+use Rattle.lake_server.specs.ServedConnections.{streams_of}
 use Rattle.lake_server.specs.WorkerSteps.{GoesOnCounting, IsFailed, ServesConnection, ServesOrFails}
 
 -- ---- sessions, one after the other

@@ -48,7 +48,8 @@ impl Model for MemoryListener {
       faults = l.faults;
     } };
 
-    ghost invariant = { λ l. (l.handed ≤ length l.inputs.value.items) × (l.waiting.items ≡ drop l.handed l.inputs.value.items)
+    ghost invariant = { λ l. (l.handed ≤ length l.inputs.value.items)
+        × (l.waiting.items ≡ drop l.handed l.inputs.value.items)
         × (vec_len l.returned ≤ l.handed) × (length l.inputs.value.items ≤ vec_capacity l.returned) };
 }
 

@@ -53,7 +53,8 @@ module _ (at : List ℕ) (words : List (List ℕ)) (old now : ClientView) where
 
       -- one did, and what it said was shown, or couldn't be
       pub ended : (result : Result Shown Trouble)
-          → (result ≡ Err Failed → IsSome sending.save × ((reply_shown sending.layout reply).status ≡ 0)) → IfOk result (λ shown. shown ≡ reply_shown sending.layout reply)
+          → (result ≡ Err Failed → IsSome sending.save × ((reply_shown sending.layout reply).status ≡ 0)) → IfOk result
+          (λ shown. shown ≡ reply_shown sending.layout reply)
           → IfOk result (λ shown. Saves sending.save reply shown.status middle now.files) → OnErr result (MayHaveSaved sending.save middle now.files)
           → FailsByFault middle_faults now.file_faults result → ClientEnds at words old now result
       ended (Ok shown) named shows saves stops cause =

@@ -22,12 +22,20 @@ pub fn send_command<F: Files, N: Connect>(
         (record {
           files = F.files files.old;
           file_faults = F.faults files.old;
-          dial = record { dialed = N.dialed network.old; hung_up = N.hung_up network.old; faults = N.faults network.old };
+          dial = record {
+            dialed = N.dialed network.old;
+            hung_up = N.hung_up network.old;
+            faults = N.faults network.old;
+          };
         })
         (record {
           files = F.files files.new;
           file_faults = F.faults files.new;
-          dial = record { dialed = N.dialed network.new; hung_up = N.hung_up network.new; faults = N.faults network.new };
+          dial = record {
+            dialed = N.dialed network.new;
+            hung_up = N.hung_up network.new;
+            faults = N.faults network.new;
+          };
         })
         result }
     ensures files { F.faults files.old ≤ F.faults files.new }

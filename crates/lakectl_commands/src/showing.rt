@@ -50,7 +50,8 @@ pub fn show_reply<F: Files>(
     reply: &Option<Reply>,
 ) -> Result<Shown, Trouble>
     ensures shown { IfOk result (λ shown. shown ≡ reply_shown layout.now reply.now) }
-    ensures saved { IfOk result (λ shown. Saves name.now reply.now shown.status (F.files files.old) (F.files files.new)) }
+    ensures saved { IfOk result
+        (λ shown. Saves name.now reply.now shown.status (F.files files.old) (F.files files.new)) }
     ensures named { result ≡ Err Trouble.Failed → IsSome name.now × ((reply_shown layout.now reply.now).status ≡ 0) }
     ensures stopped { OnErr result (MayHaveSaved name.now (F.files files.old) (F.files files.new)) }
     ensures cause { FailsByFault (F.faults files.old) (F.faults files.new) result }

@@ -17,7 +17,8 @@ use Rattle.lakectl_commands.specs.Sendings.{IsSending}
 use Rattle.lakectl_commands.specs.ShownTexts.{bad_line_shown, nothing_shown}
 use Rattle.lakectl_commands.specs.declared.sending.Sending.{Sending}
 use Rattle.lakectl_session.specs.Exchanges.{LakeView}
-use Rattle.lakectl_session.specs.ServedCommands.{Behind, CommandEnds, CommandShows, CommandStops, CommandView, LineEnds, LineShows, LineStops, NoFile, Sent, Unsent, Usage}
+use Rattle.lakectl_session.specs.ServedCommands.{Behind, CommandEnds, CommandShows, CommandStops, CommandView, LineEnds, LineShows, LineStops, NoFile, Sent}
+use Rattle.lakectl_session.specs.ServedCommands.{Unsent, Usage}
 use Rattle.lakectl_session.specs.SessionsInMemory.{IsClosingText, IsExchanged}
 use Rattle.lakectl_session.proofs.ClosingTexts.{closing_text}
 
@@ -78,7 +79,8 @@ module _ (words : List (List ℕ)) (old now : CommandView) where
 
     -- the one or the other
     pub ended : (reply : Option Reply) (result : Result Shown Trouble) (middle : Option HeldFiles) → Exchanged sending.text (Ok reply)
-        → middle ≡ old.files → (result ≡ Err Failed → IsSome sending.save × ((reply_shown sending.layout reply).status ≡ 0)) → IfOk result (λ shown. shown ≡ reply_shown sending.layout reply)
+        → middle ≡ old.files → (result ≡ Err Failed → IsSome sending.save × ((reply_shown sending.layout reply).status ≡ 0)) → IfOk result
+        (λ shown. shown ≡ reply_shown sending.layout reply)
         → IfOk result (λ shown. Saves sending.save reply shown.status middle now.files) → OnErr result (MayHaveSaved sending.save middle now.files)
         → CommandEnds host words old now result
     ended reply (Ok shown) middle exchanged same named shows saves stops = sent_shown reply shown middle exchanged same shows saves

@@ -4,7 +4,8 @@ use Rattle.std.specs.Global.{Global}
 use Rattle.lake_server.specs.MemoryListeners.{MemoryListenerValue}
 use Rattle.lake_host.specs.Doors.{DoorView, Opened, opened_at}
 
--- the listeners that it has given, each with its address, and those that it was given back, in order, as they were then; the bytes of the connections of those that
+-- the listeners that it has given, each with its address, and those that it was given back, in order, as they were then; the
+-- bytes of the connections of those that
 -- are waiting; how many calls are to fail yet, and how many have failed
 pub record MemoryHostValue : Type 0 where
   pub opened : List Opened

@@ -10,7 +10,8 @@ use lake_base::Text;
 ///
 /// (A server goes by its own clock: what `--at` says is read, and has no effect.)
 pub fn control_words(words: &[Text]) -> Option<(&Text, &[Text])>
-    ensures { option_map (λ control. record { at = control.0.now; words = control.1.now }) result ≡ control_of words.now }
+    ensures { option_map (λ control. record { at = control.0.now; words = control.1.now }) result
+        ≡ control_of words.now }
 {
     match words {
         [ctl, called @ ..] if ctl.as_slice() == b"ctl".as_slice() => match called {
@@ -26,7 +27,8 @@ pub fn control_words(words: &[Text]) -> Option<(&Text, &[Text])>
 
 // Reads the words `--server HOST:PORT WORDS..`.
 fn called_words(words: &[Text]) -> Option<(&Text, &[Text])>
-    ensures { option_map (λ control. record { at = control.0.now; words = control.1.now }) result ≡ called_of words.now }
+    ensures { option_map (λ control. record { at = control.0.now; words = control.1.now }) result
+        ≡ called_of words.now }
 {
     match words {
         [server, at, command @ ..]

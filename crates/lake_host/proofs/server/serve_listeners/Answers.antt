@@ -11,13 +11,15 @@ use Rattle.lake_host.proofs.server.serve_listeners.Goals as goal
 
 pub serve_all-workers-requires-after_bounds : goal.serve_all-workers-requires-after_bounds
 serve_all-workers-requires-after_bounds g c κs within =
-    let show : PartViews _ g.row.H-Time.Denot g.row.H-Door.Denot = (host_views g.H.Time.Clock.readings g.H.Door.Listen.accepted g.H.Door.Listen.returned g.H.Door.Listen.faults) in
+    let show : PartViews _ g.row.H-Time.Denot g.row.H-Door.Denot = (host_views g.H.Time.Clock.readings g.H.Door.Listen.accepted g.H.Door.Listen.returned
+    g.H.Door.Listen.faults) in
     all_ready show c.args.lake c.args.connections (length c.args.seats.items) 0 c.args.seats.items c.hire-workers.result.items
     c.hire-workers.ensures.begun c.requires.own
 
 pub dismiss-failed-requires-clause-room : goal.dismiss-failed-requires-clause-room
 dismiss-failed-requires-clause-room g c κs within =
-    let show : PartViews _ g.row.H-Time.Denot g.row.H-Door.Denot = (host_views g.H.Time.Clock.readings g.H.Door.Listen.accepted g.H.Door.Listen.returned g.H.Door.Listen.faults) in
+    let show : PartViews _ g.row.H-Time.Denot g.row.H-Door.Denot = (host_views g.H.Time.Clock.readings g.H.Door.Listen.accepted g.H.Door.Listen.returned
+    g.H.Door.Listen.faults) in
     let count : length (map (worker_view show) c.serve_all-workers.result.items) ≡ length c.args.seats.items =
     as_many c.args.connections (length c.args.seats.items) 0 c.args.seats.items (map (worker_view show) c.hire-workers.result.items)
     (map (worker_view show) c.serve_all-workers.result.items) c.hire-workers.ensures.begun c.serve_all-workers.ensures in
@@ -27,7 +29,8 @@ dismiss-failed-requires-clause-room g c κs within =
 
 pub dismiss-failed-requires-clause-out : goal.dismiss-failed-requires-clause-out
 dismiss-failed-requires-clause-out g c κs within =
-    let show : PartViews _ g.row.H-Time.Denot g.row.H-Door.Denot = (host_views g.H.Time.Clock.readings g.H.Door.Listen.accepted g.H.Door.Listen.returned g.H.Door.Listen.faults) in
+    let show : PartViews _ g.row.H-Time.Denot g.row.H-Door.Denot = (host_views g.H.Time.Clock.readings g.H.Door.Listen.accepted g.H.Door.Listen.returned
+    g.H.Door.Listen.faults) in
     let count : length (map (worker_view show) c.serve_all-workers.result.items) ≡ length c.args.seats.items =
     as_many c.args.connections (length c.args.seats.items) 0 c.args.seats.items (map (worker_view show) c.hire-workers.result.items)
     (map (worker_view show) c.serve_all-workers.result.items) c.hire-workers.ensures.begun c.serve_all-workers.ensures in
@@ -40,7 +43,8 @@ dismiss-failed-requires-clause-out g c κs within =
 
 pub close-requires-in-Ok-listen-clause-some : goal.close-requires-in-Ok-listen-clause-some
 close-requires-in-Ok-listen-clause-some g c =
-    let show : PartViews _ g.row.H-Time.Denot g.row.H-Door.Denot = (host_views g.H.Time.Clock.readings g.H.Door.Listen.accepted g.H.Door.Listen.returned g.H.Door.Listen.faults) in
+    let show : PartViews _ g.row.H-Time.Denot g.row.H-Door.Denot = (host_views g.H.Time.Clock.readings g.H.Door.Listen.accepted g.H.Door.Listen.returned
+    g.H.Door.Listen.faults) in
     let count : length (map (worker_view show) c.serve_all-workers.result.items) ≡ length c.args.seats.items =
     as_many c.args.connections (length c.args.seats.items) 0 c.args.seats.items (map (worker_view show) c.hire-workers.result.items)
     (map (worker_view show) c.serve_all-workers.result.items) c.hire-workers.ensures.begun c.serve_all-workers.ensures in
@@ -56,7 +60,8 @@ close-requires-in-Ok-listen-clause-some g c =
 
 pub close-requires-in-Ok-listen-clause-own : goal.close-requires-in-Ok-listen-clause-own
 close-requires-in-Ok-listen-clause-own g c =
-    let show : PartViews _ g.row.H-Time.Denot g.row.H-Door.Denot = (host_views g.H.Time.Clock.readings g.H.Door.Listen.accepted g.H.Door.Listen.returned g.H.Door.Listen.faults) in
+    let show : PartViews _ g.row.H-Time.Denot g.row.H-Door.Denot = (host_views g.H.Time.Clock.readings g.H.Door.Listen.accepted g.H.Door.Listen.returned
+    g.H.Door.Listen.faults) in
     let served = c.serve_all-workers.ensures in
     subst (λ seats. All (λ (seat : LakeSeat). seat.turn ≡ c.args.lake) seats) (sym c.dismiss-failed.ensures.seats)
     (turns_stay c.args.lake c.args.connections (length c.args.seats.items) 0 c.args.seats.items (map (worker_view show) c.hire-workers.result.items)
@@ -64,8 +69,15 @@ close-requires-in-Ok-listen-clause-own g c =
 
 pub returns-in-Ok-listen-clause-server : goal.returns-in-Ok-listen-clause-server
 returns-in-Ok-listen-clause-server g c =
-    let show : PartViews _ g.row.H-Time.Denot g.row.H-Door.Denot = (host_views g.H.Time.Clock.readings g.H.Door.Listen.accepted g.H.Door.Listen.returned g.H.Door.Listen.faults) in
-    let view : KeeperView g.row.K.Denot = record { kept = g.K.Keeper.kept; faults = g.K.Keeper.faults; calls = g.K.Keeper.calls; successes = g.K.Keeper.successes } in
+    let show : PartViews _ g.row.H-Time.Denot g.row.H-Door.Denot = (host_views g.H.Time.Clock.readings g.H.Door.Listen.accepted g.H.Door.Listen.returned
+    g.H.Door.Listen.faults) in
+    let view : KeeperView g.row.K.Denot = record {
+      kept = g.K.Keeper.kept;
+      faults = g.K.Keeper.faults;
+      calls = g.K.Keeper.calls;
+      successes =
+          g.K.Keeper.successes;
+    } in
     let served = c.serve_all-workers.ensures in
     inl (record {
       begins = map (worker_view show) c.hire-workers.result.items;
@@ -97,8 +109,15 @@ returns-in-Err-clause-server g c =
 
 pub returns-in-Ok-listen-clause-origin : goal.returns-in-Ok-listen-clause-origin
 returns-in-Ok-listen-clause-origin g c =
-    let show : PartViews _ g.row.H-Time.Denot g.row.H-Door.Denot = (host_views g.H.Time.Clock.readings g.H.Door.Listen.accepted g.H.Door.Listen.returned g.H.Door.Listen.faults) in
-    let view : KeeperView g.row.K.Denot = record { kept = g.K.Keeper.kept; faults = g.K.Keeper.faults; calls = g.K.Keeper.calls; successes = g.K.Keeper.successes } in
+    let show : PartViews _ g.row.H-Time.Denot g.row.H-Door.Denot = (host_views g.H.Time.Clock.readings g.H.Door.Listen.accepted g.H.Door.Listen.returned
+    g.H.Door.Listen.faults) in
+    let view : KeeperView g.row.K.Denot = record {
+      kept = g.K.Keeper.kept;
+      faults = g.K.Keeper.faults;
+      calls = g.K.Keeper.calls;
+      successes =
+          g.K.Keeper.successes;
+    } in
     origins_stay view c.close-in-Ok-listen.result c.args.connections (length c.args.seats.items) 0 c.args.seats.items
     (map (worker_view show) c.hire-workers.result.items) (map (worker_view show) c.serve_all-workers.result.items) c.hire-workers.ensures.begun
     c.serve_all-workers.ensures
@@ -108,5 +127,11 @@ returns-in-Ok-listen-clause-origin g c =
 
 pub returns-in-Err-clause-origin : goal.returns-in-Err-clause-origin
 returns-in-Err-clause-origin g c =
-    let view : KeeperView g.row.K.Denot = record { kept = g.K.Keeper.kept; faults = g.K.Keeper.faults; calls = g.K.Keeper.calls; successes = g.K.Keeper.successes } in
+    let view : KeeperView g.row.K.Denot = record {
+      kept = g.K.Keeper.kept;
+      faults = g.K.Keeper.faults;
+      calls = g.K.Keeper.calls;
+      successes =
+          g.K.Keeper.successes;
+    } in
     origins_found view c.close-in-Err.result c.args.seats.items c.close-in-Err.ensures.found

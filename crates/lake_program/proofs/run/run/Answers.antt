@@ -94,5 +94,6 @@ returns-in-Some-control_words-clause-run g c =
     (view number.new.sink number.new.errors number.new.files number.new.network)
     (record { at = c.in-Some-control_words.at.now; words = c.in-Some-control_words.command.now }) number.result
     (sym c.batch_timing.ensures ∙ is_none c.batch_timing.result c.in_default.not-Some)
-    (maps_none _ c.service_words.result _ c.service_words.ensures.reads c.in_default-service_words.not-Some) (sym c.in-Some-control_words.ensures) number.ensures.controls (refl, refl, refl, refl)
+    (maps_none _ c.service_words.result _ c.service_words.ensures.reads c.in_default-service_words.not-Some) (sym c.in-Some-control_words.ensures)
+    number.ensures.controls (refl, refl, refl, refl)
     number.ensures.sink number.ensures.errors number.ensures.files number.ensures.network

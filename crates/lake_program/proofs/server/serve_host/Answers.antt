@@ -5,6 +5,12 @@ pub returns-clause-served : goal.returns-clause-served
 returns-clause-served g c =
     served_so (record { at = c.args.at.now; service = c.args.service })
     (record { opened = g.H.Host.opened c.args.host.now; returned = g.H.Host.returned c.args.host.now; faults = g.H.Host.faults c.args.host.now })
-    (record { opened = g.H.Host.opened c.serve_listeners-end.new.host; returned = g.H.Host.returned c.serve_listeners-end.new.host; faults = g.H.Host.faults c.serve_listeners-end.new.host })
+    (record {
+      opened = g.H.Host.opened c.serve_listeners-end.new.host;
+      returned = g.H.Host.returned c.serve_listeners-end.new.host;
+      faults = g.H.Host.faults
+          c.serve_listeners-end.new.host;
+    })
     c.in-Ok.seats.items c.serve_listeners-end.result.1 c.serve_listeners-end.result.0 c.status_of.result c.requires c.in-Ok.ensures.fresh
-    c.in-Ok.ensures.count c.in-Ok.ensures.alone c.serve_listeners-end.ensures.origin c.serve_listeners-end.ensures.stands c.serve_listeners-end.ensures.server c.status_of.ensures
+    c.in-Ok.ensures.count c.in-Ok.ensures.alone c.serve_listeners-end.ensures.origin c.serve_listeners-end.ensures.stands c.serve_listeners-end.ensures.server
+    c.status_of.ensures
