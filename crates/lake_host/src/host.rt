@@ -7,8 +7,8 @@ ghost use Rattle.lake_host.specs.Doors.{AreOut, DoorView, Opened, door_view, ope
 use lake_base::{Clock, Text, Trouble};
 use lake_server::Listen;
 
-/// What gives listeners and clocks, and takes listeners back. It may tell contracts which it gave and took back. It counts
-/// its failures.
+/// What gives listeners and clocks, and takes listeners back. It may tell contracts which it gave and took back. It
+/// counts its failures.
 pub trait Host: Drop {
     /// What accepts the connections of one worker.
     type Door: Listen + Send;
