@@ -3,10 +3,10 @@
 
 ghost use Rattle.std.specs.Prelude.{◌≡◌, IfOk, length};
 
-use crate::clock::SocketClock;
 use crate::door::SocketDoor;
 use lake_base::{Text, Trouble};
 use lake_host::Host;
+use lake_machine::SystemClock;
 use std::alloc::Global;
 use std::io::ErrorKind;
 use std::net::{Net, TcpListener, TcpStream};
@@ -57,7 +57,7 @@ impl<'a, R: Net<Stream = TcpStream, Listener = TcpListener> + time::Clock + Sync
 
     type Door = SocketDoor;
 
-    type Time = SocketClock<'a, R>;
+    type Time = SystemClock<'a, R>;
 
     ghost returned = { λ _. None };
 
@@ -76,8 +76,8 @@ impl<'a, R: Net<Stream = TcpStream, Listener = TcpListener> + time::Clock + Sync
         }
     }
 
-    fn clock(&mut self) -> SocketClock<'a, R> {
-        SocketClock::new(self.rt)
+    fn clock(&mut self) -> SystemClock<'a, R> {
+        SystemClock::new(self.rt)
     }
 
     fn shut(&mut self, _door: SocketDoor) {}

@@ -4,7 +4,6 @@
 //! - `streams`: `SocketSource` and `SocketSink`, the two directions of one connection, how a connection is set up, and
 //!   how it ends.
 //! - `door`: `SocketDoor`, which accepts the connections of one worker and takes them back.
-//! - `clock`: `SocketClock`, the system's clock.
 //! - `host`: `SocketHost`, which opens doors at an address and gives clocks.
 //! - `network`: `SocketNetwork`, which connects to servers.
 //!
@@ -12,13 +11,11 @@
 //! contract can say what a socket gives or takes, and so none is told.
 #![tactic(auto)]
 
-pub mod clock;
 pub mod door;
 pub mod host;
 pub mod network;
 pub mod streams;
 
-pub use clock::SocketClock;
 pub use door::SocketDoor;
 pub use host::SocketHost;
 pub use network::SocketNetwork;
