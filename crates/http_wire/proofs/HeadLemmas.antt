@@ -1,10 +1,11 @@
 -- Where the head at the front of bytes ends.
 use Rattle.std.proofs.Common.{◌≡◌, ◌≢◌, ◌≤◌, ◌<◌, ◌+◌, ◌*◌, ◌-◌, ℕ, zero, suc, Bool, true, false, List, [], ◌∷◌, ◌++◌, length, take, drop, get_or}
-use Rattle.std.proofs.Common.{Option, Some, None, refl, sym, ap, subst, inl, inr, true≢false, ◌∙◌, arith, append_assoc, nat_lt, if◌then◌else◌}
+use Rattle.std.proofs.Common.{Option, Some, None, refl, sym, ap, subst, inl, inr, true≢false, ◌∙◌, arith, append_assoc, nat_lt, slice_range, if◌then◌else◌}
 use Rattle.std.proofs.lemmas.List.{append-nil, length-append, take-append-drop, take-append-le, drop-append-le, take-take, take_all}
-use Rattle.std.proofs.lemmas.List.{take_more, length-take, length-take-le, get_or-take}
+use Rattle.std.proofs.lemmas.List.{take_more, length-take, length-take-le, get_or-take, get_or-drop, length-drop}
 use Rattle.std.proofs.lemmas.Bool.Decides.{nat_tests}
 use Rattle.std.proofs.lemmas.Bool.{cases_lt}
+use Rattle.memchr.specs.Find.{Passes, is_byte}
 use Rattle.http_wire.specs.MessageHeads.{ends_empty, begins_pair, skip_pairs, first_front, headed, too_long, unended, opening_at, opening}
 use Rattle.http_wire.specs.HeadSearch.{HasNoEnd, IsHeadEnd, pairs}
 
@@ -86,6 +87,37 @@ no_end_step bytes at none here k h =
       | inl more ↦ let e : k ≡ at + 1 = omega (arith, h, more) in subst (λ (i : ℕ). ends_empty (take i bytes) ≡ false) (sym e) here
       | inr le ↦ none k le
     ]
+
+-- what is looked through from a place on
+abbrev pub rest_from : List ℕ → ℕ → List ℕ
+rest_from bytes at = slice_range bytes at (length bytes)
+
+pub rest_long : (bytes : List ℕ) (at : ℕ) → at ≤ length bytes → length (rest_from bytes at) ≡ length bytes - at
+rest_long bytes at h = length-take-le (length bytes - at) (drop at bytes) (omega (arith, length-drop at bytes))
+
+rest_at : (bytes : List ℕ) (at k : ℕ) → at + k < length bytes → get_or (rest_from bytes at) k 0 ≡ get_or bytes (at + k) 0
+rest_at bytes at k h = get_or-take (length bytes - at) (drop at bytes) k 0 (omega (arith, h)) ∙ get_or-drop at bytes k 0
+
+-- the line feed that was found
+pub feed_at : (bytes : List ℕ) (at n : ℕ) → at + n < length bytes → Passes (is_byte 10) (rest_from bytes at) n → get_or bytes (at + n) 0 ≡ 10
+feed_at bytes at n h passes = sym (rest_at bytes at n h) ∙ is_feed (get_or (rest_from bytes at) n 0) passes
+  where
+    is_feed : (b : ℕ) → is_byte 10 b ≡ true → b ≡ 10
+    is_feed b is = grind (arith, nat_tests, is)
+
+-- no end comes between where no line feed stands
+pub no_end_run : (bytes : List ℕ) (at n : ℕ) → HasNoEnd bytes at → at + n ≤ length bytes
+    → ((k : ℕ) → 0 ≤ k → k < n → ¬ (Passes (is_byte 10) (rest_from bytes at) k)) → HasNoEnd bytes (at + n)
+no_end_run bytes at zero none within other = let e : at ≡ at + 0 = omega arith in subst (HasNoEnd bytes) e none
+no_end_run bytes at (suc n) none within other =
+    let e : at + n + 1 ≡ at + suc n = omega arith in
+    subst (HasNoEnd bytes) e
+    (no_end_step bytes (at + n) (no_end_run bytes at n none (omega (arith, within)) (λ k from less. other k from (omega (arith, less))))
+    (no_end_here bytes (at + n) (omega (arith, within))
+    (λ is. other n (omega arith) (omega arith) (feed_passes (get_or (rest_from bytes at) n 0) (rest_at bytes at n (omega (arith, within)) ∙ is)))))
+  where
+    feed_passes : (b : ℕ) → b ≡ 10 → is_byte 10 b ≡ true
+    feed_passes b is = grind (arith, nat_tests, is)
 
 -- a single byte isn't a carriage return where a head ends with it
 pub end_of_one : (a n : ℕ) → n ≤ 1 → ends_empty (take n (a ∷ [])) ≡ true → a ≡ 10

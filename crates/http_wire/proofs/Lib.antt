@@ -1,6 +1,7 @@
 pub mod AnswerLemmas
 pub mod BodyLemmas
 pub mod FieldLemmas
+pub mod FoundLemmas
 pub mod FrontLemmas
 pub mod HeadLemmas
 pub mod LineLemmas

@@ -8,7 +8,8 @@ use Rattle.std.proofs.lemmas.List.Elements.{All-append, All-cons, All-nil}
 use Rattle.std.proofs.lemmas.Bool.Decides.{nat_tests}
 use Rattle.std.proofs.lemmas.Bool.{cases_lt}
 use Rattle.httparse.specs.Grammar.{LineEnd, crlf, lf, print_end, Field, print_field, IsField, print_section, is_token_byte, is_value_byte}
-use Rattle.httparse.specs.Grammar.{print_version, print_reason, reason_phrase, IsResponseHead, print_response}
+use Rattle.httparse.specs.Grammar.{print_version, print_reason, reason_phrase, IsResponseHead, print_response, is_uri_byte, print_blank}
+use Rattle.httparse.specs.Grammar.{RequestHead, IsRequestHead, print_request}
 use Rattle.http_wire.specs.MessageHeads.{ends_empty}
 use Rattle.http_wire.specs.HeadSearch.{HasNoEnd, IsHeadEnd}
 use Rattle.http_wire.proofs.HeadLemmas.{no_end_tail}
@@ -158,7 +159,7 @@ empty_line w u crlf is none =
 
 -- ---- fields
 
-token_inner : (b : ℕ) → is_token_byte b ≡ true → IsInner b
+pub token_inner : (b : ℕ) → is_token_byte b ≡ true → IsInner b
 unfolding is_token_byte
 token_inner b token = (λ is. grind (arith, nat_tests), λ is. grind (arith, nat_tests))
 
@@ -227,3 +228,30 @@ reply_end minor digits reason line_end fields last is front front_is =
     let feed = feed_last line line_end in
     subst (λ (l : List ℕ). IsHeadEnd l (length l)) (sym front_is)
     (section_end (line ++ print_end line_end) feed.0 fields last feed.1 (line_more [] line line_end some none_of_none inner) is.fields)
+
+-- ---- requests
+
+uri_inner : (b : ℕ) → is_uri_byte b ≡ true → IsInner b
+uri_inner b uri = (λ is. grind (arith, nat_tests), λ is. grind (arith, nat_tests))
+
+-- the head of a request without empty lines before it
+pub request_end : (h : RequestHead) → IsRequestHead h → h.blank ≡ [] → (front : List ℕ) → front ≡ print_request h → IsHeadEnd front (length front)
+unfolding print_request
+request_end h is none front front_is =
+    let line : List ℕ = h.method ++ 32 ∷ h.target ++ 32 ∷ print_version h.minor in
+    let inner : All IsInner line =
+    All-append IsInner (h.method ++ 32 ∷ h.target) (32 ∷ print_version h.minor)
+    (All-append IsInner h.method (32 ∷ h.target) (λ k d less. token_inner (get_or h.method k d) (is.method.1 k d less))
+    (All-cons IsInner 32 h.target (value_inner 32 refl) (λ k d less. uri_inner (get_or h.target k d) (is.target.1 k d less))))
+    (All-cons IsInner 32 (print_version h.minor) (value_inner 32 refl) (minor_inner h.minor is.minor)) in
+    let some : 0 < length line = omega (
+      arith,
+      length-append (h.method ++ 32 ∷ h.target) (32 ∷ print_version h.minor),
+      length-append h.method (32 ∷ h.target),
+    ) in
+    let feed = feed_last line h.line_end in
+    let whole : front ≡ line ++ print_end h.line_end ++ print_section h.fields h.last =
+    front_is ∙ ap (λ (blank : List LineEnd). print_blank blank ++ h.method ++ 32 ∷ h.target ++ 32 ∷ print_version h.minor ++ print_end h.line_end
+    ++ print_section h.fields h.last) none in
+    subst (λ (l : List ℕ). IsHeadEnd l (length l)) (sym whole)
+    (section_end (line ++ print_end h.line_end) feed.0 h.fields h.last feed.1 (line_more [] line h.line_end some none_of_none inner) is.fields)

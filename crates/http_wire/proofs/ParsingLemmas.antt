@@ -52,7 +52,7 @@ module _ (bytes : List ℕ) where
       ap (λ (p : List ℕ × List ℕ). is_utf8 p.0) at ∙ token_text (get_or fields k none).name (all k none within).name
 
   -- there are no more fields than places
-  fields_few : (headers : List HeaderSpan) (count : ℕ) (fields : List Field) → count ≤ length headers → length headers ≡ 64
+  fields_few : (headers : List HeaderSpan) (count : ℕ) (fields : List Field) → count ≤ length headers → length headers ≤ 64
       → AreFieldsAt bytes headers count fields → (count ≤ 64) × (length fields ≤ 64)
   fields_few headers count fields fits room at =
       let taken : length (take count headers) ≡ count = length-take-le count headers fits in (
@@ -62,7 +62,7 @@ module _ (bytes : List ℕ) where
 
   -- a request's head that is all of the bytes
   pub request_found : (headers : List HeaderSpan) (found : RequestSpans) → IsRequestWithin bytes headers found → IsRequestOf bytes headers found
-      → found.len ≡ length bytes → length headers ≡ 64
+      → found.len ≡ length bytes → length headers ≤ 64
       → (found.headers ≤ 64) × ((h : RequestHead) × IsFoundRequest bytes (take found.headers headers) found h)
   request_found headers found within of len room =
       let at = of.1 in
@@ -88,7 +88,7 @@ module _ (bytes : List ℕ) where
 
   -- the same of a reply's
   pub reply_found : (headers : List HeaderSpan) (found : ResponseSpans) → IsResponseWithin bytes headers found → IsResponseOf bytes headers found
-      → found.len ≡ length bytes → length headers ≡ 64
+      → found.len ≡ length bytes → length headers ≤ 64
       → (found.headers ≤ 64) × ((h : ResponseHead) × IsFoundReply bytes (take found.headers headers) found h)
   reply_found headers found within of len room =
       let at = of.1 in

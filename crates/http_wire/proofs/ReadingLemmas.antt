@@ -1,6 +1,6 @@
 -- What is read, piece by piece, of a source that tells its bytes.
-use Rattle.std.proofs.Common.{◌≡◌, ◌≤◌, ◌<◌, ◌+◌, ◌-◌, ◌==◌, ℕ, zero, suc, Bool, false, List, [], ◌∷◌, ◌++◌, length, take, drop, Option, Some, None}
-use Rattle.std.proofs.Common.{IfSome, Ok, Err, refl, sym, ap, subst, ◌∙◌, arith, append_assoc, slice_range, if◌then◌else◌}
+use Rattle.std.proofs.Common.{◌≡◌, ◌≤◌, ◌<◌, ◌+◌, ◌-◌, ◌==◌, ℕ, zero, suc, Bool, true, false, List, [], ◌∷◌, ◌++◌, length, take, drop, Option, Some, None}
+use Rattle.std.proofs.Common.{IfSome, Result, Ok, Err, refl, sym, ap, subst, ◌∙◌, arith, append_assoc, slice_range, true≢false, if◌then◌else◌}
 use Rattle.std.proofs.lemmas.List.{append-nil, length-append, length-drop, length-take-le, take-append-drop, take-append-le, drop-append-le}
 use Rattle.std.proofs.lemmas.List.{drop-take, take_all}
 use Rattle.std.proofs.lemmas.Bool.Decides.{nat_tests}
@@ -11,9 +11,10 @@ use Rattle.http_wire.specs.declared.fault.WireFault.TheVariants.{Ended, Truncate
 use Rattle.http_wire.specs.declared.heads.Look.TheVariants.{Head, Part, TooLong}
 use Rattle.http_wire.specs.declared.heads.Search.{Search}
 use Rattle.http_wire.specs.Filling.{Filled, Gave, Grown, IsFillFault}
-use Rattle.http_wire.specs.MessageHeads.{ends_empty, opening}
+use Rattle.http_wire.specs.MessageHeads.{begins_pair, ends_empty, unended, opening}
 use Rattle.http_wire.specs.Messages.{end_fault}
-use Rattle.http_wire.specs.HeadSearch.{pairs, IsSearch, IsGiven, Shows, EndsIn, IsHeadRead, IsHeadAnswer, Reaches}
+use Rattle.http_wire.proofs.HeadLemmas.{opening_headed}
+use Rattle.http_wire.specs.HeadSearch.{pairs, IsHeadEnd, IsSearch, IsGiven, Shows, EndsIn, IsHeadRead, IsHeadAnswer, Reaches}
 
 -- of a source that tells its bytes, one fact gives another
 pub told : (o : Option (List ℕ)) (P Q : List ℕ → Type 0) → ((left : List ℕ) → P left → Q left) → IfSome o P → IfSome o Q
@@ -125,6 +126,86 @@ gave_none before P (Some left) read = record {
   read = subst (λ (l : List ℕ). P l left) (sym (append-nil before)) (read left);
 }
 
+-- ---- a first read, where nothing is held
+
+not_zero : (n : ℕ) → (suc n == 0) ≡ false
+not_zero n = grind (arith, nat_tests)
+
+opening_none : opening [] ≡ unended []
+unfolding opening
+opening_none = refl
+
+-- nothing is held
+pub none_held : (before held : List ℕ) (empty : Bool) → held ≡ before → empty ≡ (length held == 0) → empty ≡ true → before ≡ []
+none_held [] held empty same is none = refl
+none_held (b ∷ before) held empty same is none =
+    absurd (true≢false (sym none ∙ is ∙ ap (λ (l : List ℕ). length l == 0) same ∙ not_zero (length before)))
+
+module _ (before held : List ℕ) where
+  -- nothing had to be read
+  pub some_kept : (o : Option (List ℕ)) → IfSome o (λ left. Gave before left o (λ given rest. given ≡ before))
+  some_kept o = gave_none before (λ given rest. given ≡ before) o (λ rest. refl)
+
+  -- bytes came
+  pub some_came : (left : List ℕ) (now : Option (List ℕ)) (n : ℕ) → Filled before held now n left → Gave before left now (λ given rest. given ≡ held)
+  some_came left now n fill = record {
+    more = take n left;
+    rest = drop n left;
+    gave = take-append-drop n left;
+    left_is = fill.rest;
+    read = sym fill.held;
+  }
+
+  -- the source ended
+  pub some_ended : (left : List ℕ) (now : Option (List ℕ)) (n : ℕ) → before ≡ [] → n ≡ 0 → Filled before held now n left
+      → IsHeadAnswer before left held now (Err Ended)
+  unfolding IsHeadRead
+  some_ended left now n empty none fill = record {
+    more = [];
+    rest = left;
+    gave = refl;
+    left_is = fill.rest ∙ ap (λ (i : ℕ). Some (drop i left)) none;
+    read = (([], ap opening (append-nil before ∙ empty) ∙ opening_none, refl), fill.end none);
+  }
+
+  -- the read was refused
+  pub some_fault : (o after : Option (List ℕ)) (fault : WireFault) → before ≡ [] → IsFillFault o after fault
+      → IfSome o (λ left. IsHeadAnswer before left held after (Err fault))
+  unfolding IsHeadRead
+  some_fault o after ReadFault empty same =
+      subst (λ (now : Option (List ℕ)). IfSome o (λ left. IsHeadAnswer before left held now (Err ReadFault))) (sym same)
+      (gave_none before (λ given rest. IsHeadRead given held rest (Err ReadFault)) o (λ rest. ([], ap opening empty ∙ opening_none)))
+  some_fault o after NoMemory empty same =
+      subst (λ (now : Option (List ℕ)). IfSome o (λ left. IsHeadAnswer before left held now (Err NoMemory))) (sym same)
+      (gave_none before (λ given rest. IsHeadRead given held rest (Err NoMemory)) o (λ rest. tt))
+  some_fault o after Ended empty same = absurd same
+  some_fault o after (Truncated n) empty same = absurd same
+  some_fault o after HeadTooLong empty same = absurd same
+  some_fault o after BadHead empty same = absurd same
+  some_fault o after Chunked empty same = absurd same
+  some_fault o after BadLength empty same = absurd same
+  some_fault o after (BodyTooLong n) empty same = absurd same
+
+-- a head stands at the front of what came
+pub front_answer : (before had held : List ℕ) (now : Option (List ℕ)) (n : ℕ) → n ≤ 16384 → IsHeadEnd held n → begins_pair held ≡ false
+    → Gave before had now (λ given rest. given ≡ held) → IsHeadAnswer before had held now (Ok n)
+unfolding IsHeadRead
+front_answer before had held now n few end pair came =
+    gave_as before had (λ given rest. given ≡ held) (λ given rest. IsHeadRead given held rest (Ok n)) now came
+    (λ given rest is. record {
+      within = end.within;
+      opens = λ more. ap (λ (l : List ℕ). opening (l ++ more)) is ∙ opening_headed 0 held more n (omega (arith, few)) end (λ two. pair);
+    })
+
+-- a head was read on from what came
+pub some_then : (before had held last : List ℕ) (now after : Option (List ℕ)) (answer : Result ℕ WireFault)
+    → Gave before had now (λ given rest. given ≡ held) → IfSome now (λ left. IsHeadAnswer held left last after answer)
+    → IsHeadAnswer before had last after answer
+some_then before had held last now after answer came goes =
+    gave_then before had (λ given rest. given ≡ held) (λ given rest. IsHeadRead given last rest answer) now came held
+    (λ given rest. IsHeadRead given last rest answer) after goes
+    (λ given rest more end is read. subst (λ (l : List ℕ). IsHeadRead (l ++ more) last end answer) (sym is) read)
+
 pub reached_start : (buffer : List ℕ) (o : Option (List ℕ)) → IfSome o (λ left. Reaches buffer left (record { skipped = 0; passed = 0 }) buffer o)
 reached_start buffer o =
     gave_none buffer (λ given rest. IsGiven given (record { skipped = 0; passed = 0 }) buffer) o (λ rest. record { count = 0; skipped = refl; whole = refl })
@@ -191,9 +272,6 @@ module _ (before had : List ℕ) (search next : Search) (w held : List ℕ) (now
     part_fault more after Chunked same = absurd same
     part_fault more after BadLength same = absurd same
     part_fault more after (BodyTooLong n) same = absurd same
-
-not_zero : (n : ℕ) → (suc n == 0) ≡ false
-not_zero n = grind (arith, nat_tests)
 
 -- the fault of an end is read
 end_read : (given part held rest : List ℕ) → EndsIn given (end_fault part) × (rest ≡ []) → IsHeadRead given held rest (Err (end_fault part))

@@ -79,3 +79,17 @@ IsHeadAnswer before had held left answer = Gave before had left (λ given rest. 
 -- the same while it goes on
 abbrev pub Reaches : (before had : List ℕ) → Search → (held : List ℕ) → Option (List ℕ) → Type 0
 Reaches before had search held left = Gave before had left (λ given rest. IsGiven given search held)
+
+-- the bytes that were given are those that are held; or why none are
+abbrev pub IsSomeRead : (given held rest : List ℕ) → Result (Unit {0}) WireFault → Type 0
+IsSomeRead given held rest (Ok _) = given ≡ held
+IsSomeRead given held rest (Err fault) = IsHeadRead given held rest (Err fault)
+
+-- what a read answers where nothing is held
+abbrev pub IsSomeAnswer : (before had held : List ℕ) → Option (List ℕ) → Result (Unit {0}) WireFault → Type 0
+IsSomeAnswer before had held left answer = Gave before had left (λ given rest. IsSomeRead given held rest answer)
+
+-- the length of a head that was read with what else is told of it
+abbrev pub head_length : {T : Type 0} → Result (ℕ × T) WireFault → Result ℕ WireFault
+head_length (Ok read) = Ok read.0
+head_length (Err fault) = Err fault

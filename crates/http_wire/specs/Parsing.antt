@@ -1,5 +1,5 @@
 -- What a whole head gives, its body apart.
-use Rattle.std.specs.Prelude.{◌≡◌, ℕ, All, true, length, map, List, [], Option, Some, None, Result, Ok, Err, ⊤}
+use Rattle.std.specs.Prelude.{◌≡◌, ◌≤◌, ℕ, All, true, false, length, map, take, List, [], Option, Some, None, Result, Ok, Err, ⊤}
 use Rattle.std.specs.Str.{is_utf8}
 use Rattle.httparse.specs.declared.spans.HeaderSpan.{HeaderSpan}
 use Rattle.httparse.specs.Grammar.{RequestHead, ResponseHead, status_code}
@@ -11,6 +11,8 @@ use Rattle.http_wire.specs.declared.message.Request.{Request}
 use Rattle.http_wire.specs.declared.message.Reply.{Reply}
 use Rattle.http_wire.specs.declared.fault.WireFault.{WireFault}
 use Rattle.http_wire.specs.declared.fault.WireFault.TheVariants.{Ended, Truncated, HeadTooLong, BadHead, Chunked, BadLength, BodyTooLong, ReadFault, NoMemory}
+use Rattle.http_wire.specs.HeadSearch.{IsHeadEnd}
+use Rattle.http_wire.specs.MessageHeads.{begins_pair}
 use Rattle.http_wire.specs.MessageFields.{body_length}
 use Rattle.http_wire.specs.Messages.{IsRequestHeadOf, request_of, IsReplyHeadOf, reply_of, fields_of}
 
@@ -35,7 +37,17 @@ pub record IsFoundRequest (bytes : List ℕ) (headers : List HeaderSpan) (found 
   pub names : All (HasTextName bytes) headers
   pub method_text : is_utf8 (span_bytes bytes found.method) ≡ true
 
--- the same of a reply's head
+-- the parts of a whole head of a request stand there, its fields at the first of these places
+abbrev pub IsFoundAt : List ℕ → List HeaderSpan → RequestSpans → Type 0
+IsFoundAt bytes spans found = (found.headers ≤ length spans) × ((head : RequestHead) × IsFoundRequest bytes (take found.headers spans) found head)
+
+-- a head stands at the front of the bytes, without empty lines before it, and its parts stand there
+pub record IsFrontRequest (bytes : List ℕ) (spans : List HeaderSpan) (found : RequestSpans) : Type 0 where
+  pub end : IsHeadEnd bytes found.len
+  pub pair : begins_pair bytes ≡ false
+  pub parts : IsFoundAt (take found.len bytes) spans found
+
+-- the parts of a reply's head stand there, its fields at these places
 pub record IsFoundReply (bytes : List ℕ) (headers : List HeaderSpan) (found : ResponseSpans) (head : ResponseHead) : Type 0 where
   pub whole : IsReplyHeadOf bytes head
   pub version : found.version ≡ head.minor

@@ -8,8 +8,11 @@ use crate::fault::WireFault;
 use lake_base::{NoMemory, Source};
 use std::alloc::Global;
 
-// How much room is made first for a body of which nothing came.
+// How much room is made first for a body of which nothing came, and how much at most behind what came: so much stays in
+// the processor's cache until the source fills it.
 const FIRST_ROOM: u64 = 16_384;
+
+const MOST_ROOM: u64 = 131_072;
 
 /// Reads a body of this length, behind a head of so many bytes. Its room grows with what came.
 pub(crate) fn read_body<S: Source>(
@@ -81,7 +84,7 @@ fn read_rest<S: Source>(
     Ok(())
 }
 
-// Behind what came there is room for more: at first for a little, then for as much again.
+// Behind what came there is room for more: at first for a little, then for as much again, up to a limit.
 fn make_room(body: &mut Vec<u8>, came: usize, size: u64) -> Result<(), NoMemory>
     requires came { came ≤ vec_len body.old }
     requires part { vec_len body.old ≤ size }
@@ -92,7 +95,8 @@ fn make_room(body: &mut Vec<u8>, came: usize, size: u64) -> Result<(), NoMemory>
     if came < body.len() {
         return Ok(());
     }
-    let room = size.min((came as u64).saturating_mul(2).max(FIRST_ROOM));
+    let more = (came as u64).max(FIRST_ROOM).min(MOST_ROOM);
+    let room = size.min((came as u64).saturating_add(more));
     body.resize(room as usize, 0)?;
     Ok(())
 }

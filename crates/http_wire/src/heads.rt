@@ -3,12 +3,13 @@ ghost use Rattle.std.specs.Prelude.{◌≡◌, ◌≤◌, ◌+◌, ◌++◌, ◌
 ghost use Rattle.http_wire.specs.Filling.{HasReadCause};
 ghost use Rattle.http_wire.specs.MessageHeads.{begins_pair, ends_empty};
 ghost use Rattle.http_wire.specs.HeadSearch.{HasNoEnd, IsHeadEnd, IsSearch, IsGiven, Shows, PassesPart};
-ghost use Rattle.http_wire.specs.HeadSearch.{IsHeadAnswer};
+ghost use Rattle.http_wire.specs.HeadSearch.{IsHeadAnswer, IsSomeAnswer};
 ghost use Rattle.http_wire.specs.Messages.{end_fault};
 
 use crate::buffer::Buffer;
 use crate::fault::WireFault;
 use lake_base::Source;
+use memchr::memchr;
 
 // How many bytes a head has at most, with the pairs before it.
 const HEAD_LIMIT: usize = 16_384;
@@ -29,10 +30,13 @@ fn head_end(bytes: &[u8], from: usize) -> Option<usize>
     requires none { HasNoEnd bytes.now from }
     ensures { MatchOption result (HasNoEnd bytes.now (length bytes.now)) (IsHeadEnd bytes.now) }
 {
-    for at in from..bytes.len() {
-        if bytes[at] == b'\n' && is_empty_line(&bytes[..at]) {
+    let mut start = from;
+    'lines: while let Some(found) = memchr(b'\n', &bytes[start..]) {
+        let at = start + found;
+        if is_empty_line(&bytes[..at]) {
             return Some(at + 1);
         }
+        start = at + 1;
     }
     None
 }
@@ -95,6 +99,22 @@ fn search_on(buffer: &mut Buffer, search: &mut Search) -> Look
             search.passed = front.len();
             Look::Part
         }
+    }
+}
+
+/// Reads once where nothing is held.
+pub(crate) fn read_some<S: Source>(source: &mut S, buffer: &mut Buffer) -> Result<(), WireFault>
+    ensures read { IfSome (S.left source.old)
+        (λ left. IsSomeAnswer buffer.old left buffer.new (S.left source.new) result) }
+    ensures cause { HasReadCause (S.faults source.old) (S.faults source.new) result }
+{
+    if !buffer.held().is_empty() {
+        return Ok(());
+    }
+    match buffer.fill(source) {
+        Ok(0) => Err(WireFault::Ended),
+        Ok(_) => Ok(()),
+        Err(fault) => Err(fault),
     }
 }
 

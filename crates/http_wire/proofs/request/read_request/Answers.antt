@@ -22,15 +22,15 @@ with_body parsed h held body same is =
 
 pub returns-in-Err-clause-read : goal.returns-in-Err-clause-read
 returns-in-Err-clause-read g c =
-    told _ _ _ (λ left answer. head_fault IsRequestHeadOf fields request_of (Some 67108864) c.args.buffer.now left c.read_head.new.buffer c.read_head.new.buffer
-    (g.S.Source.left c.read_head.new.source) c.in-Err.fault answer) c.in-Err.ensures.read
+    told _ _ _ (λ left answer. head_fault IsRequestHeadOf fields request_of (Some 67108864) c.args.buffer.now left c.read_front.new.buffer
+    c.read_front.new.buffer (g.S.Source.left c.read_front.new.source) c.in-Err.fault answer) c.in-Err.ensures.read
 
 pub returns-in-Err-request_head-clause-read : goal.returns-in-Err-request_head-clause-read
 returns-in-Err-request_head-clause-read g c =
-    told _ _ _ (λ left answer. parse_fault_answer IsRequestHeadOf fields request_of (Some 67108864) c.read_head.new.buffer c.in-Ok.head c.args.buffer.now left
-    (g.S.Source.left c.read_head.new.source) answer c.read_head.new.buffer c.in-Err-request_head.fault
+    told _ _ _ (λ left answer. parse_fault_answer IsRequestHeadOf fields request_of (Some 67108864) c.read_front.new.buffer c.in-Ok.read.0
+    c.args.buffer.now left (g.S.Source.left c.read_front.new.source) answer c.read_front.new.buffer c.in-Err-request_head.fault
     (subst (λ (l : List ℕ). IsRequestParse l (Err c.in-Err-request_head.fault))
-    (c.split_at.ensures.front ∙ ap (take c.in-Ok.head) c.held.ensures.same) c.in-Err-request_head.ensures)) c.in-Ok.ensures.read
+    (c.split_at.ensures.front ∙ ap (take c.in-Ok.read.0) c.held.ensures.same) c.in-Err-request_head.ensures)) c.in-Ok.ensures.read
 
 pub returns-in-Err-request_head-clause-cause : goal.returns-in-Err-request_head-clause-cause
 returns-in-Err-request_head-clause-cause g c =
@@ -39,18 +39,18 @@ returns-in-Err-request_head-clause-cause g c =
 
 pub returns-in-Ok-read_body-clause-read : goal.returns-in-Ok-read_body-clause-read
 returns-in-Ok-read_body-clause-read g c =
-    told _ _ _ (λ left answer. body_answer IsRequestHeadOf fields request_of (Some 67108864) c.read_head.new.buffer c.in-Ok.head c.args.buffer.now left
-    (g.S.Source.left c.read_head.new.source) answer c.in-Ok-request_head.parsed.0 c.in-Ok-request_head.parsed.1
+    told _ _ _ (λ left answer. body_answer IsRequestHeadOf fields request_of (Some 67108864) c.read_front.new.buffer c.in-Ok.read.0 c.args.buffer.now left
+    (g.S.Source.left c.read_front.new.source) answer c.in-Ok-request_head.parsed.0 c.in-Ok-request_head.parsed.1
     (subst (λ (l : List ℕ). IsRequestParse l (Ok c.in-Ok-request_head.parsed))
-    (c.split_at.ensures.front ∙ ap (take c.in-Ok.head) c.held.ensures.same) c.in-Ok-request_head.ensures)
+    (c.split_at.ensures.front ∙ ap (take c.in-Ok.read.0) c.held.ensures.same) c.in-Ok-request_head.ensures)
     c.skip.new.self c.read_body.new.buffer c.skip.ensures (g.S.Source.left c.read_body.new.source) c.in-Ok-read_body.body _ c.in-Ok-read_body.ensures.read
     (λ h is. with_body c.in-Ok-request_head.parsed.0 h c.of.result c.in-Ok-read_body.body.items c.of.ensures is)) c.in-Ok.ensures.read
 
 pub returns-in-Err-read_body-clause-read : goal.returns-in-Err-read_body-clause-read
 returns-in-Err-read_body-clause-read g c =
-    told _ _ _ (λ left answer. body_fault_answer IsRequestHeadOf fields request_of (Some 67108864) c.read_head.new.buffer c.in-Ok.head c.args.buffer.now left
-    (g.S.Source.left c.read_head.new.source) answer c.in-Ok-request_head.parsed.0 c.in-Ok-request_head.parsed.1
+    told _ _ _ (λ left answer. body_fault_answer IsRequestHeadOf fields request_of (Some 67108864) c.read_front.new.buffer c.in-Ok.read.0 c.args.buffer.now left
+    (g.S.Source.left c.read_front.new.source) answer c.in-Ok-request_head.parsed.0 c.in-Ok-request_head.parsed.1
     (subst (λ (l : List ℕ). IsRequestParse l (Ok c.in-Ok-request_head.parsed))
-    (c.split_at.ensures.front ∙ ap (take c.in-Ok.head) c.held.ensures.same) c.in-Ok-request_head.ensures)
+    (c.split_at.ensures.front ∙ ap (take c.in-Ok.read.0) c.held.ensures.same) c.in-Ok-request_head.ensures)
     c.skip.new.self c.read_body.new.buffer c.skip.ensures (g.S.Source.left c.read_body.new.source) c.in-Err-read_body.fault
     c.in-Err-read_body.ensures.read) c.in-Ok.ensures.read

@@ -1,23 +1,18 @@
-use Rattle.std.proofs.Common.{◌≡◌, ◌∙◌, List, [], Some, ap, sym, subst}
-use Rattle.httparse.specs.declared.spans.HeaderSpan.{HeaderSpan}
+use Rattle.std.proofs.Common.{◌≡◌, ◌∙◌, [], Some, ap, sym}
 use Rattle.httparse.specs.Grammar.{RequestHead}
 use Rattle.http_wire.specs.declared.message.Request.{Request}
 use Rattle.http_wire.specs.MessageFields.{body_length}
 use Rattle.http_wire.specs.Messages.{IsRequestHeadOf, fields_of, request_of}
-use Rattle.http_wire.specs.Parsing.{IsFoundRequest}
-use Rattle.http_wire.proofs.ParsingLemmas.{parse_bad, parse_no_memory, parse_ok, parse_fault}
-use Rattle.http_wire.proofs.request.request_head.Goals as goal
-
-pub returns-in-None : goal.returns-in-None
-returns-in-None c = parse_bad IsRequestHeadOf (λ (head : RequestHead). fields_of head.fields) request_of (Some 67108864) c.args.head.now c.in-None.ensures
+use Rattle.http_wire.proofs.ParsingLemmas.{parse_no_memory, parse_ok, parse_fault}
+use Rattle.http_wire.proofs.request.request_parts.Goals as goal
 
 pub returns-in-Err : goal.returns-in-Err
 returns-in-Err c = parse_no_memory IsRequestHeadOf (λ (head : RequestHead). fields_of head.fields) request_of (Some 67108864) c.args.head.now
 
 pub returns-in-Ok-body_length : goal.returns-in-Ok-body_length
 returns-in-Ok-body_length c =
-    let h : RequestHead = c.in-Some.ensures.1.0 in
-    let found = subst (λ (l : List HeaderSpan). IsFoundRequest c.args.head.now l c.in-Some.found h) (sym c.split_at.ensures.front) c.in-Some.ensures.1.1 in
+    let h : RequestHead = c.requires.0 in
+    let found = c.requires.1 in
     let is : c.in-Ok.request ≡ request_of h [] = c.in-Ok.ensures h found in
     parse_ok IsRequestHeadOf (λ (head : RequestHead). fields_of head.fields) request_of
     (Some 67108864) c.args.head.now h c.in-Ok.request c.in-Ok-body_length.size
@@ -26,8 +21,8 @@ returns-in-Ok-body_length c =
 
 pub returns-in-Err-body_length : goal.returns-in-Err-body_length
 returns-in-Err-body_length c =
-    let h : RequestHead = c.in-Some.ensures.1.0 in
-    let found = subst (λ (l : List HeaderSpan). IsFoundRequest c.args.head.now l c.in-Some.found h) (sym c.split_at.ensures.front) c.in-Some.ensures.1.1 in
+    let h : RequestHead = c.requires.0 in
+    let found = c.requires.1 in
     let is : c.in-Ok.request ≡ request_of h [] = c.in-Ok.ensures h found in
     parse_fault IsRequestHeadOf (λ (head : RequestHead). fields_of head.fields) request_of (Some 67108864) c.args.head.now h c.in-Err-body_length.fault
     found.whole
