@@ -6,7 +6,7 @@ use Rattle.lake_base.specs.Clocks.{FixedClockValue, fixed_readings}
 use Rattle.lake_model.specs.History.{replay}
 use Rattle.lake_calls.specs.HeldBodies.{FitsState}
 use Rattle.flow_steps.specs.FlowSeats.{state_at}
-use Rattle.lake_session.specs.SessionViews.{StoreView}
+use Rattle.lakectl_session.specs.Exchanges.{StoreView}
 use Rattle.lakectl_session.specs.ServedCommands.{CommandView, LineEnds}
 use Rattle.batch_lines.proofs.SeenOutcomes.{outcome_seen}
 use Rattle.batch_lines.specs.Outcome.{Outcome}

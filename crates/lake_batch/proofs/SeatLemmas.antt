@@ -5,14 +5,12 @@ use Rattle.lake_base.specs.declared.outside.Trouble.{Trouble}
 use Rattle.http_wire.specs.declared.message.Request.{Request}
 use Rattle.shared_lake.specs.SeatSteps.{LakeSeat}
 use Rattle.body_laws.specs.BodiesKept.{KeepsFitting}
-use Rattle.lake_session.specs.SessionItems.{SessionItem, moments}
-use Rattle.lake_session.specs.WholeSessions.{GoesThrough}
-use Rattle.lake_session.proofs.SeatLemmas.{fits_at_first, fits_further, goes_twice, stays}
 use Rattle.lakectl_shown.specs.declared.showing.Shown.{Shown}
 use Rattle.lakectl_verbs.specs.declared.line.LineWords.{LineWords}
 use Rattle.lakectl_verbs.specs.declared.line.LineWords.TheVariants as line
 use Rattle.lakectl_verbs.specs.LineForms.{line_of}
-use Rattle.lakectl_session.specs.Exchanges.{Exchanges, LakeView, ServesItems}
+use Rattle.lakectl_session.specs.Exchanges.{Exchanges, GoesThrough, LakeView, ServesItems, SessionItem, moments}
+use Rattle.lakectl_session.proofs.CommandLemmas.{fits_at_first, fits_further, goes_twice, stays}
 use Rattle.lakectl_session.specs.Exchanges.{Answered, Unread, Starved, AnsweredUnwritten, UnservedUnwritten}
 use Rattle.lakectl_session.specs.ServedCommands.{CommandView, CommandShows, CommandStops, LineEnds, LineShows, LineStops}
 use Rattle.lakectl_session.specs.ServedCommands.{Usage, NoFile, Sent, Unsent, Behind}

@@ -6,8 +6,8 @@ use Rattle.lake_model.specs.History.{replay}
 use Rattle.lake_model.specs.Soundness.{fresh}
 use Rattle.fresh_lakes.specs.FreshLakes.{IsLoneSeat, usual_cut}
 use Rattle.lake_calls.specs.HeldBodies.{FitsState}
-use Rattle.lake_session.specs.WholeSessions.{GoesThrough}
-use Rattle.lakectl_session.specs.ServedCommands.{CommandView, LineEnds}
+pub use Rattle.lakectl_session.specs.Exchanges.{GoesThrough}
+pub use Rattle.lakectl_session.specs.ServedCommands.{CommandView, LineEnds}
 use Rattle.batch_lines.specs.Outcome.{Outcome}
 use Rattle.batch_lines.specs.declared.status.ExitStatus.{ExitStatus}
 use Rattle.program_words.specs.declared.batch.Timing.{Timing}

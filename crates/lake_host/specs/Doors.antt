@@ -3,6 +3,7 @@ use Rattle.std.specs.Prelude.{◌≤◌, ◌+◌, ℕ, List, length, map, Option
 use Rattle.block_store.specs.Sure.{SureBlocksValue}
 use Rattle.http_wire.specs.Streams.{Streams}
 use Rattle.lake_server.specs.Connections.{Returned}
+pub use Rattle.lake_server.specs.MemoryListeners.{MemoryListenerValue}
 use Rattle.lake_server.specs.ServedConnections.{PartViews, WorkerView}
 
 -- a listener, as it shows at a moment: the connections that it handed out and was given back, where it tells them, and how often it

@@ -5,6 +5,7 @@ use Rattle.core_puts.specs.KeeperViews.{KeeperView}
 use Rattle.lake_core.specs.Lakes.{LakeValue}
 use Rattle.shared_lake.specs.SeatSteps.{Finds, LakeSeat}
 use Rattle.lake_server.specs.ServedConnections.{WorkerView}
+pub use Rattle.lake_server.specs.ServedConnections.{IsReady}
 use Rattle.lake_server.specs.Workers.{HaveServed}
 use Rattle.lake_host.specs.declared.server.ServerEnd.{ServerEnd}
 use Rattle.lake_host.specs.declared.server.ServerEnd.TheVariants.{Done, Failed, NoMemory}

@@ -15,5 +15,7 @@ mod server;
 mod shares;
 
 pub use host::Host;
-pub use lake_server::{Listen, SessionReport};
+pub use lake_server::{
+    Listen, MemoryListener, SessionReport, Worker, serve_connections, serve_workers,
+};
 pub use server::{ServerEnd, serve_listeners};

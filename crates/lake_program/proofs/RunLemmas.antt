@@ -4,7 +4,7 @@ use Rattle.std.proofs.Common.{subst, arith}
 use Rattle.std.proofs.lemmas.List.{append-nil}
 use Rattle.lake_base.specs.Outside.{Rose, Quiet}
 use Rattle.http_wire.specs.SinkFronts.{Wrote, WroteFront}
-use Rattle.lakectl_session.specs.ServedCommands.{LineEnds}
+use Rattle.lake_batch.specs.Batches.{LineEnds}
 use Rattle.batch_lines.specs.Lines.{batch_lines}
 use Rattle.batch_lines.specs.Outcome.{IsWhole}
 use Rattle.batch_lines.specs.ServedLines.{AreServed}

@@ -2,8 +2,6 @@
 use Rattle.std.specs.Prelude.{◌≡◌, ◌≢◌, ◌≤◌, ◌⊎◌, ℕ, false, List, [], ◌∷◌, ◌++◌, Some, IfSome, codes}
 use Rattle.lake_base.specs.Outside.{Rose, Quiet}
 use Rattle.http_wire.specs.SinkFronts.{Wrote, WroteFront}
-use Rattle.lake_session.specs.WholeSessions.{GoesThrough}
-use Rattle.lakectl_session.specs.ServedCommands.{CommandView, LineEnds}
 use Rattle.batch_lines.specs.Lines.{batch_lines, end_text}
 use Rattle.batch_lines.specs.Outcome.{IsReadOut, batch_status}
 use Rattle.batch_lines.specs.ServedLines.{AreServed, LineEffect, any_failed, text_of}
@@ -11,7 +9,7 @@ use Rattle.batch_lines.specs.Status.{status_number}
 use Rattle.batch_lines.specs.declared.status.ExitStatus.{ExitStatus}
 use Rattle.batch_lines.specs.declared.status.ExitStatus.TheVariants.{Usage, SourceFailed, SinkFailed, HostFailed, OutOfMemory}
 use Rattle.lake_batch.specs.BatchViews.{BatchView}
-use Rattle.lake_batch.specs.Batches.{HoldsBodies, IsBegun, IsServedBatch, IsTimed}
+use Rattle.lake_batch.specs.Batches.{CommandView, GoesThrough, HoldsBodies, IsBegun, IsServedBatch, IsTimed, LineEnds}
 use Rattle.program_words.specs.declared.batch.Timing.{Timing}
 use Rattle.program_words.specs.ProgramWords.{Asked, Batch, Control, Nothing, Send, Serve, Serving, asked_of}
 use Rattle.lake_program.specs.Controls.{ControlView, Controls}

@@ -8,10 +8,11 @@ use Rattle.lakectl_requests.specs.SentReadings.{read_back}
 use Rattle.lake_core.specs.declared.standing.LakeOrigin.{LakeOrigin}
 use Rattle.shared_lake.specs.SeatSteps.{LakeSeat}
 use Rattle.body_laws.specs.BodiesKept.{KeepsFitting}
-use Rattle.lake_session.specs.SessionItems.{SessionItem, item_text, moments}
-use Rattle.lake_session.specs.SessionTexts.{last_reply, reply_to_fault}
-use Rattle.lake_session.specs.SessionViews.{StoreView}
-use Rattle.lake_session.specs.WholeSessions.{AllTellHeld, AreCounted, GoesThrough, ServesAll}
+pub use Rattle.lake_session.specs.SessionItems.{SessionItem, call_item, item_text, moments}
+pub use Rattle.lake_session.specs.SessionTexts.{closes_behind, last_reply, reply_to_fault, told_text}
+pub use Rattle.lake_session.specs.SessionViews.{StoreView}
+use Rattle.lake_session.specs.WholeSessions.{AllTellHeld, ServesAll}
+pub use Rattle.lake_session.specs.WholeSessions.{AreCounted, GoesThrough, TellsHeld}
 
 -- what is asked to serve a request: the clock's readings, the store of objects, and a seat
 pub record LakeView : Type 0 where

@@ -3,8 +3,7 @@ use native.Mathlib.Omega.{arith}
 use Rattle.std.proofs.Common.{◌≡◌, ℕ, zero, suc, ◌+◌, List, [], ◌∷◌, ◌++◌, Vec, Global, map, drop, flat_map, length, replicate, refl, sym, ap, ◌∙◌}
 use Rattle.std.proofs.lemmas.List.Concat.{flat_map-append}
 use Rattle.std.proofs.lemmas.List.{append-nil, drop-map, length-map, map-append}
-use Rattle.lake_host.specs.Doors.{DoorView, Opened, opened_at}
-use Rattle.lake_server.specs.MemoryListeners.{MemoryListenerValue}
+use Rattle.lake_host.specs.Doors.{DoorView, MemoryListenerValue, Opened, opened_at}
 use Rattle.memory_machine.specs.HostsInMemory.{connections_in, dealt, first_or_none, fresh_door, fresh_listener, listener_door, opened_afresh}
 
 drop_none : {X : Type 0} (n : ℕ) → drop {A = X} n [] ≡ []

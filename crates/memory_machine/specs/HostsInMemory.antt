@@ -1,8 +1,7 @@
 -- A host in memory.
 use Rattle.std.specs.Prelude.{ℕ, zero, suc, List, [], ◌∷◌, map, drop, replicate, Some, Vec}
 use Rattle.std.specs.Global.{Global}
-use Rattle.lake_server.specs.MemoryListeners.{MemoryListenerValue}
-use Rattle.lake_host.specs.Doors.{DoorView, Opened, opened_at}
+use Rattle.lake_host.specs.Doors.{DoorView, MemoryListenerValue, Opened, opened_at}
 
 -- the listeners that it has given, each with its address, and those that it was given back, in order, as they were then; the
 -- bytes of the connections of those that

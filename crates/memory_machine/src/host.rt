@@ -10,8 +10,7 @@ ghost use Rattle.memory_machine.specs.HostsInMemory.{connections_in, dealt, firs
 ghost use Rattle.memory_machine.specs.HostsInMemory.{fresh_listener, listener_door};
 
 use lake_base::{FixedClock, NoMemory, Text, Trouble, TryCopy};
-use lake_host::Host;
-use lake_server::MemoryListener;
+use lake_host::{Host, MemoryListener};
 use std::alloc::Global;
 use std::collections::VecDeque;
 use std::marker::Model;

@@ -3,7 +3,7 @@ ghost use Rattle.std.specs.Prelude.{◌≡◌};
 
 use block_store::{Blocks, SureBlocks};
 use lake_base::{Failed, MemorySink, MemorySource, Trouble};
-use lake_server::{Listen, MemoryListener, SessionReport};
+use lake_host::{Listen, MemoryListener, SessionReport};
 use std::alloc::Global;
 use std::sync::atomic::{AtomicBool, Ordering};
 use std::thread::yield_now;

@@ -1,13 +1,13 @@
 //! Two workers over one lake. The upload to the first waits until the second has given its connection back, so that it
 //! is refused where they serve one after the other.
 ghost use Rattle.std.specs.Prelude.{◌≡◌, IfOk};
-ghost use Rattle.lake_server.specs.ServedConnections.{IsReady};
+ghost use Rattle.lake_host.specs.Servers.{IsReady};
 
 use crate::gate::{GateListener, GatedBlocks};
 use fresh_lakes::fresh_lake;
 use keeper::SureKeeper;
 use lake_base::FixedClock;
-use lake_server::{MemoryListener, Worker, serve_connections, serve_workers};
+use lake_host::{MemoryListener, Worker, serve_connections, serve_workers};
 use shared_lake::{LakeSeat, Shared};
 use std::alloc::Global;
 use std::sync::Wait;
