@@ -1,0 +1,10 @@
+pub mod FilePutLemmas
+pub mod TreeLemmas
+pub mod KeptFileLemmas
+pub mod HeadLemmas
+pub mod FirstCommitLemmas
+pub mod FoundedLemmas
+pub mod FreshLemmas
+pub mod PlacesKeptLemmas
+pub mod AdmissibleLemmas
+pub mod BytesLemmas

@@ -1,0 +1,12 @@
+pub mod StandLemmas
+pub mod PlaceLemmas
+pub mod ThingLemmas
+pub mod BranchPutLemmas
+pub mod RepositoryPutLemmas
+pub mod StagedLemmas
+pub mod RemovalLemmas
+pub mod CountsLemmas
+pub mod ApartLemmas
+pub mod ChangeLemmas
+pub mod GoneLemmas
+pub mod TokenApartLemmas
