@@ -1,0 +1,5 @@
+pub mod LikeLemmas
+pub mod PlainLemmas
+pub mod TroubleLemmas
+pub mod ExpiryFreeLemmas
+pub mod ClashLemmas

@@ -1,0 +1,5 @@
+pub mod Clashes
+pub mod Expiries
+pub mod LikeMoments
+pub mod LikeReplies
+pub mod Troubles
