@@ -11,6 +11,7 @@ use Rattle.lakectl_verbs.specs.declared.line.LineWords.TheVariants as line
 use Rattle.lakectl_verbs.specs.LineForms.{line_of}
 use Rattle.lakectl_session.specs.Exchanges.{Exchanges, GoesThrough, LakeView, ServesItems, SessionItem, moments}
 use Rattle.lakectl_session.proofs.CommandLemmas.{fits_at_first, fits_further, goes_twice, stays}
+pub use Rattle.lakectl_session.proofs.CommandLemmas.{starved_text}
 use Rattle.lakectl_session.specs.Exchanges.{Answered, Unread, Starved, AnsweredUnwritten, UnservedUnwritten}
 use Rattle.lakectl_session.specs.ServedCommands.{CommandView, CommandShows, CommandStops, LineEnds, LineShows, LineStops}
 use Rattle.lakectl_session.specs.ServedCommands.{Usage, NoFile, Sent, Unsent, Behind}

@@ -6,13 +6,12 @@ use Rattle.lake_model.specs.History.{replay}
 use Rattle.lake_model.specs.Soundness.{fresh}
 use Rattle.fresh_lakes.specs.FreshLakes.{IsLoneSeat, usual_cut}
 use Rattle.lake_calls.specs.HeldBodies.{FitsState}
-pub use Rattle.lakectl_session.specs.Exchanges.{GoesThrough}
-pub use Rattle.lakectl_session.specs.ServedCommands.{CommandView, LineEnds}
 use Rattle.batch_lines.specs.Outcome.{Outcome}
 use Rattle.batch_lines.specs.declared.status.ExitStatus.{ExitStatus}
 use Rattle.program_words.specs.declared.batch.Timing.{Timing}
 use Rattle.program_words.specs.declared.batch.Timing.TheVariants.{Clock, At}
 use Rattle.lake_batch.specs.BatchViews.{BatchView, trace_of}
+use Rattle.lake_batch.specs.CommandWords.{CommandView, GoesThrough, LineEnds}
 
 -- what commands work on before the first line: a fresh lake, a store of objects that holds none, and the files
 pub record IsBegun (batch : BatchView) (begin : CommandView) : Type 0 where
