@@ -1,0 +1,9 @@
+pub mod LoneSeats
+pub mod ExchangePairs
+pub mod CommandPairs
+pub mod StarvedReplies
+pub mod RunPairs
+pub mod CalmItems
+pub mod CalmRuns
+pub mod OneRunLemmas
+pub mod MomentPairs

@@ -1,0 +1,2 @@
+pub mod ToldReplies
+pub mod LikeRuns
