@@ -1,11 +1,12 @@
 -- The words that the program was started with.
-use Rattle.std.specs.Prelude.{ℕ, ◌+◌, ◌-◌, ◌*◌, ◌&&◌, nat_lt, nat_le, Bool, if◌then◌else◌, codes}
+use Rattle.std.specs.Prelude.{ℕ, ◌+◌, ◌-◌, ◌*◌, ◌^◌, ◌&&◌, nat_lt, nat_le, Bool, if◌then◌else◌, codes}
 use Rattle.std.specs.Prelude.{List, [], ◌∷◌, length, Option, Some, None, option_map}
 use Rattle.std.specs.Char.{is_ascii_digit}
 use Rattle.std.specs.List.{list_all}
 use Rattle.std.specs.Str.{bytes_eq}
 use Rattle.program_words.specs.declared.batch.Timing.{Timing}
 use Rattle.program_words.specs.declared.batch.Timing.TheVariants.{Clock, At}
+use Rattle.program_words.specs.declared.generator.Generator.{Generator}
 use Rattle.program_words.specs.declared.service.Service.{Service}
 
 -- the number whose decimal digits are those of n and then these
@@ -90,6 +91,34 @@ abbrev pub control_of : List (List ℕ) → Option Control
 control_of (ctl ∷ words) = if bytes_eq ctl (codes "ctl") then timed_of words else None
 control_of words = None
 
+-- ---- the generator
+
+-- the number that these digits spell, where it is below 2^64
+abbrev pub value_in : List ℕ → Option ℕ
+value_in digits = if nat_lt (number_after 0 digits) (2 ^ 64) then Some (number_after 0 digits) else None
+
+-- a number of 1 to 20 decimal digits below 2^64
+abbrev pub start_in : List ℕ → Option ℕ
+start_in text = if nat_lt 0 (length text) && nat_le (length text) 20 && list_all is_ascii_digit text then value_in text else None
+
+-- a number of objects, which is 1 to 100,000
+abbrev pub objects_in : List ℕ → Option ℕ
+objects_in text =
+    if is_number text && (nat_le 1 (number_after 0 text) && nat_le (number_after 0 text) 100000) then Some (number_after 0 text) else None
+
+-- so many objects from this number on, where both are spelled
+abbrev pub made_of : (number objects : Option ℕ) → Option Generator
+made_of (Some number) (Some objects) = Some (record { number = number; objects = objects })
+made_of (Some number) None = None
+made_of None objects = None
+
+-- Where the words are those of the generator, what it is asked for.
+abbrev pub generator_of : List (List ℕ) → Option Generator
+generator_of (gen ∷ name ∷ number ∷ other ∷ objects ∷ []) =
+    if bytes_eq gen (codes "gen") && bytes_eq name (codes "--number") && bytes_eq other (codes "--objects")
+    then made_of (start_in number) (objects_in objects) else None
+generator_of words = None
+
 -- ---- all words
 
 -- what the program can be asked to do
@@ -97,15 +126,17 @@ pub data Asked : Type 0 where
   Batch : Timing → Asked
   Serve : Serving → Asked
   Send : Control → Asked
+  Generate : Generator → Asked
   -- the words are none of its own
   Nothing : Asked
 
-abbrev pub first_asked : Option Timing → Option Serving → Option Control → Asked
-first_asked (Some timing) serving control = Batch timing
-first_asked None (Some serving) control = Serve serving
-first_asked None None (Some control) = Send control
-first_asked None None None = Nothing
+abbrev pub first_asked : Option Timing → Option Serving → Option Control → Option Generator → Asked
+first_asked (Some timing) serving control generator = Batch timing
+first_asked None (Some serving) control generator = Serve serving
+first_asked None None (Some control) generator = Send control
+first_asked None None None (Some generator) = Generate generator
+first_asked None None None None = Nothing
 
 -- WHAT THE WORDS ASK FOR
 abbrev pub asked_of : List (List ℕ) → Asked
-asked_of words = first_asked (timing_of words) (service_of words) (control_of words)
+asked_of words = first_asked (timing_of words) (service_of words) (control_of words) (generator_of words)

@@ -1,15 +1,12 @@
-use Rattle.std.proofs.Common.{◌≡◌, ℕ, List, Result, Ok, length, ◌≤◌, ◌<◌, rules, arith, true}
+use Rattle.std.proofs.Common.{◌≡◌, ℕ, List, Result, Ok, length, ◌≤◌, ◌<◌, arith, true}
 use Rattle.std.proofs.lemmas.Bool.Decides.{nat_tests}
-use Rattle.std.proofs.lemmas.Str.Parse.{IsNumeralModel, numerals_by_fold, parse_gives, digits_value_short}
+use Rattle.std.proofs.lemmas.Str.Parse.{parse_gives, digits_value_short}
 use Rattle.std.specs.Char.{is_ascii_digit}
 use Rattle.std.specs.List.{list_all}
 use Rattle.std.specs.Str.Parse.{ParsesUnsigned}
 use Rattle.program_words.specs.ProgramWords.{is_number, number_after}
+use Rattle.program_words.proofs.NumberLemmas.{own}
 use Rattle.program_words.proofs.numbers.number_of.Goals as goal
-
--- the digits and their number, as a number's text is read
-own : IsNumeralModel (λ (ds : List ℕ). list_all is_ascii_digit ds ≡ true) (number_after 0)
-own = numerals_by_fold _ (search rules) number_after (search rules)
 
 digits_all : (text : List ℕ) → is_number text ≡ true → list_all is_ascii_digit text ≡ true
 digits_all text is = grind (arith, nat_tests)

@@ -1,0 +1,136 @@
+-- What came of the lines of the generator, from what became of them where they were served.
+use Rattle.std.proofs.Common.{◌≡◌, ◌++◌, ◌∷◌, [], ⊎_elim, ℕ, List, Some, IfSome, All, Result, Ok, Err, refl, sym, ap, ◌∙◌, subst}
+use Rattle.std.specs.Prelude.{MatchResult}
+use Rattle.lake_base.specs.Clocks.{FixedClockValue, fixed_readings}
+use Rattle.lake_base.specs.declared.digest.Digest.{Digest}
+use Rattle.lake_base.specs.declared.outside.Trouble.TheVariants.{NoMemory}
+use Rattle.lake_model.specs.History.{IsLegal, replay}
+use Rattle.lake_model.specs.Soundness.{fresh}
+use Rattle.shared_lake.specs.SeatSteps.{LakeSeat}
+use Rattle.fresh_lakes.specs.FreshLakes.{IsLoneSeat, usual_cut}
+use Rattle.lake_batch.specs.CommandWords.{GoesThrough}
+use Rattle.lakectl_verbs.specs.LineForms.{line_of}
+use Rattle.lakectl_verbs.specs.declared.line.LineWords.{LineWords}
+use Rattle.lakectl_verbs.specs.declared.line.LineWords.TheVariants as line
+use Rattle.lake_batch.specs.CommandWords.{CommandView, LineEnds, LineStops, Unsent}
+use Rattle.batch_lines.specs.ServedLines.{AreServed, LineEffect, LineReply}
+use Rattle.batch_lines.specs.declared.status.ExitStatus.{ExitStatus}
+use Rattle.batch_lines.specs.declared.status.ExitStatus.TheVariants.{OutOfMemory}
+use Rattle.batch_lines.proofs.SeenOutcomes.{lines_seen}
+use Rattle.lake_batch.proofs.MomentLemmas.{still_moments}
+use Rattle.lake_batch.proofs.SeatLemmas.{Grew, pass_lines}
+use Rattle.program_words.specs.declared.generator.Generator.{Generator}
+use Rattle.lake_generator.specs.Generated.{AreRun, AtLine, Behind, HasRun, IsBegun, IsTold, IsUntold}
+use Rattle.lake_generator.specs.GeneratedLines.{generated_lines}
+use Rattle.lake_generator.specs.MainHead.{IsMainMap, StandsAtMain}
+use Rattle.lake_generator.specs.Report.{told_text}
+use Rattle.lake_generator.specs.RunLines.{HasRunTo, RunsTo}
+use Rattle.lake_generator.specs.Serving.{Goes, HasServed, HasStopped}
+use Rattle.lake_generator.specs.declared.serving.Counts.{Counts}
+use Rattle.lake_generator.proofs.DefaultLemmas.{main_there}
+
+-- ---- a seat that went on
+
+-- a lone seat of the fresh lake that went on in sessions stands at main
+pub stands_on : (old now : LakeSeat) → IsLoneSeat old → GoesThrough old now → StandsAtMain now
+stands_on old now lone goes =
+    let origin = lone.fresh.origin in
+    let from = lone.fresh.from in
+    record {
+      alone = ap (λ (s : LakeSeat). s.alone) goes.seat ∙ lone.alone;
+      origin = origin;
+      from = ap (λ (s : LakeSeat). s.origin) goes.seat ∙ from;
+      opened = lone.fresh.fresh;
+      main = main_there usual_cut now.seen (⊎_elim
+          (λ none. subst (IsLegal (fresh usual_cut)) (sym (goes.seen ∙ (λ i. lone.fresh.seen i ++ none.0 i))) tt)
+          (λ some. subst (λ s. IsLegal s now.seen) lone.fresh.fresh some.1)
+          (goes.legal origin from));
+    }
+
+-- ---- lines
+
+-- a line may find no memory before it does anything
+pub line_starves : (text : List ℕ) (view : CommandView) → LineEnds text view view (Err NoMemory)
+line_starves text view = by (line_of text)
+  where
+    by : (words : LineWords) → LineStops words view view NoMemory
+    by line.Skipped = (refl, refl)
+    by line.Bad = (refl, refl)
+    by (line.Words words) = Unsent refl (λ is. absurd cc)
+
+-- What may be answered to a line, and what is seen of what serves it.
+module _ {L : Type 0} (serves : List ℕ → L → L → LineReply → Type 0) (view : L → CommandView)
+    (agree : (line : List ℕ) (old now : L) (reply : LineReply) → serves line old now reply → LineEnds line (view old) (view now) reply)
+    (asked : Generator) (first last : L) (begun : IsBegun (view first)) (clock : FixedClockValue)
+    (reads : (view last).lake.readings ≡ fixed_readings clock) where
+  run_of : (lines : List (List ℕ)) (effects : List LineEffect) → AreServed serves lines first effects last
+      → AreRun lines effects
+  run_of lines effects served =
+      let each = lines_seen serves LineEnds view agree lines first last effects served in
+      let passes = pass_lines lines (view first) (view last) effects each in
+      record {
+        begin = view first;
+        end = view last;
+        fresh = begun;
+        each = each;
+        still = subst (λ readings. IfSome readings (λ told. All (λ reading. reading ≡ 0) told)) (sym reads)
+            (still_moments 0 clock (subst (λ now. Grew (Some (0 ∷ [])) now) reads
+            (subst (λ old. Grew old (view last).lake.readings) begun.moment passes.grew)));
+        goes = passes.goes;
+      }
+
+  stopped : (status : ExitStatus) → HasStopped serves first (generated_lines asked.number asked.objects) status last → IsUntold asked status
+  stopped status s = AtLine (record {
+    served = s.served;
+    unserved = s.unserved;
+    whole = s.whole;
+    effects = s.effects;
+    last = s.last;
+    run = run_of s.served (s.effects ++ s.last ∷ []) s.each;
+    fine = s.fine;
+    failed = s.failed;
+  }) s.tells
+
+  ran : (counts : Counts) → HasServed serves first (generated_lines asked.number asked.objects) counts last
+      → HasRunTo asked counts (view last).lake.seat
+  unfolding run_of
+  ran counts s = record {
+    lines = record {
+      effects = s.effects;
+      run = run_of (generated_lines asked.number asked.objects) s.effects s.each;
+      fine = s.fine;
+    };
+    at = refl;
+    uploads = s.uploads;
+    heads = s.heads;
+  }
+
+  -- how far the lines came
+  pub runs_to : (result : Result Counts ExitStatus) → Goes serves first (generated_lines asked.number asked.objects) result last
+      → RunsTo asked (view last).lake.seat result
+  runs_to (Ok counts) s = ran counts s
+  runs_to (Err status) s = stopped status s
+
+-- the seat stands at main then
+pub run_stands : (asked : Generator) (counts : Counts) (seat : LakeSeat) → HasRunTo asked counts seat → StandsAtMain seat
+run_stands asked counts seat r =
+    subst StandsAtMain r.at (stands_on r.lines.run.begin.lake.seat r.lines.run.end.lake.seat r.lines.run.fresh.seat r.lines.run.goes)
+
+-- what is told of them
+pub told_so : (asked : Generator) (counts : Counts) (seat : LakeSeat) (paths : ℕ) (id : Digest) (text : List ℕ) → HasRunTo asked counts seat
+    → IsMainMap (replay (fresh usual_cut) seat.seen) paths id → text ≡ told_text counts.uploads counts.heads paths id → IsTold asked text
+told_so asked counts seat paths id text r head is = record {
+  lines = r.lines;
+  paths = paths;
+  id = id;
+  head = subst (λ (s : LakeSeat). IsMainMap (replay (fresh usual_cut) s.seen) paths id) (sym r.at) head;
+  is = is ∙ (λ i. told_text (r.uploads i) (r.heads i) paths id);
+}
+
+-- or no memory was left for the text
+pub told_by : {V : Type 0} (asked : Generator) (items : V → List ℕ) (result : Result V ExitStatus) (expected : List ℕ) → HasRun asked
+    → ((text : List ℕ) → text ≡ expected → IsTold asked text)
+    → MatchResult result (λ text. items text ≡ expected) (λ status. status ≡ OutOfMemory)
+    → MatchResult result (λ text. IsTold asked (items text)) (λ status. IsUntold asked status)
+told_by asked items (Ok text) expected run told is = told (items text) is
+told_by asked items (Err status) expected run told is = Behind run is

@@ -1,0 +1,5 @@
+pub mod DefaultLemmas
+pub mod GenerateLemmas
+pub mod HeadLemmas
+pub mod LineLemmas
+pub mod ServingLemmas

@@ -1,0 +1,28 @@
+use Rattle.std.proofs.Common.{Some, ap, refl}
+use Rattle.std.specs.FinMap.{empty}
+use Rattle.lake_base.specs.Clocks.{fixed_readings}
+use Rattle.lake_generator.proofs.GenerateLemmas.{line_starves, runs_to}
+use Rattle.lake_generator.proofs.run.run_lines.Goals as goal
+
+pub serve_lines-requires-clause-starves : goal.serve_lines-requires-clause-starves
+serve_lines-requires-clause-starves g c = λ text server. line_starves text _
+
+pub returns-clause-runs : goal.returns-clause-runs
+returns-clause-runs g c =
+    runs_to _
+    (λ lines. record {
+      lake = record {
+        readings = fixed_readings lines.clock;
+        store = record { held = Some lines.blocks.now.held; faults = 0; misses = lines.blocks.now.misses };
+        seat = lines.seat.now;
+      };
+      files = Some empty;
+    })
+    (λ line old now reply ends. ends) c.args.asked _ c.serve_lines.new.lines
+    (record {
+      seat = c.requires.fresh;
+      store = λ i. record { held = Some (c.requires.store i).held; faults = 0; misses = (c.requires.store i).misses };
+      files = refl;
+      moment = ap fixed_readings c.requires.clock;
+    })
+    c.serve_lines.new.lines.clock refl c.serve_lines.result c.serve_lines.ensures.goes
