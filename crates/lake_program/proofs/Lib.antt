@@ -2,3 +2,4 @@ pub mod ControlLemmas
 pub mod RunLemmas
 pub mod ServerLemmas
 pub mod StatusLemmas
+pub mod OneBatchLemmas

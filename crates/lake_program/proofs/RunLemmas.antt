@@ -4,7 +4,7 @@ use Rattle.std.proofs.Common.{subst, arith}
 use Rattle.std.proofs.lemmas.List.{append-nil}
 use Rattle.lake_base.specs.Outside.{Rose, Quiet}
 use Rattle.http_wire.specs.SinkFronts.{Wrote, WroteFront}
-use Rattle.lake_batch.specs.Batches.{LineEnds}
+use Rattle.lake_batch.specs.CommandWords.{LineEnds}
 use Rattle.batch_lines.specs.Lines.{batch_lines}
 use Rattle.batch_lines.specs.Outcome.{IsWhole}
 use Rattle.batch_lines.specs.ServedLines.{AreServed}
@@ -12,13 +12,17 @@ use Rattle.batch_lines.specs.Status.{status_number}
 use Rattle.batch_lines.specs.declared.status.ExitStatus.{ExitStatus}
 use Rattle.batch_lines.specs.declared.status.ExitStatus.TheVariants as exit
 use Rattle.lake_host.specs.Doors.{HostView}
+use Rattle.batch_laws.proofs.OneRunLemmas.{only_run}
 use Rattle.lake_batch.proofs.BatchLemmas.{told_then}
 use Rattle.lake_batch.specs.BatchViews.{BatchView}
 use Rattle.lake_batch.specs.Batches.{IsServedBatch}
 use Rattle.program_words.specs.declared.batch.Timing.{Timing}
-use Rattle.program_words.specs.ProgramWords.{Asked, Batch, Control, Nothing, Send, Serve, Serving, asked_of, control_of, first_asked, service_of, timing_of}
+use Rattle.program_words.specs.declared.generator.Generator.{Generator}
+use Rattle.program_words.specs.ProgramWords.{Asked, Batch, Control, Generate, Nothing, Send, Serve, Serving}
+use Rattle.program_words.specs.ProgramWords.{asked_of, control_of, first_asked, generator_of, service_of, timing_of}
+use Rattle.lake_generator.specs.Generated.{Generates}
 use Rattle.lake_program.specs.Controls.{Controls}
-use Rattle.lake_program.specs.Run.{CountsStay, IsBatchRun, IsUnbegun, Runs, RunsAs, control_view}
+use Rattle.lake_program.specs.Run.{CountsStay, IsBatchRun, IsUnbegun, Runs, RunsAs, control_view, sink_view}
 use Rattle.lake_program.specs.Run.{usage_text}
 use Rattle.lake_program.specs.Servers.{IsServed, IsUnserved}
 use Rattle.lake_program.specs.Views.{RunView}
@@ -39,12 +43,14 @@ module _ (timing : Timing) (input : List ℕ) (before after : BatchView) (status
   whole_run whole =
       let all : o.outcome.extent.served ≡ batch_lines 1073741824 input =
       sym (append-nil o.outcome.extent.served) ∙ ap (λ (l : List (List ℕ)). o.outcome.extent.served ++ l) (sym whole.all) ∙ o.outcome.lines in
+      let served : AreServed LineEnds (batch_lines 1073741824 input) o.begin o.outcome.extent.effects o.end =
+      subst (λ (l : List (List ℕ)). AreServed LineEnds l o.begin o.outcome.extent.effects o.end) all o.outcome.each in
       told_then before.written (λ written. after.written ≡ Some (written ++ o.outcome.extent.out)) _ (λ written is wrote. record {
         begin = o.begin;
         end = o.end;
         fresh = o.fresh;
         effects = o.outcome.extent.effects;
-        each = subst (λ (l : List (List ℕ)). AreServed LineEnds l o.begin o.outcome.extent.effects o.end) all o.outcome.each;
+        each = served;
         sound = whole.sound;
         files = o.files;
         timed = o.timed;
@@ -54,6 +60,7 @@ module _ (timing : Timing) (input : List ℕ) (before after : BatchView) (status
         goes = o.goes;
         bodies = o.bodies;
         calm = o.calm;
+        only = only_run (batch_lines 1073741824 input) before o.begin o.outcome.extent.effects o.end served o.fresh;
       }) o.outcome.wrote
 
 -- what a run came to in which nothing failed
@@ -94,7 +101,7 @@ pub run_of_batch : (words : List (List ℕ)) (before after : RunView) (timing : 
     → after ≡ record before { batch = after.batch; source_faults = after.source_faults; file_faults = after.file_faults }
     → Runs words before after number
 run_of_batch words before after timing status number is tells no_usage outcome source sink files same =
-    as_asked words (Batch timing) before after number (ap (λ (t : Option Timing). first_asked t (service_of words) (control_of words)) is)
+    as_asked words (Batch timing) before after number (ap (λ (t : Option Timing). first_asked t (service_of words) (control_of words) (generator_of words)) is)
     (record {
       status = status;
       tells = tells;
@@ -129,7 +136,7 @@ pub run_of_server : (words : List (List ℕ)) (before after : RunView) (serving 
     → before.host.faults ≤ after.host.faults
     → IsServed serving before.host after.host status ⊎ IsUnserved before.host after.host status → Runs words before after number
 run_of_server words before after serving status number no_batch is tells same later outcome =
-    as_asked words (Serve serving) before after number (λ i. first_asked (no_batch i) (is i) (control_of words))
+    as_asked words (Serve serving) before after number (λ i. first_asked (no_batch i) (is i) (control_of words) (generator_of words))
     (record { status = status; tells = tells; serves = outcome; alone = same })
     (record {
       source = let count = ap (λ (v : RunView). v.source_faults) same in omega (arith, count);
@@ -149,7 +156,7 @@ pub run_of_control : (words : List (List ℕ)) (before after : RunView) (control
     → before.batch.sink_faults ≤ after.batch.sink_faults → before.errors_faults ≤ after.errors_faults → before.file_faults ≤ after.file_faults
     → before.dial.faults ≤ after.dial.faults → Runs words before after number
 run_of_control words before after control number no_batch no_server is controls same sink errors files dial =
-    as_asked words (Send control) before after number (λ i. first_asked (no_batch i) (no_server i) (is i))
+    as_asked words (Send control) before after number (λ i. first_asked (no_batch i) (no_server i) (is i) (generator_of words))
     (record { controls = controls; left = same.0; source_faults = same.1; readings = same.2; host = same.3 })
     (record {
       source = let count = same.1 in omega (arith, count);
@@ -160,16 +167,35 @@ run_of_control words before after control number no_batch no_server is controls 
       dial = dial;
     })
 
+-- ---- the generator was run
+
+pub run_of_generator : (words : List (List ℕ)) (before after : RunView) (generator : Generator) (status : ExitStatus) (number : ℕ)
+    → timing_of words ≡ None → service_of words ≡ None → control_of words ≡ None → generator_of words ≡ Some generator
+    → number ≡ status_number status → Generates generator (sink_view before) (sink_view after) status
+    → after ≡ record before { batch = record before.batch { written = after.batch.written; sink_faults = after.batch.sink_faults } }
+    → before.batch.sink_faults ≤ after.batch.sink_faults → Runs words before after number
+run_of_generator words before after generator status number no_batch no_server no_control is tells generates same sink =
+    as_asked words (Generate generator) before after number (λ i. first_asked (no_batch i) (no_server i) (no_control i) (is i))
+    (record { status = status; tells = tells; generates = generates; alone = same })
+    (record {
+      source = let count = ap (λ (v : RunView). v.source_faults) same in omega (arith, count);
+      sink = sink;
+      errors = let count = ap (λ (v : RunView). v.errors_faults) same in omega (arith, count);
+      files = let count = ap (λ (v : RunView). v.file_faults) same in omega (arith, count);
+      host = let count = ap (λ (v : RunView). v.host.faults) same in omega (arith, count);
+      dial = let count = ap (λ (v : RunView). v.dial.faults) same in omega (arith, count);
+    })
+
 -- ---- a usage fault was shown
 
 pub run_of_nothing : (words : List (List ℕ)) (before after : RunView) (status : ExitStatus) (number : ℕ) → timing_of words ≡ None
-    → service_of words ≡ None → control_of words ≡ None → number ≡ status_number status
+    → service_of words ≡ None → control_of words ≡ None → generator_of words ≡ None → number ≡ status_number status
     → ((status ≡ exit.Usage) × Wrote before.errors after.errors usage_text)
     ⊎ ((status ≡ exit.SinkFailed) × WroteFront before.errors after.errors usage_text × Rose before.errors_faults after.errors_faults)
     → after ≡ record before { errors = after.errors; errors_faults = after.errors_faults } → before.errors_faults ≤ after.errors_faults
     → Runs words before after number
-run_of_nothing words before after status number no_batch no_server no_control tells says same errors =
-    as_asked words Nothing before after number (λ i. first_asked (no_batch i) (no_server i) (no_control i))
+run_of_nothing words before after status number no_batch no_server no_control no_generator tells says same errors =
+    as_asked words Nothing before after number (λ i. first_asked (no_batch i) (no_server i) (no_control i) (no_generator i))
     (record {
       says = ⊎_elim (λ whole. inl (tells ∙ ap status_number whole.0, whole.1)) (λ failed. inr (tells ∙ ap status_number failed.0, failed.1, failed.2)) says;
       alone = same;

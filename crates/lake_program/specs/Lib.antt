@@ -2,3 +2,4 @@ pub mod Views
 pub mod Controls
 pub mod Servers
 pub mod Run
+pub mod OneBatches

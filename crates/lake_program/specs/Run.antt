@@ -9,9 +9,13 @@ use Rattle.batch_lines.specs.Status.{status_number}
 use Rattle.batch_lines.specs.declared.status.ExitStatus.{ExitStatus}
 use Rattle.batch_lines.specs.declared.status.ExitStatus.TheVariants.{Usage, SourceFailed, SinkFailed, HostFailed, OutOfMemory}
 use Rattle.lake_batch.specs.BatchViews.{BatchView}
-use Rattle.lake_batch.specs.Batches.{CommandView, GoesThrough, HoldsBodies, IsBegun, IsServedBatch, IsTimed, LineEnds}
+use Rattle.lake_batch.specs.Batches.{HoldsBodies, IsBegun, IsServedBatch, IsTimed}
+use Rattle.lake_batch.specs.CommandWords.{CommandView, GoesThrough, LineEnds}
+use Rattle.batch_laws.specs.LikeRuns.{IsOnlyRun}
+use Rattle.lake_generator.specs.Generated.{Generates, SinkView}
 use Rattle.program_words.specs.declared.batch.Timing.{Timing}
-use Rattle.program_words.specs.ProgramWords.{Asked, Batch, Control, Nothing, Send, Serve, Serving, asked_of}
+use Rattle.program_words.specs.declared.generator.Generator.{Generator}
+use Rattle.program_words.specs.ProgramWords.{Asked, Batch, Control, Generate, Nothing, Send, Serve, Serving, asked_of}
 use Rattle.lake_program.specs.Controls.{ControlView, Controls}
 use Rattle.lake_program.specs.Servers.{IsServed, IsUnserved}
 use Rattle.lake_program.specs.Views.{RunView}
@@ -47,6 +51,8 @@ pub record IsBatchRun (timing : Timing) (input written : List ℕ) (before after
   pub goes : GoesThrough begin.lake.seat end.lake.seat
   pub bodies : HoldsBodies end
   pub calm : end.lake.store.faults ≡ 0
+  -- and any other run of these lines in which nothing failed either comes to the same
+  pub only : IsOnlyRun (batch_lines 1073741824 input) before begin effects end each
 
 -- memory ran out before the first line: nothing was tried, so that no count of faults rose either
 pub record IsUnbegun (before after : RunView) (status : ExitStatus) : Type 0 where
@@ -103,6 +109,19 @@ pub record RunsControl (control : Control) (before after : RunView) (number : �
   pub readings : after.batch.readings ≡ before.batch.readings
   pub host : after.host ≡ before.host
 
+-- ---- the generator
+
+-- what its sink got
+abbrev pub sink_view : RunView → SinkView
+sink_view run = record { written = run.batch.written; faults = run.batch.sink_faults }
+
+-- THE GENERATOR WAS RUN, and told the sink what its lines came to, or nothing. Nothing but the sink was touched.
+pub record RunsGenerator (generator : Generator) (before after : RunView) (number : ℕ) : Type 0 where
+  pub status : ExitStatus
+  pub tells : number ≡ status_number status
+  pub generates : Generates generator (sink_view before) (sink_view after) status
+  pub alone : after ≡ record before { batch = record before.batch { written = after.batch.written; sink_faults = after.batch.sink_faults } }
+
 -- ---- other words
 
 -- what is said of them
@@ -122,6 +141,7 @@ abbrev pub RunsAs : Asked → (before after : RunView) → (number : ℕ) → Ty
 RunsAs (Batch timing) before after number = RunsBatch timing before after number
 RunsAs (Serve serving) before after number = RunsServer serving before after number
 RunsAs (Send control) before after number = RunsControl control before after number
+RunsAs (Generate generator) before after number = RunsGenerator generator before after number
 RunsAs Nothing before after number = RunsNothing before after number
 
 -- no count of failures falls

@@ -1,14 +1,16 @@
-//! The program as a library: a batch of lakectl's commands on a fresh lake in memory, a server on one, and a command
-//! that goes to a server.
+//! The program as a library: a batch of lakectl's commands on a fresh lake in memory, a server on one, a command that
+//! goes to a server, and the generator.
 //!
 //! - `run`: the call that the program makes, with the promise of what it does; `status`: the numbers of its statuses.
 //! - `server`: a server on a fresh lake. `control`: a command that goes to a server. `limits`: how long a batch may be.
+//! - `laws`: two runs of one batch come to the same.
 //!
 //! The promise to the layer above: what `run` does is a function of what its words ask for, said of each; and each
 //! status has its cause.
 #![tactic(auto)]
 
 pub mod control;
+pub mod laws;
 pub mod limits;
 pub mod run;
 pub mod server;

@@ -5,7 +5,14 @@ ghost use Rattle.lake_base.specs.declared.limits.TheConstants.{PATH_LIMIT};
 ghost use Rattle.lake_model.specs.declared.history.TheConstants.{HISTORY_LIMIT};
 ghost use Rattle.lakectl_verbs.specs.declared.line.TheConstants.{LINE_LIMIT};
 ghost use Rattle.http_wire.specs.SinkFronts.{Wrote, WroteFront};
-ghost use Rattle.program_words.specs.ProgramWords.{Nothing, asked_of, control_of, service_of, timing_of};
+ghost use Rattle.program_words.specs.ProgramWords.{
+  Nothing,
+  asked_of,
+  control_of,
+  generator_of,
+  service_of,
+  timing_of,
+};
 ghost use Rattle.lake_program.specs.Run.{Runs, usage_text};
 
 use crate::control::run_control;
@@ -16,10 +23,11 @@ use batch_lines::ExitStatus;
 use http_wire::write::write_all;
 use lake_base::{Clock, Sink, Source, Text};
 use lake_batch::serve_batch;
+use lake_generator::generate;
 use lake_host::Host;
 use lakectl_client::Connect;
 use lakectl_commands::Files;
-use program_words::{batch_timing, control_words, service_words};
+use program_words::{batch_timing, control_words, generator_words, service_words};
 use std::alloc::Global;
 use std::sync::Wait;
 use std::thread::Threads;
@@ -29,11 +37,13 @@ const USAGE: &[u8] = b"Error: usage\n";
 
 /// Runs the program with these words.
 ///
-/// `batch`, or `batch --at N`: each line of the source is a command of `lakectl`, served on a fresh lake in memory; what
-/// it shows goes to the sink. `run --listen HOST:PORT [--workers N] [--connections M]`: the host's listeners at that
-/// address are served over HTTP, on a fresh lake in memory. `ctl [--at N] --server HOST:PORT WORDS..`: the command of
-/// `lakectl` goes to the server at that address; its output goes to the sink, and its errors to `errors`. All other
-/// words are a usage fault, which is shown on `errors`. It waits.
+/// `batch`, or `batch --at N`: each line of the source is a command of `lakectl`, served on a fresh lake in memory;
+/// what it shows goes to the sink. `run --listen HOST:PORT [--workers N] [--connections M]`: the host's listeners
+/// at that address are served over HTTP, on a fresh lake in memory. `ctl [--at N] --server HOST:PORT WORDS..`: the
+/// command of `lakectl` goes to the server at that address; its output goes to the sink, and its errors to
+/// `errors`. `gen --number N --objects K`: lines that are made of the number are served as a batch at the moment 0,
+/// and what they came to is told on the sink. All other words are a usage fault, which is shown on `errors`. It
+/// waits.
 ///
 /// The answer is the number of the run's status, and the clock and the files, which are handed back.
 pub fn run<
@@ -99,7 +109,7 @@ pub fn run<
         result.0 }
 
     // A batch touches neither `errors` nor host and network, a server the host alone, a command neither the source nor
-    // the clock nor the host, and a usage fault `errors` alone.
+    // the clock nor the host, the generator the sink alone, and a usage fault `errors` alone.
     ensures batch { IsSome (timing_of words.now)
         → (errors.new ≡ errors.old) × (host.new ≡ host.old) × (network.new ≡ network.old) }
     ensures server { IsNone (timing_of words.now) → IsSome (service_of words.now)
@@ -107,6 +117,10 @@ pub fn run<
         × (result.2 ≡ files) × (network.new ≡ network.old) }
     ensures control { IsNone (timing_of words.now) → IsNone (service_of words.now) → IsSome (control_of words.now)
         → (source.new ≡ source.old) × (result.1 ≡ clock) × (host.new ≡ host.old) }
+    ensures generator { IsNone (timing_of words.now) → IsNone (service_of words.now) → IsNone (control_of words.now)
+        → IsSome (generator_of words.now)
+        → (source.new ≡ source.old) × (errors.new ≡ errors.old) × (result.1 ≡ clock) × (result.2 ≡ files)
+        × (host.new ≡ host.old) × (network.new ≡ network.old) }
     ensures usage { asked_of words.now ≡ Nothing
         → (sink.new ≡ sink.old) × (source.new ≡ source.old) × (result.1 ≡ clock) × (result.2 ≡ files)
         × (host.new ≡ host.old) × (network.new ≡ network.old) }
@@ -135,6 +149,10 @@ pub fn run<
         let mut files = files;
         let number = run_control(alloc, at, command, sink, errors, &mut files, network);
         return (number, clock, files);
+    }
+    if let Some(asked) = generator_words(words) {
+        let status = generate(rt, alloc, asked, sink);
+        return (number_of(status), clock, files);
     }
     (number_of(show_usage(errors)), clock, files)
 }

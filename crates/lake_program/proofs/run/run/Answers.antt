@@ -2,7 +2,7 @@ use Rattle.std.proofs.Common.{inl, inr, ⊎_elim, refl, sym, ◌∙◌}
 use Rattle.lake_host.specs.Doors.{HostView}
 use Rattle.lakectl_client.specs.Dialing.{DialView}
 use Rattle.lake_program.specs.Views.{RunView}
-use Rattle.lake_program.proofs.RunLemmas.{is_none, maps_none, run_of_batch, run_of_control, run_of_server}
+use Rattle.lake_program.proofs.RunLemmas.{is_none, maps_none, run_of_batch, run_of_control, run_of_generator, run_of_server}
 use Rattle.lake_program.proofs.run.run.Goals as goal
 
 pub returns-in-Some-clause-run : goal.returns-in-Some-clause-run
@@ -97,3 +97,36 @@ returns-in-Some-control_words-clause-run g c =
     (maps_none _ c.service_words.result _ c.service_words.ensures.reads c.in_default-service_words.not-Some) (sym c.in-Some-control_words.ensures)
     number.ensures.controls (refl, refl, refl, refl)
     number.ensures.sink number.ensures.errors number.ensures.files number.ensures.network
+
+pub returns-in-Some-generator_words-clause-run : goal.returns-in-Some-generator_words-clause-run
+returns-in-Some-generator_words-clause-run g c =
+    let view : _ → RunView = λ sink. record {
+      batch = record {
+        left = g.S.Source.left c.args.source.now;
+        written = g.O.Sink.written sink;
+        sink_faults = g.O.Sink.faults sink;
+        readings = g.C.Clock.readings c.args.clock;
+        files = g.F.Files.files c.args.files;
+      };
+      host = record {
+        opened = g.H.Host.opened c.args.host.now;
+        returned = g.H.Host.returned c.args.host.now;
+        faults = g.H.Host.faults c.args.host.now;
+      };
+      dial = record {
+        dialed = g.N.Connect.dialed c.args.network.now;
+        hung_up = g.N.Connect.hung_up c.args.network.now;
+        faults = g.N.Connect.faults c.args.network.now;
+      };
+      errors = g.E.Sink.written c.args.errors.now;
+      source_faults = g.S.Source.faults c.args.source.now;
+      errors_faults = g.E.Sink.faults c.args.errors.now;
+      file_faults = g.F.Files.faults c.args.files;
+    } in
+    run_of_generator c.args.words.now (view c.args.sink.now) (view c.generate-status.new.sink) c.in-Some-generator_words.asked
+    c.generate-status.result c.number_of-in-Some-generator_words.result
+    (sym c.batch_timing.ensures ∙ is_none c.batch_timing.result c.in_default.not-Some)
+    (maps_none _ c.service_words.result _ c.service_words.ensures.reads c.in_default-service_words.not-Some)
+    (maps_none _ c.control_words.result _ c.control_words.ensures c.in_default-control_words.not-Some)
+    (sym c.generator_words.ensures ∙ c.in-Some-generator_words.is) c.number_of-in-Some-generator_words.ensures
+    c.generate-status.ensures.generates refl c.generate-status.ensures.sink
