@@ -21,13 +21,13 @@ pub fn bad<E: Drop>(_fault: E) -> io::Error {
 }
 
 /// A line with a time in nanoseconds.
-pub fn say(rt: &HostRuntime, what: &str, time: Duration) -> io::Result<()> {
+pub fn say<R: Print>(rt: &R, what: &str, time: Duration) -> io::Result<()> {
     let nanos = time.as_nanos();
     println!(rt; "{what} {nanos}")
 }
 
 /// A line with a number.
-pub fn told(rt: &HostRuntime, what: &str, number: u64) -> io::Result<()> {
+pub fn told<R: Print>(rt: &R, what: &str, number: u64) -> io::Result<()> {
     println!(rt; "{what} {number}")
 }
 '''
