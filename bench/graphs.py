@@ -3,8 +3,9 @@
 
 A line of COMMITS commits (100,000 by default) with two branches that part 10 commits before their heads. Prints what
 the graph takes for the merge base of the heads, for `~N` half way back, for the first page of the log and for one late
-in it, and for the walk of first parents; and what Git takes as a process, less what it takes to start, with its commit
-graph file written. The scratch repository is in FOLDER (a new one by default). It needs rt and git.
+in it, for the walk of first parents, and for an iteration of all commits, of fewer too; and what Git takes as a
+process, less what it takes to start, with its commit graph file written. The scratch repository is in FOLDER (a new
+one by default). It needs rt and git.
 """
 import os
 import subprocess
@@ -100,7 +101,8 @@ fn main(rt: HostRuntime) -> io::Result<()> {
     let b = there(&graph, b)?;
     based(&rt, &graph, fork, &a, &b)?;
     paged(&rt, &graph, &a, u32::try_from(count / 2).map_err(bad)?)?;
-    walked(&rt, &graph, &a)
+    walked(&rt, &graph, &a)?;
+    iterated(&rt, &graph)
 }
 
 type Heads = (Option<CommitId>, Option<CommitId>, Option<CommitId>);
@@ -156,6 +158,16 @@ fn walked(rt: &HostRuntime, graph: &Graph, a: &CommitId) -> io::Result<()> {
     let walk = walk.len();
     println!(rt; "walked {walk}")
 }
+
+fn iterated(rt: &HostRuntime, graph: &Graph) -> io::Result<()> {
+    let start = Instant::now(rt)?;
+    let mut dates = 0u64;
+    for (_, commit) in graph.iter() {
+        dates = dates.saturating_add(commit.date);
+    }
+    say(rt, "iterated", start.elapsed(rt)?)?;
+    println!(rt; "dates {dates}")
+}
 '''
 
 
@@ -197,6 +209,10 @@ def main():
     history(there, count)
     start = git_time(there, 'rev-parse', 'a')
     print(f'{count} commits; the graph has at most {most:.0f} MB; {told["add"] / count / 1000:.1f} us an add')
+    for few in (count // 100, count // 10, count):
+        out, _, _ = scratch.run([program, str(few)])
+        took = next(int(line.split()[1]) for line in out.splitlines() if line.startswith('iterated '))
+        print(f'an iteration of {few} commits: {took / few:.1f} ns a commit')
     for what, mine, words in (
             ('merge base of two heads', told['base_of_100'] / 100, ('merge-base', 'a', 'b')),
             ('half way back', told['resolve'], ('rev-parse', f'a~{count // 2}')),
