@@ -1,0 +1,8 @@
+pub mod Found
+pub mod PairTrees
+pub mod SettingTexts
+pub mod Spelled
+pub mod Tables
+pub mod Things
+pub mod TreeFiles
+pub mod Unread
