@@ -1,0 +1,4 @@
+pub mod Hidden
+pub mod OneCommit
+pub mod PairTies
+pub mod Tested
