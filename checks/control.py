@@ -75,7 +75,12 @@ def work(program, at, lines, rooms):
         status, out, err = controlled(program, at, shlex.split(line), rooms[0])
         shown += out + err
         before.append(line)
-        alone = batched(program, before, rooms[1])
+        # (Commits of one generation are logged by their ids, which differ by the second: so a batch may try again.)
+        for _ in range(10):
+            alone = batched(program, before, rooms[1])
+            if named(shown) == named(alone):
+                break
+            time.sleep(1)
         same(line, named(shown), named(alone))
         refused = err.startswith(b'Error: ')
         same(f'status of {line}', (status != 0, out == b'' or not refused), (refused, True))
