@@ -3,3 +3,4 @@ pub mod RoundLemmas
 pub mod ServedLemmas
 pub mod ReadEntryLemmas
 pub mod ReadAloneLemmas
+pub mod FlowLemmas

@@ -179,6 +179,9 @@ module _ (old new : LakeSeat) (number : ℕ) (c : ReadCall) (moment : ℕ) (bloc
   abbrev Answers : Result ObjectRead FlowFault → Type 0
   Answers outcome = IsReadAnswer old new number c moment blocks held held_now paused paused_now (answer_read (length new.seen) outcome)
 
+  abbrev AreGiven : LakeOrigin → Result ObjectRead FlowFault → Option (List ℕ) → Type 0
+  AreGiven from outcome bytes = AreBytesOf held (λ entry. looked c (state_at from new.seen) ≡ Ok entry) outcome bytes
+
   module _ (outcome : Result ObjectRead FlowFault) (read : Reads outcome) where
     abbrev origin : LakeOrigin
     origin = read.origin
@@ -189,7 +192,7 @@ module _ (old new : LakeSeat) (number : ℕ) (c : ReadCall) (moment : ℕ) (bloc
     reached : HasReached start by request [] old.seen new.seen
     reached = reached_on start by request [] old.seen old.seen new.seen (reached_nothing start by request old.seen) read.only.came
 
-    answered : (told : CallReply) (bytes : Option (List ℕ)) → IsReadTold (names_of (reading c)) outcome told → AreBytesOf outcome bytes
+    answered : (told : CallReply) (bytes : Option (List ℕ)) → IsReadTold (names_of (reading c)) outcome told → AreGiven origin outcome bytes
         → IsServed lake_rules start by old.seen new.seen request (met_with read.missed bytes) told (length new.seen) (length new.seen) → Answers outcome
     answered told bytes tells are served = record {
       read = read;
@@ -205,7 +208,7 @@ module _ (old new : LakeSeat) (number : ℕ) (c : ReadCall) (moment : ℕ) (bloc
       bytes = are;
     }
 
-    stopped : (told : CallReply) (bytes : Option (List ℕ)) → IsReadTold (names_of (reading c)) outcome told → AreBytesOf outcome bytes
+    stopped : (told : CallReply) (bytes : Option (List ℕ)) → IsReadTold (names_of (reading c)) outcome told → AreGiven origin outcome bytes
         → Hinders lake_rules start by request (met_with read.missed bytes) (length old.seen) (Finds c ∷ []) new.seen told → Answers outcome
     stopped told bytes tells are hinders =
         answered told bytes tells are
@@ -214,13 +217,13 @@ module _ (old new : LakeSeat) (number : ℕ) (c : ReadCall) (moment : ℕ) (bloc
 
     -- an exception has its cause
     excepted : (refused : Refusal) (bytes : Option (List ℕ)) → IsReadTold (names_of (reading c)) outcome (reply.Refused refused)
-        → AreBytesOf outcome bytes
+        → AreGiven origin outcome bytes
         → IsReadException c (met_with read.missed bytes) start (length old.seen) new.seen (reply.Refused refused) → Answers outcome
     excepted refused bytes tells are cause =
         stopped (reply.Refused refused) bytes tells are (ByCause (λ none. absurd (cc (none))) cause)
 
     -- a refusal holds in the state
-    refused_in : (refused : Refusal) → IsReadTold (names_of (reading c)) outcome (reply.Refused refused) → AreBytesOf outcome None
+    refused_in : (refused : Refusal) → IsReadTold (names_of (reading c)) outcome (reply.Refused refused) → AreGiven origin outcome None
         → PointRefused (reading c) (Finds c) (state_at origin new.seen) (reply.Refused refused) → Answers outcome
     refused_in refused tells are why =
         stopped (reply.Refused refused) None tells are
@@ -289,9 +292,9 @@ module _ (old new : LakeSeat) (number : ℕ) (c : ReadCall) (moment : ℕ) (bloc
       let asked = read.ends.1 in
       let body = read.ends.2 in
       let fitted = read.ends.3 in
-      let finds = finds_own c (state_at read.origin new.seen) entry
-      (last_found read.origin old.number c.repo c.path c.at.e old.seen read.missed asked.first entry new.seen asked.found) in
-      excepted (Err (Damaged named found)) read (refusal.Damaged c.path) (Some body) refl (body, refl, fitted.2)
+      let looked_up = last_found read.origin old.number c.repo c.path c.at.e old.seen read.missed asked.first entry new.seen asked.found in
+      let finds = finds_own c (state_at read.origin new.seen) entry looked_up in
+      excepted (Err (Damaged named found)) read (refusal.Damaged c.path) (Some body) refl (body, refl, fitted.2, entry, looked_up, read.ends.4)
       (inr (inr (inr (record { entry = entry; found = finds; bytes = body; got = refl; other = fitted.0 }, refl))))
   served (Err BlockFault) read =
       excepted (Err BlockFault) read refusal.BlockFault None refl refl (inr (inl (read.ends.2, refl)))

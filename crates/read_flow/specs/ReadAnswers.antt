@@ -19,7 +19,9 @@ use Rattle.write_flow.specs.declared.answer.FlowFault.{FlowFault}
 use Rattle.write_flow.specs.declared.answer.FlowFault.TheVariants.{Damaged}
 use Rattle.write_flow.specs.FlowFaults.{IsFlowTold}
 use Rattle.flow_steps.specs.FlowAnswers.{BlockCounts, asked_at}
-use Rattle.read_flow.specs.ObjectReads.{HasRead, ObjectRead}
+use Rattle.flow_steps.specs.FlowSeats.{state_at}
+use Rattle.read_flow.specs.ObjectLooks.{look_up}
+use Rattle.read_flow.specs.ObjectReads.{HasRead, HoldsAt, ObjectRead}
 
 -- a call that reads
 abbrev pub reading : ReadCall → Call
@@ -31,11 +33,13 @@ IsReadTold names (Ok object) told =
     (entry : EntryValue) × (object.0.entry ≡ Some entry) × (told ≡ reply.Done (done.Object entry.content_type object.1))
 IsReadTold names (Err fault) told = IsFlowTold names fault told
 
--- the bytes that the store gave, by what came of them
-abbrev pub AreBytesOf : Result ObjectRead FlowFault → Option (List ℕ) → Type 0
-AreBytesOf (Ok object) bytes = bytes ≡ Some object.1
-AreBytesOf (Err (Damaged named found)) bytes = (body : List ℕ) × (bytes ≡ Some body) × (found.0 ≡ sha256 body)
-AreBytesOf (Err fault) bytes = bytes ≡ None
+-- the bytes that the store gave, by what came of them: those of the object; or bytes that the store has under the number of an entry
+-- that was found, and that don't fit it
+abbrev pub AreBytesOf : (held : Option HeldObjects) → (Finds : EntryValue → Type 0) → Result ObjectRead FlowFault → Option (List ℕ) → Type 0
+AreBytesOf held Finds (Ok object) bytes = bytes ≡ Some object.1
+AreBytesOf held Finds (Err (Damaged named found)) bytes =
+    (body : List ℕ) × (bytes ≡ Some body) × (found.0 ≡ sha256 body) × (entry : EntryValue) × Finds entry × HoldsAt held entry.place (Some body)
+AreBytesOf held Finds (Err fault) bytes = bytes ≡ None
 
 -- what a reading answers, at a position
 abbrev pub answer_read : (position : ℕ) → Result ObjectRead FlowFault → FlowAnswer ObjectRead FlowFault
@@ -55,4 +59,4 @@ pub record IsReadAnswer (old new : LakeSeat) (number : ℕ) (c : ReadCall) (mome
   pub misses : met.misses ≡ blocks.misses
   pub missed_last : met.missed_last ≡ blocks.missed_last
   pub missed : met.missed ≡ read.missed
-  pub bytes : AreBytesOf answer.outcome met.bytes
+  pub bytes : AreBytesOf held (λ entry. look_up (state_at read.origin new.seen) c.repo c.at.e c.path ≡ Ok entry) answer.outcome met.bytes
