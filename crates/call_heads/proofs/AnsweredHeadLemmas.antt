@@ -3,22 +3,17 @@ use Rattle.std.proofs.Common.{◌≡◌, ℕ, Option, Result, refl, sym, subst, 
 use Rattle.lake_base.specs.declared.digest.Digest.{Digest}
 use Rattle.lake_values.specs.Commit.{CommitRecordValue}
 use Rattle.block_store.specs.Blocks.{HeldObjects}
-use Rattle.shared_lake.specs.SeatSteps.{LakeSeat}
+use Rattle.call_objects.specs.CallWords.{Answered, BlockCounts, FlowAnswer, IsFlow, LakeSeat, asked_at, counted_between, still}
 use Rattle.lake_calls.specs.CallExceptions.{CallMet}
 use Rattle.lake_calls.specs.CallRefusals.{names_of}
 use Rattle.lake_calls.specs.declared.call.Call.TheVariants.{Heads}
 use Rattle.lake_calls.specs.declared.heads.HeadCall.{HeadCall}
 use Rattle.lake_calls.specs.declared.reply.CallReply.{CallReply}
 use Rattle.lake_calls.specs.declared.reply.Done.{Done}
-use Rattle.flow_steps.specs.declared.answer.FlowAnswer.{FlowAnswer}
-use Rattle.flow_steps.specs.FlowAnswers.{BlockCounts, asked_at, still}
-use Rattle.flow_steps.specs.Flows.{IsFlow}
-use Rattle.body_laws.proofs.FlowBodyLemmas.{fits_unchanged}
-use Rattle.read_flow.specs.ObjectReads.{counted_between}
+use Rattle.call_objects.proofs.FlowLemmas.{fits_unchanged}
 use Rattle.head_steps.specs.HeadTries.{MadeHead}
-use Rattle.call_readings.specs.declared.answers.Answered.{Answered}
 use Rattle.call_objects.specs.AnsweredCalls.{IsCallAnswered}
-use Rattle.call_objects.proofs.AnsweredLemmas.{IsOtherCall, reads_none}
+use Rattle.call_objects.proofs.AnsweredLemmas.{IsOtherCall}
 use Rattle.call_objects.proofs.AnsweredLemmas as by_flow
 use Rattle.commit_flow.specs.declared.answer.CommitFault.{CommitFault}
 use Rattle.commit_flow.specs.CommitFlows.{IsMadeHeadTold}
@@ -47,8 +42,8 @@ module _ {Store : Type 0} (faults misses missed : Store → ℕ) (held : Store �
       let blocks : BlockCounts = still (faults store) (misses store) (missed store) in
       let answer : Answered = record { reply = reply; position = flow.position; edge = flow.edge } in
       subst (Answers answer) (sym same)
-      (by_flow.answered old new number (Heads call) moment blocks (held store) (held store) answer met told is
+      (by_flow.other_answered old new number (Heads call) moment blocks (held store) (held store) answer met told is
       (head_told (names_of (Heads call)) telling flow.outcome told reply tells (subst (λ o. IsHeadReplied (names_of (Heads call)) o reply) so replied))
       of_faults of_misses last (omega arith, omega arith)
       (fits_unchanged old new number (asked_at (Heads call) moment) met told flow.position flow.edge (held store) (held store) is (λ u asked. absurd cc) refl)
-      (reads_none old (held store) (Heads call) reply flow.position (other_call call)) turn)
+      (other_call call) turn)

@@ -1,2 +1,3 @@
 pub mod ToldHeadLemmas
 pub mod AnsweredHeadLemmas
+pub mod AnswerLemmas

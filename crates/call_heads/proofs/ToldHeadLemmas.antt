@@ -5,7 +5,7 @@ use Rattle.lake_values.specs.Commit.{CommitRecordValue}
 use Rattle.lake_calls.specs.CallRefusals.{CallNames}
 use Rattle.lake_calls.specs.declared.reply.CallReply.{CallReply}
 use Rattle.lake_calls.specs.declared.reply.Done.{Done}
-use Rattle.write_flow.specs.declared.answer.FlowFault.TheVariants as write
+use Rattle.call_objects.specs.CallWords as write
 use Rattle.head_steps.specs.HeadTries.{MadeHead}
 use Rattle.commit_flow.specs.declared.answer.CommitFault.{CommitFault}
 use Rattle.commit_flow.specs.declared.answer.CommitFault.TheVariants.{Step}

@@ -1,1 +1,2 @@
 pub mod ToldHeads
+pub mod AnswerWords

@@ -7,7 +7,7 @@ use Rattle.lake_calls.specs.declared.reply.CallReply.{CallReply}
 use Rattle.lake_calls.specs.declared.reply.CallReply.TheVariants as reply
 use Rattle.lake_calls.specs.declared.reply.Done.{Done}
 use Rattle.head_steps.specs.HeadTries.{MadeHead}
-use Rattle.call_readings.specs.ToldFaults.{IsFaultTold}
+use Rattle.call_objects.specs.CallWords.{IsFaultTold}
 use Rattle.commit_flow.specs.declared.answer.CommitFault.{CommitFault}
 use Rattle.commit_flow.specs.declared.answer.CommitFault.TheVariants.{Step}
 use Rattle.commit_flow.specs.CommitFaults.{IsCommitTold}

@@ -2,19 +2,18 @@
 ghost use Rattle.std.specs.Prelude.{◌≡◌};
 ghost use Rattle.lake_calls.specs.declared.call.Call.TheVariants.{Heads};
 ghost use Rattle.lake_calls.specs.declared.heads.HeadCall.TheVariants as head;
-ghost use Rattle.read_flow.specs.ObjectReads.{counted_between};
+ghost use Rattle.call_objects.specs.CallWords.{counted_between};
 ghost use Rattle.call_objects.specs.AnsweredCalls.{IsCallAnswered};
 
 use crate::remarks::{of_commit, of_merge, of_pick};
 use crate::replies::{cherry_picked, committed, merged, names_at, reply, reverted};
 use block_store::Blocks;
-use call_readings::{Answered, Names, out_of_memory};
+use call_objects::{Answered, Client, LakeSeat, Names, Pause, Shared, out_of_memory};
 use commit_flow::{
     cherry_pick as pick_head, commit as commit_head, merge as merge_head, revert as revert_head,
 };
 use keeper::Keeper;
 use lake_calls::{CommitCall, MergeCall, PickCall};
-use shared_lake::{Client, LakeSeat, Pause, Shared};
 use std::alloc::Global;
 use std::sync::Wait;
 

@@ -3,6 +3,8 @@
 //!
 //! - `heads`: a function a call; `remarks`: what is said of a new commit; `replies`: what a client is told.
 //!
+//! Calls of objects and calls that only read are handed on.
+//!
 //! The promise to the layer above: each function serves its call.
 #![tactic(auto)]
 
@@ -10,5 +12,9 @@ mod heads;
 mod remarks;
 mod replies;
 
-pub use call_objects::Answered;
+pub use call_objects::{
+    Answered, Client, LakeSeat, NoPause, Pause, Shared, copy, delete, get_branch, get_commit,
+    get_hooks, get_protection, get_tag, link, list_branches, list_objects, list_repositories,
+    list_tags, log, read, reset, stat_object, upload,
+};
 pub use heads::{cherry_pick, commit, merge, revert};

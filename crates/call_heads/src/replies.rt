@@ -3,10 +3,10 @@ ghost use Rattle.std.specs.Prelude.{◌≡◌, []};
 ghost use Rattle.lake_calls.specs.CallReadings.{known_commit};
 ghost use Rattle.lake_calls.specs.CallRefusals.{CallNames, names_at};
 ghost use Rattle.lake_calls.specs.declared.reply.Done.TheVariants as done;
-ghost use Rattle.call_readings.specs.ToldFaults.{AreNames};
+ghost use Rattle.call_objects.specs.CallWords.{AreNames};
 ghost use Rattle.call_heads.specs.ToldHeads.{IsCommitReplied, IsHeadReplied, told_of_made};
 
-use call_readings::{Names, head_refusal_reply, refusal_reply};
+use call_objects::{Names, head_refusal_reply, refusal_reply};
 use commit_flow::CommitFault;
 use lake_base::{RefName, RepoName};
 use lake_calls::{CallReply, Done, Expression, KnownCommit, MissingParent, Refusal};

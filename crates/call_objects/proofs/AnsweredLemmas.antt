@@ -1,7 +1,7 @@
 -- A call is answered by a flow that served it: its reply is what the flow tells, or that memory ran out.
-use Rattle.std.proofs.Common.{◌≡◌, ◌⊎◌, inl, inr, ℕ, Option, refl, sym, subst}
+use Rattle.std.proofs.Common.{◌≡◌, ◌⊎◌, inl, inr, ℕ, List, Option, refl, sym, subst}
 use Rattle.block_store.specs.Blocks.{HeldObjects}
-use Rattle.shared_lake.specs.SeatSteps.{LakeSeat}
+use Rattle.read_flow.specs.FlowWords.{BlockCounts, IsFlow, KeepsFitting, LakeSeat, asked_at, opened_state}
 use Rattle.call_placement.specs.Sessions.{caller}
 use Rattle.call_placement.proofs.StarvedLemmas.{starves}
 use Rattle.lake_calls.specs.CallExceptions.{CallMet}
@@ -14,14 +14,10 @@ use Rattle.lake_calls.specs.declared.objects.ReadCall.{ReadCall}
 use Rattle.lake_calls.specs.declared.reply.CallReply.{CallReply}
 use Rattle.lake_calls.specs.declared.reply.CallReply.TheVariants as reply
 use Rattle.lake_calls.proofs.RuleLemmas.{tells_done}
-use Rattle.flow_steps.specs.FlowAnswers.{BlockCounts, asked_at}
-use Rattle.flow_steps.specs.FlowSeats.{opened_state}
-use Rattle.flow_steps.specs.Flows.{IsFlow}
-use Rattle.body_laws.specs.BodiesKept.{KeepsFitting}
-use Rattle.write_flow.specs.WriteFlows.{NeverFall}
+use Rattle.read_flow.specs.WrittenWords.{NeverFall}
 use Rattle.call_readings.specs.declared.answers.Answered.{Answered}
 use Rattle.call_objects.specs.AnsweredCalls.{IsCallAnswered}
-use Rattle.call_objects.specs.HeldReplies.{ReadsHeld}
+use Rattle.call_objects.specs.HeldReplies.{ReadsGiven, ReadsHeld}
 
 -- a reply is this, or that memory ran out
 abbrev pub ToldOrStarved : (told answered : CallReply) → Type 0
@@ -32,9 +28,13 @@ abbrev pub IsOtherCall : Call → Type 0
 IsOtherCall call = (c : ReadCall) → call ≡ Objects (object.Read c) → ⊥
 
 -- of such a call nothing is said of bytes that are held
-pub reads_none : (old : LakeSeat) (held : Option HeldObjects) (call : Call) (told : CallReply) (position : ℕ) → IsOtherCall call
+reads_none : (old : LakeSeat) (held : Option HeldObjects) (call : Call) (told : CallReply) (position : ℕ) → IsOtherCall call
     → ReadsHeld old held call told position
 reads_none old held call told position other c origin objects is = absurd (other c is)
+
+gives_none : (old new : LakeSeat) (held : Option HeldObjects) (call : Call) (given : Option (List ℕ)) (told : CallReply) (position : ℕ)
+    → IsOtherCall call → ReadsGiven old new held call given told position
+gives_none old new held call given told position other c origin objects is = absurd (other c is)
 
 -- a flow that served a call served it too where the client is told instead that memory ran out
 pub starved_flow : (old new : LakeSeat) (number : ℕ) (request : CallRequest) (met : CallMet) (told : CallReply) (position edge : ℕ)
@@ -58,8 +58,9 @@ module _ (old new : LakeSeat) (number : ℕ) (call : Call) (moment : ℕ) (block
   -- so a call is answered
   pub answered : (met : CallMet) (told : CallReply) → Flows met told → ToldOrStarved told answer.reply → met.block_faults ≡ blocks.faults
       → met.misses ≡ blocks.misses → met.missed_last ≡ blocks.missed_last → NeverFall blocks → KeepsFitting old new held held_now
-      → ReadsHeld old held call answer.reply answer.position → new.turn ≡ old.turn → IsCallAnswered old new number call moment blocks held held_now answer
-  answered met told flow is faults misses missed counts fitting reads turn = record {
+      → ReadsGiven old new held call met.bytes answer.reply answer.position → ReadsHeld old held call answer.reply answer.position
+      → new.turn ≡ old.turn → IsCallAnswered old new number call moment blocks held held_now answer
+  answered met told flow is faults misses missed counts fitting given reads turn = record {
     met = met;
     flow = flows_so met told flow is;
     faults = faults;
@@ -67,6 +68,15 @@ module _ (old new : LakeSeat) (number : ℕ) (call : Call) (moment : ℕ) (block
     missed_last = missed;
     counts = counts;
     fitting = fitting;
+    given = given;
     reads = reads;
     turn = turn;
   }
+
+  -- and one that reads no object's bytes
+  pub other_answered : (met : CallMet) (told : CallReply) → Flows met told → ToldOrStarved told answer.reply → met.block_faults ≡ blocks.faults
+      → met.misses ≡ blocks.misses → met.missed_last ≡ blocks.missed_last → NeverFall blocks → KeepsFitting old new held held_now
+      → IsOtherCall call → new.turn ≡ old.turn → IsCallAnswered old new number call moment blocks held held_now answer
+  other_answered met told flow is faults misses missed counts fitting other =
+      answered met told flow is faults misses missed counts fitting (gives_none old new held call met.bytes answer.reply answer.position other)
+      (reads_none old held call answer.reply answer.position other)

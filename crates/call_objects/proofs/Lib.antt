@@ -3,3 +3,4 @@ pub mod ReadingLemmas
 pub mod ToldLemmas
 pub mod WriteLemmas
 pub mod ReadLemmas
+pub mod FlowLemmas

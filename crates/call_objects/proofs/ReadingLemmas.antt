@@ -4,23 +4,19 @@ use Rattle.std.specs.Prelude.{All}
 use Rattle.std.specs.FinMap.{get}
 use Rattle.std.proofs.lemmas.List.{append-nil, append_cancel_left}
 use Rattle.lake_model.specs.declared.history.HistoryEntry.{HistoryEntry}
-use Rattle.lake_core.specs.declared.standing.LakeOrigin.{LakeOrigin}
+use Rattle.read_flow.specs.FlowWords.{BlockCounts, GoesOn, KeepsFitting, LakeOrigin, LakeSeat, state_at, still}
 use Rattle.block_store.specs.Blocks.{HeldObjects}
-use Rattle.shared_lake.specs.SeatSteps.{LakeSeat}
 use Rattle.call_placement.specs.Points.{Came}
 use Rattle.call_placement.specs.Sessions.{caller}
 use Rattle.lake_calls.specs.CallExceptions.{CallMet, no_counts}
 use Rattle.lake_calls.specs.HeldBodies.{FitsState}
 use Rattle.lake_calls.specs.LakeRules.{lake_rules}
 use Rattle.lake_calls.specs.declared.call.Call.{Call}
-use Rattle.flow_steps.specs.FlowAnswers.{BlockCounts, still}
-use Rattle.flow_steps.specs.FlowSeats.{GoesOn, state_at}
-use Rattle.body_laws.specs.BodiesKept.{KeepsFitting}
-use Rattle.body_laws.proofs.FlowBodyLemmas.{none_of_both}
+use Rattle.read_flow.proofs.FlowLemmas.{none_of_both}
 use Rattle.call_readings.specs.declared.answers.Answered.{Answered}
 use Rattle.call_readings.specs.AnsweredReadings.{IsReadingAnswered}
 use Rattle.call_objects.specs.AnsweredCalls.{IsCallAnswered}
-use Rattle.call_objects.proofs.AnsweredLemmas.{IsOtherCall, answered, reads_none}
+use Rattle.call_objects.proofs.AnsweredLemmas.{IsOtherCall, other_answered}
 
 -- a seat that is alone, and adds nothing, has seen nothing more
 pub seen_same : (origin : LakeOrigin) (number : ℕ) (old new : LakeSeat) → GoesOn origin number old new
@@ -57,6 +53,6 @@ of_reading old new number call moment faults misses missed held answer read othe
     let blocks : BlockCounts = still faults misses missed in
     let met : CallMet = met_still blocks in
     let flow = read.flow number moment met in
-    answered old new number call moment blocks held held answer met answer.reply flow (inl refl) refl refl refl (omega arith, omega arith)
+    other_answered old new number call moment blocks held held answer met answer.reply flow (inl refl) refl refl refl (omega arith, omega arith)
     (fits_seen old new held (seen_same flow.origin number old new flow.goes (read.others number)))
-    (reads_none old held call answer.reply answer.position other) read.turn
+    other read.turn

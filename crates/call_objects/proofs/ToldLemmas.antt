@@ -7,9 +7,7 @@ use Rattle.lake_calls.specs.declared.reply.CallReply.{CallReply}
 use Rattle.lake_calls.specs.declared.reply.CallReply.TheVariants as reply
 use Rattle.lake_calls.specs.declared.reply.Refusal.{Refusal}
 use Rattle.lake_calls.specs.declared.reply.Refusal.TheVariants as refusal
-use Rattle.write_flow.specs.declared.answer.FlowFault.{FlowFault}
-use Rattle.write_flow.specs.declared.answer.FlowFault.TheVariants.{Step, TooManyTries, NoPath, Gone, NotHeld, Lost, Damaged, BlockFault, NoMemory}
-use Rattle.write_flow.specs.FlowFaults.{IsFlowTold}
+use Rattle.read_flow.specs.WrittenWords.{BlockFault, Damaged, FlowFault, Gone, IsFlowTold, Lost, NoMemory, NoPath, NotHeld, Step, TooManyTries}
 use Rattle.call_readings.specs.ToldFaults.{IsFaultTold, IsTextTold}
 use Rattle.call_readings.proofs.ToldLemmas.{IsTellable, told_plainly}
 use Rattle.call_objects.specs.ToldFlows.{IsFlowReplied}

@@ -2,7 +2,7 @@
 use Rattle.std.proofs.Common.{◌≡◌, inl, ℕ, List, Option, Some, None, Result, Ok, Err, sym, ap, subst, ◌∙◌}
 use Rattle.lake_values.specs.Entry.{EntryValue}
 use Rattle.block_store.specs.Blocks.{HeldObjects}
-use Rattle.shared_lake.specs.SeatSteps.{LakeSeat}
+use Rattle.read_flow.specs.FlowWords.{BlockCounts, FlowAnswer, KeepsFitting, LakeSeat, still}
 use Rattle.lake_calls.specs.Calls.{UploadCall}
 use Rattle.lake_calls.specs.CallRefusals.{names_of}
 use Rattle.lake_calls.specs.Courses.{upload_entry}
@@ -11,20 +11,14 @@ use Rattle.lake_calls.specs.declared.reply.CallReply.{CallReply}
 use Rattle.lake_calls.specs.declared.reply.CallReply.TheVariants as reply
 use Rattle.lake_calls.specs.declared.reply.Done.{Done as DoneReply}
 use Rattle.lake_calls.specs.declared.reply.Done.TheVariants as done
-use Rattle.flow_steps.specs.declared.answer.FlowAnswer.{FlowAnswer}
-use Rattle.flow_steps.specs.FlowAnswers.{BlockCounts, still}
-use Rattle.body_laws.specs.BodiesKept.{KeepsFitting}
-use Rattle.write_flow.specs.declared.answer.Done.{Done}
-use Rattle.write_flow.specs.declared.answer.FlowFault.{FlowFault}
-use Rattle.write_flow.specs.Uploads.{IsUploadTold}
-use Rattle.write_flow.specs.WriteFlows.{IsAnswer, IsCopyTold, IsOutcomeTold}
+use Rattle.read_flow.specs.WrittenWords.{Done, FlowFault, IsAnswer, IsCopyTold, IsOutcomeTold, IsUploadTold}
 use Rattle.read_flow.specs.ObjectReads.{counted_between}
 use Rattle.call_readings.specs.declared.answers.Answered.{Answered}
 use Rattle.call_objects.specs.declared.writes.Stands.{Stands}
 use Rattle.call_objects.specs.declared.writes.Stands.TheVariants.{Uploaded, Linked, Copied}
 use Rattle.call_objects.specs.AnsweredCalls.{IsCallAnswered}
 use Rattle.call_objects.specs.ToldFlows.{IsChangeReplied, IsObjectReplied, IsOutcomeReplied, stood}
-use Rattle.call_objects.proofs.AnsweredLemmas.{IsOtherCall, ToldOrStarved, answered, reads_none}
+use Rattle.call_objects.proofs.AnsweredLemmas.{IsOtherCall, ToldOrStarved, other_answered}
 use Rattle.call_objects.proofs.ToldLemmas.{refusal_told}
 
 -- what is told of a change without an entry is one reply
@@ -84,8 +78,8 @@ module _ (old new : LakeSeat) (number : ℕ) (call : Call) (moment : ℕ) (Tells
     answered_so : IsOutcomeReplied (names_of call) Replies flowed.outcome told → IsAnswered
     answered_so replies =
         subst (λ b. IsCallAnswered old new number call moment b held held_now replied) (sym same)
-        (answered old new number call moment blocks held held_now replied is.met is.told is.flow (by_outcome flowed.outcome is.tells replies)
-        is.faults is.misses is.missed_last is.counts fitting (reads_none old held call told flowed.position other) turn)
+        (other_answered old new number call moment blocks held held_now replied is.met is.told is.flow (by_outcome flowed.outcome is.tells replies)
+        is.faults is.misses is.missed_last is.counts fitting other turn)
 
   -- a change that is told without an entry
   pub change_answered : (what : DoneReply) → ((entry : Option EntryValue) (told_of : DoneReply) → Tells entry told_of → told_of ≡ what)

@@ -1,3 +1,4 @@
 pub mod AnsweredCalls
 pub mod HeldReplies
 pub mod ToldFlows
+pub mod CallWords

@@ -8,9 +8,7 @@ use Rattle.lake_calls.specs.declared.reply.Done.{Done as DoneReply}
 use Rattle.lake_calls.specs.declared.reply.Done.TheVariants as done
 use Rattle.lake_calls.specs.declared.reply.ObjectStatistics.{ObjectStatistics}
 use Rattle.lake_calls.specs.declared.reply.Refusal.TheVariants as refusal
-use Rattle.write_flow.specs.declared.answer.Done.{Done}
-use Rattle.write_flow.specs.declared.answer.FlowFault.{FlowFault}
-use Rattle.write_flow.specs.declared.answer.FlowFault.TheVariants.{Step, TooManyTries, NoPath, Gone, NotHeld, Lost, Damaged, BlockFault, NoMemory}
+use Rattle.read_flow.specs.WrittenWords.{BlockFault, Damaged, Done, FlowFault, Gone, Lost, NoMemory, NoPath, NotHeld, Step, TooManyTries}
 use Rattle.read_flow.specs.ObjectReads.{ObjectRead}
 use Rattle.call_readings.specs.ToldFaults.{IsFaultTold, IsTextTold}
 use Rattle.call_objects.specs.declared.writes.Stands.{Stands}

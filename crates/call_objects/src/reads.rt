@@ -13,11 +13,9 @@ use block_store::Blocks;
 use call_readings::{Answered, Names};
 use keeper::Keeper;
 use lake_calls::{CallReply, Done, ReadCall};
-use read_flow::{ObjectRead, read_object};
-use shared_lake::{Client, LakeSeat, Pause, Shared};
+use read_flow::{Client, FlowFault, LakeSeat, ObjectRead, Pause, Shared, read_object};
 use std::alloc::Global;
 use std::sync::Wait;
-use write_flow::FlowFault;
 
 /// Reads the bytes of the object that an expression has at a path. NoRepo, NoRef, NoParent, NoPath, Gone, NotHeld,
 /// Lost, Damaged, TooManyTries, BlockFault. It waits.

@@ -10,8 +10,8 @@ use call_readings::{Names, refusal_reply};
 use lake_base::{Path, TryCopy};
 use lake_calls::{CallReply, Done, Refusal};
 use lake_model::StepFault;
+use read_flow::{Done as FlowDone, FlowFault};
 use std::alloc::Global;
-use write_flow::{Done as FlowDone, FlowFault};
 
 /// The reply to a flow of a change that is told without an entry: this where it was done, and else that to its refusal.
 pub(crate) fn change_reply(

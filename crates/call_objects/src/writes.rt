@@ -20,12 +20,12 @@ use lake_calls::{
     CallReply, CopyCall, DeleteCall, Done, LinkCall, ObjectStatistics, ResetCall, UploadCall,
 };
 use lake_values::{Entry, Place};
-use shared_lake::{Client, LakeSeat, Pause, Shared};
+use read_flow::{
+    Client, Done as FlowDone, FlowFault, LakeSeat, Pause, Shared, copy_object, delete_object,
+    link_object, put_object, reset_branch,
+};
 use std::alloc::Global;
 use std::sync::Wait;
-use write_flow::{
-    Done as FlowDone, FlowFault, copy_object, delete_object, link_object, put_object, reset_branch,
-};
 
 /// Uploads a body, which becomes an object at a path of a branch. Stopped, HistoryFull, NoRepo, NoRef, Protected,
 /// TooManyTries, BlockFault, StoreFault. It waits.

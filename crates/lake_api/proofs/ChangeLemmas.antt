@@ -1,19 +1,15 @@
 -- A call that one change answered is answered.
 use Rattle.std.proofs.Common.{◌≡◌, ◌≢◌, inl, ℕ, Option, None, refl, sym, subst, arith}
 use Rattle.block_store.specs.Blocks.{HeldObjects}
-use Rattle.shared_lake.specs.SeatSteps.{LakeSeat}
+use Rattle.call_heads.specs.AnswerWords.{Answered, IsCallAnswered, LakeSeat, asked_at, still}
 use Rattle.lake_calls.specs.CallExceptions.{CallMet}
 use Rattle.lake_calls.specs.Calls.{UploadCall}
 use Rattle.lake_calls.specs.Requests.{Asks}
 use Rattle.lake_calls.specs.declared.call.Call.{Call}
 use Rattle.lake_calls.specs.declared.call.Call.TheVariants.{Objects}
 use Rattle.lake_calls.specs.declared.objects.ObjectCall.TheVariants as object
-use Rattle.flow_steps.specs.FlowAnswers.{asked_at, still}
-use Rattle.body_laws.proofs.FlowBodyLemmas.{fits_unchanged}
-use Rattle.call_readings.specs.declared.answers.Answered.{Answered}
+use Rattle.call_heads.proofs.AnswerLemmas.{IsOtherCall, fits_unchanged, other_answered}
 use Rattle.call_changes.specs.AnsweredChanges.{IsChangeAnswered}
-use Rattle.call_objects.specs.AnsweredCalls.{IsCallAnswered}
-use Rattle.call_objects.proofs.AnsweredLemmas.{IsOtherCall, answered, reads_none}
 
 -- a call that uploads no body
 abbrev pub UploadsNone : Call → Type 0
@@ -38,10 +34,10 @@ pub of_change : (old new : LakeSeat) (number : ℕ) (call : Call) (moment faults
 of_change old new number call moment faults misses missed held answer change other uploads =
     let met : CallMet = met_still faults misses missed in
     let flow = change.flow met (λ failed counting. omega arith) in
-    answered old new number call moment (still faults misses missed) held held answer met answer.reply flow (inl refl) refl refl refl
+    other_answered old new number call moment (still faults misses missed) held held answer met answer.reply flow (inl refl) refl refl refl
     (omega arith, omega arith)
     (fits_unchanged old new number (asked_at call moment) met answer.reply answer.position answer.edge held held flow uploads refl)
-    (reads_none old held call answer.reply answer.position other) change.turn
+    other change.turn
 
 -- a call that is another way of writing one that was answered
 pub same_call : (old new : LakeSeat) (number : ℕ) (moment faults misses missed : ℕ) (held : Option HeldObjects) (answer : Answered) (call written : Call)

@@ -6,7 +6,7 @@ use Rattle.lake_calls.specs.declared.names.NamingCall.{NamingCall}
 use Rattle.lake_calls.specs.declared.objects.ListCall.{ListCall}
 use Rattle.lake_calls.specs.declared.objects.ObjectCall.TheVariants as object
 use Rattle.lake_calls.specs.declared.objects.ReadCall.{ReadCall}
-use Rattle.call_objects.proofs.AnsweredLemmas.{IsOtherCall}
+use Rattle.call_heads.proofs.AnswerLemmas.{IsOtherCall}
 use Rattle.lake_api.proofs.ChangeLemmas.{UploadsNone}
 
 pub of_names : (call : NamingCall) → IsOtherCall (any.Names call)

@@ -1,23 +1,20 @@
 //! A call is answered, whatever it is: by its step or by its flow.
 ghost use Rattle.std.specs.Prelude.{◌≡◌};
 ghost use Rattle.lake_calls.specs.declared.call.Call.TheVariants as any;
-ghost use Rattle.read_flow.specs.ObjectReads.{counted_between};
-ghost use Rattle.call_objects.specs.AnsweredCalls.{IsCallAnswered};
+ghost use Rattle.call_heads.specs.AnswerWords.{IsCallAnswered, counted_between};
 
 use block_store::Blocks;
 use call_changes::{
     create_branch, create_repository, create_tag, delete_branch, delete_tag, set_hooks,
     set_protection,
 };
-use call_heads::{cherry_pick, commit, merge, revert};
-use call_objects::{copy, delete, link, read, reset, upload};
-use call_readings::{
-    Answered, get_branch, get_commit, get_hooks, get_protection, get_tag, list_branches,
-    list_objects, list_repositories, list_tags, log, stat_object,
+use call_heads::{
+    Answered, Client, LakeSeat, Pause, Shared, cherry_pick, commit, copy, delete, get_branch,
+    get_commit, get_hooks, get_protection, get_tag, link, list_branches, list_objects,
+    list_repositories, list_tags, log, merge, read, reset, revert, stat_object, upload,
 };
 use keeper::Keeper;
 use lake_calls::{Call, HeadCall, NamingCall, ObjectCall, SettingCall};
-use shared_lake::{Client, LakeSeat, Pause, Shared};
 use std::alloc::Global;
 use std::sync::Wait;
 

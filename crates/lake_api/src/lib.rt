@@ -8,5 +8,5 @@
 
 mod calls;
 
-pub use call_readings::Answered;
+pub use call_heads::{Answered, Client, LakeSeat, NoPause, Shared};
 pub use calls::answer;

@@ -9,7 +9,7 @@ use Rattle.lake_calls.specs.declared.heads.HeadCall.{HeadCall}
 use Rattle.lake_calls.specs.declared.heads.HeadCall.TheVariants as head
 use Rattle.lake_calls.specs.declared.reply.Done.{Done}
 use Rattle.lake_calls.specs.declared.reply.Done.TheVariants as done
-use Rattle.call_readings.specs.ToldFaults.{AreNames}
+use Rattle.call_objects.specs.CallWords.{AreNames}
 use Rattle.call_objects.proofs.ReadingLemmas.{of_reading}
 use Rattle.call_heads.proofs.AnsweredHeadLemmas.{answered, other_call}
 use Rattle.call_heads.proofs.heads.cherry_pick.Goals as goal

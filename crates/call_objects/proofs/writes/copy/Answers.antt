@@ -3,9 +3,9 @@ use Rattle.lake_calls.specs.CallRefusals.{names_of}
 use Rattle.lake_calls.specs.declared.call.Call.TheVariants.{Objects}
 use Rattle.lake_calls.specs.declared.objects.CopyCall.{CopyCall}
 use Rattle.lake_calls.specs.declared.objects.ObjectCall.TheVariants as object
-use Rattle.flow_steps.specs.FlowAnswers.{still}
+use Rattle.read_flow.specs.FlowWords.{still}
 use Rattle.read_flow.specs.ObjectReads.{counted_between}
-use Rattle.write_flow.specs.WriteFlows.{IsCopyTold}
+use Rattle.read_flow.specs.WrittenWords.{IsCopyTold}
 use Rattle.call_objects.specs.declared.writes.Stands.TheVariants.{Copied}
 use Rattle.call_objects.proofs.ReadingLemmas.{of_reading}
 use Rattle.call_objects.proofs.WriteLemmas.{copy_stands, object_answered, still_counted}

@@ -4,7 +4,7 @@ use Rattle.lake_calls.specs.declared.call.Call.TheVariants.{Objects}
 use Rattle.lake_calls.specs.declared.objects.DeleteCall.{DeleteCall}
 use Rattle.lake_calls.specs.declared.objects.ObjectCall.TheVariants as object
 use Rattle.lake_calls.specs.declared.reply.Done.TheVariants as done
-use Rattle.flow_steps.specs.FlowAnswers.{still}
+use Rattle.read_flow.specs.FlowWords.{still}
 use Rattle.read_flow.specs.ObjectReads.{counted_between}
 use Rattle.call_readings.proofs.OutcomeLemmas.{names_of_name}
 use Rattle.call_objects.proofs.WriteLemmas.{IsWithoutEntry, change_answered, still_counted}

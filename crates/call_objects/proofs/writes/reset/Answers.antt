@@ -6,7 +6,7 @@ use Rattle.lake_calls.specs.declared.call.Call.TheVariants.{Names}
 use Rattle.lake_calls.specs.declared.names.NamingCall.TheVariants as naming
 use Rattle.lake_calls.specs.declared.names.ResetCall.{ResetCall}
 use Rattle.lake_calls.specs.declared.reply.Done.TheVariants as done
-use Rattle.flow_steps.specs.FlowAnswers.{still}
+use Rattle.read_flow.specs.FlowWords.{still}
 use Rattle.read_flow.specs.ObjectReads.{counted_between}
 use Rattle.call_readings.proofs.OutcomeLemmas.{names_of_name}
 use Rattle.call_objects.specs.AnsweredCalls.{IsCallAnswered}

@@ -4,7 +4,7 @@ use Rattle.lake_calls.specs.CallRefusals.{names_in}
 use Rattle.lake_calls.specs.declared.call.Call.TheVariants.{Objects}
 use Rattle.lake_calls.specs.declared.objects.ObjectCall.TheVariants as object
 use Rattle.read_flow.specs.ObjectReads.{counted_between}
-use Rattle.write_flow.specs.Uploads.{IsUploadTold}
+use Rattle.read_flow.specs.WrittenWords.{IsUploadTold}
 use Rattle.call_readings.proofs.OutcomeLemmas.{names_of_name}
 use Rattle.call_objects.specs.declared.writes.Stands.TheVariants.{Uploaded}
 use Rattle.call_objects.specs.AnsweredCalls.{IsCallAnswered}

@@ -1,6 +1,6 @@
 use Rattle.std.proofs.Common.{ap}
 use Rattle.lake_calls.specs.declared.call.Call.TheVariants as any
-use Rattle.call_objects.proofs.ReadingLemmas.{of_reading}
+use Rattle.call_heads.proofs.AnswerLemmas.{of_reading}
 use Rattle.lake_api.proofs.ChangeLemmas.{of_change, same_call}
 use Rattle.lake_api.proofs.OtherCalls.{of_names, names_none}
 use Rattle.lake_api.proofs.calls.answer_naming.Goals as goal

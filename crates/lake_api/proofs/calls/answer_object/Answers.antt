@@ -1,6 +1,6 @@
 use Rattle.std.proofs.Common.{ap}
 use Rattle.lake_calls.specs.declared.call.Call.TheVariants as any
-use Rattle.call_objects.proofs.ReadingLemmas.{of_reading}
+use Rattle.call_heads.proofs.AnswerLemmas.{of_reading}
 use Rattle.lake_api.proofs.ChangeLemmas.{same_call}
 use Rattle.lake_api.proofs.OtherCalls.{of_stat, of_list}
 use Rattle.lake_api.proofs.calls.answer_object.Goals as goal
