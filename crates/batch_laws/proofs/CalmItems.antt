@@ -27,6 +27,7 @@ use Rattle.flow_steps.specs.FlowSeats.{opened_state, state_at}
 use Rattle.lake_batch.proofs.SeatLemmas.{starved_text}
 use Rattle.lake_batch.specs.CommandWords.{SessionItem, call_item, item_text}
 use Rattle.lake_batch.specs.CommandWords.{closes_behind, last_reply, told_text}
+use Rattle.shared_lake.specs.SeatSteps.{LakeSeat}
 use Rattle.lake_batch.specs.CommandWords.{StoreView}
 use Rattle.lake_batch.specs.CommandWords.{AreCounted, TellsHeld}
 use Rattle.lake_batch.specs.CommandWords.{Answered, AnsweredUnwritten, Exchanges, LakeView, ServesItems, Starved, Unread, UnservedUnwritten}
@@ -44,8 +45,8 @@ use Rattle.batch_laws.proofs.LoneSeats.{IsLone, OfCall, OfForm, ServedBy, by_one
 none_rose : (before now : ℕ) → before ≤ now → now ≡ 0 → (now < 18446744073709551615 → before < now) → ⊥
 none_rose before now le is rose = let risen = rose (omega (arith, is)) in omega (arith, le, is, risen)
 
-no_fault : (old now : StoreView) (item : SessionItem) → AreCounted old (item ∷ []) now → now.faults ≡ 0 → HasRisen item.met.block_faults → ⊥
-no_fault old now item (between, counted, later) calm rose =
+no_fault : (seat : LakeSeat) (old now : StoreView) (item : SessionItem) → AreCounted seat old (item ∷ []) now → now.faults ≡ 0 → HasRisen item.met.block_faults → ⊥
+no_fault seat old now item (between, counted, given, later) calm rose =
     let same : between.faults ≡ 0 = sym (ap (λ (s : StoreView). s.faults) later) ∙ calm in
     none_rose old.faults between.faults counted.faults_rise same (subst HasRisen counted.faults rose)
 
@@ -103,7 +104,7 @@ module _ (opened : State) (old now : LakeView) (lone : IsLone opened old.seat) (
           among = subst (λ (l : List HistoryEntry). Contains l (faulted_entry (by_caller by_one) operation)) (sym serves.goes.seen)
               (Contains-append_right old.seat.seen serves.goes.added _ among);
         }))
-        (no_fault old.store now.store item serves.counted calm)
+        (no_fault now.seat old.store now.store item serves.counted calm)
         (λ c reads. read_had item serves c (asks ∙ ap Asks reads))
 
     -- an exchange of which it isn't written that no memory was left

@@ -37,11 +37,11 @@ same_faults old now same = let is = ap (λ (v : CommandView). v.lake.store.fault
 
 exchange_rises : (request : Request) (old now : LakeView) (written : Option (List ℕ)) → Exchanges request old now written
     → old.store.faults ≤ now.store.faults
-exchange_rises request old now written (Answered item is read serves text) = faults_rise old.store now.store (item ∷ []) serves.counted
-exchange_rises request old now written (Unread fault sent is replies serves text) = faults_rise old.store now.store [] serves.counted
-exchange_rises request old now written (Starved serves text) = faults_rise old.store now.store [] serves.counted
-exchange_rises request old now written (AnsweredUnwritten item is read serves text) = faults_rise old.store now.store (item ∷ []) serves.counted
-exchange_rises request old now written (UnservedUnwritten serves text) = faults_rise old.store now.store [] serves.counted
+exchange_rises request old now written (Answered item is read serves text) = faults_rise now.seat old.store now.store (item ∷ []) serves.counted
+exchange_rises request old now written (Unread fault sent is replies serves text) = faults_rise now.seat old.store now.store [] serves.counted
+exchange_rises request old now written (Starved serves text) = faults_rise now.seat old.store now.store [] serves.counted
+exchange_rises request old now written (AnsweredUnwritten item is read serves text) = faults_rise now.seat old.store now.store (item ∷ []) serves.counted
+exchange_rises request old now written (UnservedUnwritten serves text) = faults_rise now.seat old.store now.store [] serves.counted
 
 module _ (old now : CommandView) where
   shown_rises : (host : List ℕ) (words : List (List ℕ)) (shown : Shown) → CommandShows host words old now shown

@@ -38,7 +38,7 @@ module _ (before : BatchView) (begin end : CommandView) (is : IsBegun before beg
       subst (λ seen. FitsState (state_at is.seat.fresh.origin seen) (get none)) (sym is.seat.fresh.seen)
       (subst (λ state. FitsState state (get none)) (sym is.seat.fresh.fresh) (fresh_fits usual_cut (get none)))
 
-  holds_bodies : HoldsBodies end
+  pub holds_bodies : HoldsBodies end
   unfolding none
   holds_bodies =
       let kept = passes.fits is.seat.fresh.origin none is.seat.alone is.seat.fresh.from (ap (λ (s : StoreView). s.held) is.store) fits_first in

@@ -16,7 +16,7 @@ use Rattle.lake_batch.specs.CommandWords.{CommandView, GoesThrough, LineEnds}
 -- what commands work on before the first line: a fresh lake, a store of objects that holds none, and the files
 pub record IsBegun (batch : BatchView) (begin : CommandView) : Type 0 where
   pub seat : IsLoneSeat begin.lake.seat
-  pub store : begin.lake.store ≡ record { held = Some empty; faults = 0; misses = 0 }
+  pub store : begin.lake.store ≡ record { held = Some empty; faults = 0; misses = 0; missed = 0 }
   pub files : begin.files ≡ batch.files
 
 -- The requests are made at the clock's next readings, or all at one moment, as far as their readings are told; and then

@@ -39,6 +39,7 @@ impl<'r, 'l, 's, 'b, W: Wait, K: Keeper, B: Blocks, C: Clock, F: Files> LineServ
               held = B.held old.blocks.now;
               faults = B.faults old.blocks.now;
               misses = B.misses old.blocks.now;
+              missed = B.missed old.blocks.now;
             };
             seat = old.seat.now;
           };
@@ -51,6 +52,7 @@ impl<'r, 'l, 's, 'b, W: Wait, K: Keeper, B: Blocks, C: Clock, F: Files> LineServ
               held = B.held now.blocks.now;
               faults = B.faults now.blocks.now;
               misses = B.misses now.blocks.now;
+              missed = B.missed now.blocks.now;
             };
             seat = now.seat.now;
           };

@@ -1,6 +1,7 @@
 -- What came of the lines of the generator, from what became of them where they were served.
-use Rattle.std.proofs.Common.{◌≡◌, ◌++◌, ◌∷◌, [], ⊎_elim, ℕ, List, Some, IfSome, All, Result, Ok, Err, refl, sym, ap, ◌∙◌, subst}
+use Rattle.std.proofs.Common.{◌≡◌, ◌++◌, ◌∷◌, [], ⊎_elim, ℕ, List, Some, None, IfSome, All, Result, Ok, Err, refl, sym, ap, ◌∙◌, subst}
 use Rattle.std.specs.Prelude.{MatchResult}
+use Rattle.std.specs.FinMap.{empty}
 use Rattle.lake_base.specs.Clocks.{FixedClockValue, fixed_readings}
 use Rattle.lake_base.specs.declared.digest.Digest.{Digest}
 use Rattle.lake_base.specs.declared.outside.Trouble.TheVariants.{NoMemory}
@@ -17,6 +18,9 @@ use Rattle.batch_lines.specs.ServedLines.{AreServed, LineEffect, LineReply}
 use Rattle.batch_lines.specs.declared.status.ExitStatus.{ExitStatus}
 use Rattle.batch_lines.specs.declared.status.ExitStatus.TheVariants.{OutOfMemory}
 use Rattle.batch_lines.proofs.SeenOutcomes.{lines_seen}
+use Rattle.lake_batch.specs.BatchViews.{BatchView}
+use Rattle.lake_batch.specs.Batches.{IsBegun as IsBegunBatch}
+use Rattle.lake_batch.proofs.BatchLemmas.{holds_bodies}
 use Rattle.lake_batch.proofs.MomentLemmas.{still_moments}
 use Rattle.lake_batch.proofs.SeatLemmas.{Grew, pass_lines}
 use Rattle.program_words.specs.declared.generator.Generator.{Generator}
@@ -62,7 +66,15 @@ line_starves text view = by (line_of text)
 module _ {L : Type 0} (serves : List ℕ → L → L → LineReply → Type 0) (view : L → CommandView)
     (agree : (line : List ℕ) (old now : L) (reply : LineReply) → serves line old now reply → LineEnds line (view old) (view now) reply)
     (asked : Generator) (first last : L) (begun : IsBegun (view first)) (clock : FixedClockValue)
-    (reads : (view last).lake.readings ≡ fixed_readings clock) where
+    (reads : (view last).lake.readings ≡ fixed_readings clock) (calm : (view last).lake.store.faults ≡ 0) where
+  -- the same, as a batch without files begins
+  no_files : BatchView
+  no_files = record { left = None; written = None; sink_faults = 0; readings = None; files = Some empty }
+
+  begun_batch : IsBegunBatch no_files (view first)
+  unfolding no_files
+  begun_batch = record { seat = begun.seat; store = begun.store; files = begun.files }
+
   run_of : (lines : List (List ℕ)) (effects : List LineEffect) → AreServed serves lines first effects last
       → AreRun lines effects
   run_of lines effects served =
@@ -77,6 +89,8 @@ module _ {L : Type 0} (serves : List ℕ → L → L → LineReply → Type 0) (
             (still_moments 0 clock (subst (λ now. Grew (Some (0 ∷ [])) now) reads
             (subst (λ old. Grew old (view last).lake.readings) begun.moment passes.grew)));
         goes = passes.goes;
+        bodies = holds_bodies no_files (view first) (view last) begun_batch passes;
+        calm = calm;
       }
 
   stopped : (status : ExitStatus) → HasStopped serves first (generated_lines asked.number asked.objects) status last → IsUntold asked status

@@ -6,6 +6,7 @@ use Rattle.lake_base.specs.declared.digest.Digest.{Digest}
 use Rattle.lake_model.specs.History.{replay}
 use Rattle.lake_model.specs.Soundness.{fresh}
 use Rattle.fresh_lakes.specs.FreshLakes.{IsLoneSeat, usual_cut}
+use Rattle.lake_batch.specs.Batches.{HoldsBodies}
 use Rattle.lake_batch.specs.CommandWords.{GoesThrough}
 use Rattle.http_wire.specs.SinkFronts.{Wrote, WroteFront}
 use Rattle.lake_batch.specs.CommandWords.{CommandView, LineEnds}
@@ -26,12 +27,12 @@ pub record SinkView : Type 0 where
 -- what commands work on before the first line: a fresh lake, a store that holds no object, no files, and the moment 0
 pub record IsBegun (begin : CommandView) : Type 0 where
   pub seat : IsLoneSeat begin.lake.seat
-  pub store : begin.lake.store ≡ record { held = Some empty; faults = 0; misses = 0 }
+  pub store : begin.lake.store ≡ record { held = Some empty; faults = 0; misses = 0; missed = 0 }
   pub files : begin.files ≡ Some empty
   pub moment : begin.lake.readings ≡ Some (0 ∷ [])
 
 -- LINES ARE COMMANDS on a fresh lake in memory: each works on what the one before left, at the moment 0, as far as moments are told; and what
--- they made is one legal history.
+-- they made is one legal history. Its bodies are all held, and the store of objects counted no failure.
 pub record AreRun (lines : List (List ℕ)) (effects : List LineEffect) : Type 0 where
   pub begin : CommandView
   pub end : CommandView
@@ -39,6 +40,8 @@ pub record AreRun (lines : List (List ℕ)) (effects : List LineEffect) : Type 0
   pub each : AreServed LineEnds lines begin effects end
   pub still : IfSome end.lake.readings (λ readings. All (λ reading. reading ≡ 0) readings)
   pub goes : GoesThrough begin.lake.seat end.lake.seat
+  pub bodies : HoldsBodies end
+  pub calm : end.lake.store.faults ≡ 0
 
 -- ALL LINES of the generator were run, and none failed
 pub record HasRun (asked : Generator) : Type 0 where

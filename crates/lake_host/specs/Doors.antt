@@ -48,6 +48,7 @@ host_views readings accepted returned faults = record {
   held = λ blocks. Some blocks.held;
   block_faults = λ blocks. 0;
   misses = λ blocks. blocks.misses;
+  missed = λ blocks. blocks.missed;
   readings = readings;
   accepted = accepted;
   returned = returned;

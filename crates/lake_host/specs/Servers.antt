@@ -14,7 +14,8 @@ use Rattle.lake_host.specs.Workers.{AreBegun, any_failed}
 
 -- A SERVER HAS SERVED: a worker at each of these seats, each its share of the connections, one session after the other. What their
 -- seats have seen are fronts of the one history of the lake that is handed out. Where the host tells
--- it, the listeners are those that it gave at the address, in order, and it was given back each. It is told whether a listener failed its worker.
+-- it, the listeners are those that it gave at the address, in order, and it was given back each. No worker's store of objects counted a failure.
+-- It is told whether a listener failed its worker.
 pub record HasServedAll {K : Type 0} (view : KeeperView K) (seats : List LakeSeat) (at : List ℕ) (connections : Option ℕ)
     (before after : HostView) (end : ServerEnd) (lake : LakeValue K) : Type 0 where
   pub begins : List WorkerView
@@ -22,6 +23,7 @@ pub record HasServedAll {K : Type 0} (view : KeeperView K) (seats : List LakeSea
   pub begun : AreBegun connections (length seats) 0 seats begins
   pub served : HaveServed begins ends
   pub finds : All (λ worker. Finds view worker.carried.seat lake) ends
+  pub calm : All (λ worker. worker.carried.store.faults ≡ 0) ends
   pub opened : IfSome before.opened (λ doors. after.opened ≡ Some (doors ++ opened_at at (map door_of begins)))
   pub returned : IfSome before.returned (λ doors. after.returned ≡ Some (doors ++ map door_of ends))
   pub tells : end ≡ (if any_failed ends then Failed else Done)

@@ -8,7 +8,7 @@ use Rattle.lake_host.specs.Shares.{share_of}
 -- a worker that begins: at this seat, with an empty store of objects and so many connections to serve
 pub record IsBegun (at : LakeSeat) (share : Option ℕ) (worker : WorkerView) : Type 0 where
   pub seat : worker.carried.seat ≡ at
-  pub store : worker.carried.store ≡ record { held = Some empty; faults = 0; misses = 0 }
+  pub store : worker.carried.store ≡ record { held = Some empty; faults = 0; misses = 0; missed = 0 }
   pub connections : worker.connections ≡ share
   pub served : worker.served ≡ 0
   pub failed : worker.failed ≡ false

@@ -97,17 +97,19 @@ pub record PartViews (B C L : Type 0) : Type 0 where
   pub held : B → Option HeldObjects
   pub block_faults : B → ℕ
   pub misses : B → ℕ
+  pub missed : B → ℕ
   pub readings : C → Option (List ℕ)
   pub accepted : L → Option (List Streams)
   pub returned : L → Option (List Returned)
   pub faults : L → ℕ
 
-abbrev pub part_views : {B C L : Type 0} → (held : B → Option HeldObjects) → (block_faults misses : B → ℕ) → (readings : C → Option (List ℕ))
+abbrev pub part_views : {B C L : Type 0} → (held : B → Option HeldObjects) → (block_faults misses missed : B → ℕ) → (readings : C → Option (List ℕ))
     → (accepted : L → Option (List Streams)) → (returned : L → Option (List Returned)) → (faults : L → ℕ) → PartViews B C L
-part_views held block_faults misses readings accepted returned faults = record {
+part_views held block_faults misses missed readings accepted returned faults = record {
   held = held;
   block_faults = block_faults;
   misses = misses;
+  missed = missed;
   readings = readings;
   accepted = accepted;
   returned = returned;
@@ -120,7 +122,12 @@ worker_view show worker = record {
   carried = record {
     seat = worker.seat;
     readings = show.readings worker.clock;
-    store = record { held = show.held worker.blocks; faults = show.block_faults worker.blocks; misses = show.misses worker.blocks };
+    store = record {
+      held = show.held worker.blocks;
+      faults = show.block_faults worker.blocks;
+      misses = show.misses worker.blocks;
+      missed = show.missed worker.blocks;
+    };
   };
   accepted = show.accepted worker.listener;
   returned = show.returned worker.listener;

@@ -36,7 +36,7 @@ pub fn serve_connections<K: Keeper, B: Blocks, C: Clock, L: Listen, W: Wait>(
     worker: &mut Worker<B, C, L>,
 )
     requires { IsReady lake.now worker.old }
-    ensures { let views = part_views B.held B.faults B.misses C.readings L.accepted L.returned L.faults in
+    ensures { let views = part_views B.held B.faults B.misses B.missed C.readings L.accepted L.returned L.faults in
         HasServed (worker_view views worker.old) (worker_view views worker.new) }
 {
     for _ in rt.forever() {
@@ -71,9 +71,9 @@ fn serve_one<K: Keeper, B: Blocks, C: Clock, L: Listen, W: Wait>(
     worker: &mut Worker<B, C, L>,
 ) -> Result<(), Failed>
     requires { worker.old.seat.turn ≡ lake.now }
-    ensures serves { let views = part_views B.held B.faults B.misses C.readings L.accepted L.returned L.faults in
+    ensures serves { let views = part_views B.held B.faults B.misses B.missed C.readings L.accepted L.returned L.faults in
         ServesOrFails (worker_view views worker.old) (worker_view views worker.new) result }
-    ensures counting { let views = part_views B.held B.faults B.misses C.readings L.accepted L.returned L.faults in
+    ensures counting { let views = part_views B.held B.faults B.misses B.missed C.readings L.accepted L.returned L.faults in
         GoesOnCounting (worker_view views worker.old) (worker_view views worker.new) }
 {
     let (mut input, mut output) = worker.listener.accept()?;

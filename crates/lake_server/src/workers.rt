@@ -24,13 +24,13 @@ pub fn serve_workers<
     W: Threads + Wait + Sync,
 >(rt: &W, alloc: Global, lake: &Shared<K>, workers: &mut [Worker<B, C, L>])
     requires { All (λ worker. IsReady lake.now worker) workers.old }
-    ensures { let views = part_views B.held B.faults B.misses C.readings L.accepted L.returned L.faults in
+    ensures { let views = part_views B.held B.faults B.misses B.missed C.readings L.accepted L.returned L.faults in
         HaveServed (map (worker_view views) workers.old) (map (worker_view views) workers.new) }
 {
     let threads = workers.len().max(1);
     let serve = |_: usize, worker: &mut Worker<B, C, L>|
         requires { IsReady lake.now worker.now }
-        ensures { let views = part_views B.held B.faults B.misses C.readings L.accepted L.returned L.faults in
+        ensures { let views = part_views B.held B.faults B.misses B.missed C.readings L.accepted L.returned L.faults in
             HasServed (worker_view views worker.entry.now) (worker_view views worker.exit.now) }
     { serve_connections(rt, alloc, lake, worker) };
     for_each_mut(rt, workers, threads, &serve);

@@ -1,11 +1,11 @@
 -- A request was answered: by the call that it asks for, by the refusal of its form, or by want of memory.
-use Rattle.std.proofs.Common.{◌≡◌, ◌∙◌, ℕ, [], length, Option, Some, Err, inl, inr, refl, sym, subst, arith}
+use Rattle.std.proofs.Common.{◌≡◌, ◌∙◌, ℕ, [], length, Option, Some, None, Err, inl, inr, refl, sym, subst, arith}
 use Rattle.std.proofs.lemmas.List.{append-nil}
 use Rattle.std.proofs.lemmas.List.Elements.{All-nil}
 use Rattle.block_store.specs.Blocks.{HeldObjects}
 use Rattle.http_wire.specs.declared.message.Request.{Request}
 use Rattle.lake_core.specs.declared.standing.LakeOrigin.{LakeOrigin}
-use Rattle.shared_lake.specs.SeatSteps.{LakeSeat}
+use Rattle.lake_api.specs.AnswerWords.{Answered, IsCallAnswered, IsFlow, LakeSeat, ReadsGiven, ReadsHeld, asked_at, counted_between, opened_state}
 use Rattle.call_placement.specs.Served.{ByMemory, Keeps, IsServed}
 use Rattle.call_placement.specs.Sessions.{IsItemServed, IsOnlyServed, caller}
 use Rattle.lake_calls.specs.CallExceptions.{CallMet, nothing_met}
@@ -16,17 +16,10 @@ use Rattle.lake_calls.specs.declared.call.Call.{Call}
 use Rattle.lake_calls.specs.declared.reply.CallReply.{CallReply}
 use Rattle.lake_calls.specs.declared.reply.CallReply.TheVariants as reply
 use Rattle.lake_calls.specs.declared.reply.FormRefusal.{FormRefusal}
-use Rattle.flow_steps.specs.FlowAnswers.{asked_at}
-use Rattle.flow_steps.specs.Flows.{IsFlow}
-use Rattle.flow_steps.specs.FlowSeats.{opened_state}
-use Rattle.flow_steps.proofs.FlowEndLemmas.{reached_nothing, served_stopped}
-use Rattle.read_flow.specs.ObjectReads.{counted_between}
+use Rattle.lake_api.proofs.AnswerLemmas.{reached_nothing, served_stopped}
 use Rattle.api_routes.specs.declared.fault.FormFault.{FormFault}
 use Rattle.api_routes.specs.declared.fault.FormFault.TheVariants as form
 use Rattle.api_forms.specs.CallForms.{IsAsked, asked}
-use Rattle.call_readings.specs.declared.answers.Answered.{Answered}
-use Rattle.call_objects.specs.AnsweredCalls.{IsCallAnswered}
-use Rattle.call_objects.specs.HeldReplies.{ReadsHeld}
 use Rattle.lake_session.specs.SessionViews.{IsRequestAnswered, StoreView}
 
 -- ---- a call
@@ -43,35 +36,46 @@ only_served old new number request met told position edge origin flow from =
     (flow.served, (flow.goes.added, flow.goes.seen, flow.goes.of_call))
 
 -- the call that is asked for was answered
-by_call : (number edge : ℕ) (request : Request) (moment : ℕ) (before now : StoreView) (old new : LakeSeat) (answer : Answered) (call : Call) (missed : ℕ)
+by_call : (number edge : ℕ) (request : Request) (moment : ℕ) (before now : StoreView) (old new : LakeSeat) (answer : Answered) (call : Call)
     → asked request ≡ Asks call
-    → IsCallAnswered old new number call moment (counted_between before.faults before.misses now.faults now.misses missed) before.held now.held answer
+    → IsCallAnswered old new number call moment (counted_between before.faults before.misses now.faults now.misses now.missed) before.held now.held answer
     → IsRequestAnswered number edge request moment before now old new answer
-by_call number edge request moment before now old new answer call missed asks is = record {
+by_call number edge request moment before now old new answer call asks is = record {
   met = is.met;
   served = λ origin from. subst (λ (a : Asked). IsItemServed lake_rules (opened_state origin) (caller old.number number) edge old.seen new.seen
       (record { request = record { asked = a; moment = moment }; met = is.met; reply = answer.reply; position = answer.position }) answer.edge (form_of a))
       (sym asks)
       (only_served old new number (asked_at call moment) is.met answer.reply answer.position answer.edge origin is.flow from);
   moves = inr (is.flow.origin, is.flow.goes, is.turn);
-  counted = record { faults = is.faults; misses = is.misses; faults_rise = is.counts.0; misses_rise = is.counts.1 };
+  counted = record {
+    faults = is.faults;
+    misses = is.misses;
+    missed_last = is.missed_last;
+    faults_rise = is.counts.0;
+    misses_rise = is.counts.1;
+  };
   fitting = is.fitting;
+  given = λ other asks_other.
+      let same : call ≡ other = cc (asks, asks_other) in
+      subst (λ (c : Call). ReadsGiven old new before.held c is.met.bytes answer.reply answer.position) same is.given;
   reads = λ other asks_other.
       let same : call ≡ other = cc (asks, asks_other) in
       subst (λ (c : Call). ReadsHeld old before.held c answer.reply answer.position) same is.reads;
 }
 
 -- the same by what a store shows, whose value now is the one that the call left
-pub call_answered : {D : Type 0} (held : D → Option HeldObjects) (faults misses : D → ℕ) (number edge : ℕ) (request : Request) (moment : ℕ)
-    (before now left : D) (old new : LakeSeat) (answer : Answered) (call : Call) (missed : ℕ) → now ≡ left → asked request ≡ Asks call
-    → IsCallAnswered old new number call moment (counted_between (faults before) (misses before) (faults left) (misses left) missed)
-    (held before) (held left) answer
-    → IsRequestAnswered number edge request moment (record { held = held before; faults = faults before; misses = misses before })
-    (record { held = held now; faults = faults now; misses = misses now }) old new answer
-call_answered {D} held faults misses number edge request moment before now left old new answer call missed same asks is =
-    subst (λ (d : D). IsRequestAnswered number edge request moment (record { held = held before; faults = faults before; misses = misses before })
-    (record { held = held d; faults = faults d; misses = misses d }) old new answer) (sym same)
-    (by_call number edge request moment _ _ old new answer call missed asks is)
+module _ {D : Type 0} (held : D → Option HeldObjects) (faults misses missed : D → ℕ) where
+  abbrev view : D → StoreView
+  view store = record { held = held store; faults = faults store; misses = misses store; missed = missed store }
+
+  pub call_answered : (number edge : ℕ) (request : Request) (moment : ℕ) (before now left : D) (old new : LakeSeat) (answer : Answered) (call : Call)
+      → now ≡ left → asked request ≡ Asks call
+      → IsCallAnswered old new number call moment (counted_between (faults before) (misses before) (faults left) (misses left) (missed left))
+      (held before) (held left) answer
+      → IsRequestAnswered number edge request moment (view before) (view now) old new answer
+  call_answered number edge request moment before now left old new answer call same asks is =
+      subst (λ (d : D). IsRequestAnswered number edge request moment (view before) (view d) old new answer) (sym same)
+      (by_call number edge request moment (view before) (view left) old new answer call asks is)
 
 -- ---- a request that asks for no call, or for which memory ran out: nothing changed
 
@@ -81,6 +85,7 @@ module _ (number edge : ℕ) (request : Request) (moment : ℕ) (store : StoreVi
   still_met = record nothing_met {
     block_faults = record { before = store.faults; now = store.faults };
     misses = record { before = store.misses; now = store.misses };
+    missed_last = store.missed;
   }
 
   -- it was served so, by what is asked
@@ -91,14 +96,16 @@ module _ (number edge : ℕ) (request : Request) (moment : ℕ) (store : StoreVi
       answer.edge (form_of what)
 
   unchanged : ((origin : LakeOrigin) → Served (asked request) origin)
+      → ((call : Call) → asked request ≡ Asks call → ReadsGiven seat seat store.held call None answer.reply answer.position)
       → ((call : Call) → asked request ≡ Asks call → ReadsHeld seat store.held call answer.reply answer.position)
       → IsRequestAnswered number edge request moment store store seat seat answer
-  unchanged served reads = record {
+  unchanged served given reads = record {
     met = still_met;
     served = λ origin from. served origin;
     moves = inl refl;
-    counted = record { faults = refl; misses = refl; faults_rise = omega arith; misses_rise = omega arith };
+    counted = record { faults = refl; misses = refl; missed_last = refl; faults_rise = omega arith; misses_rise = omega arith };
     fitting = λ origin objects alone from held fits. (objects, held, fits);
+    given = given;
     reads = reads;
   }
 
@@ -130,10 +137,13 @@ module _ (number edge : ℕ) (request : Request) (moment : ℕ) (store : StoreVi
     | inl memory ↦
         let told = starved memory in
         unchanged (λ origin. starved_served told.0 told.1 edge_is (asked request) origin)
+        (λ call asks_call. subst (λ (r : CallReply). ReadsGiven seat seat store.held call None r answer.position) (sym told.0)
+        (λ c origin objects is from held. (told.1, tt)))
         (λ call asks_call. subst (λ (r : CallReply). ReadsHeld seat store.held call r answer.position) (sym told.0)
         (λ c origin objects is alone from held fits. (told.1, tt)))
     | inr form_refused ↦
         let told = refused form_refused.0 form_refused.1 in
         unchanged (λ origin. subst (λ (a : Asked). Served a origin) (sym form_refused.2) (inl told, refl, edge_is))
+        (λ call asks_call. let never : ⊥ = cc (form_refused.2, asks_call) in absurd never)
         (λ call asks_call. let never : ⊥ = cc (form_refused.2, asks_call) in absurd never)
   ]

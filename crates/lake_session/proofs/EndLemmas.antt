@@ -9,8 +9,7 @@ use Rattle.http_wire.specs.SinkFronts.{IsPrefix, Wrote, WroteFront}
 use Rattle.call_placement.proofs.SessionLemmas.{are_placed}
 use Rattle.lake_calls.specs.LakeRules.{lake_rules}
 use Rattle.lake_calls.proofs.RuleLemmas.{lawful}
-use Rattle.flow_steps.specs.FlowSeats.{opened_state}
-use Rattle.body_laws.specs.BodiesKept.{KeepsFitting}
+use Rattle.lake_api.specs.AnswerWords.{KeepsFitting, opened_state}
 use Rattle.lake_session.specs.declared.report.End.{End}
 use Rattle.lake_session.specs.declared.report.End.TheVariants as end
 use Rattle.lake_session.specs.declared.report.Placed.{Placed}
@@ -28,7 +27,7 @@ pub record Items (old next : SessionView) (items : List SessionItem) (edge : ℕ
   pub told : HasTold old.readings next.readings items
   pub goes : GoesThrough old.seat next.seat
   pub served : AreAllServed old.seat next.seat items edge
-  pub counted : AreCounted old.store items next.store
+  pub counted : AreCounted next.seat old.store items next.store
   pub fitting : KeepsFitting old.seat next.seat old.store.held next.store.held
   pub tells : AllTellHeld old.seat next.seat old.store.held items
   pub rose : (old.read_faults ≤ next.read_faults) × (old.write_faults ≤ next.write_faults)
@@ -123,7 +122,8 @@ unserved_items old now next tally tally_next items ended so ends rise = record {
   told = subst (λ r. HasTold old.readings r items) (sym ends.nothing.readings) so.told;
   goes = subst (GoesThrough old.seat) (sym ends.nothing.seat) so.goes;
   served = subst (λ s. AreAllServed old.seat s items tally.edge) (sym ends.nothing.seat) so.served;
-  counted = subst (AreCounted old.store items) (sym ends.nothing.store) so.counted;
+  counted = subst (λ s. AreCounted s old.store items next.store) (sym ends.nothing.seat)
+      (subst (AreCounted now.seat old.store items) (sym ends.nothing.store) so.counted);
   fitting = subst (λ s. KeepsFitting old.seat s old.store.held next.store.held) (sym ends.nothing.seat)
       (subst (λ store. KeepsFitting old.seat now.seat old.store.held store.held) (sym ends.nothing.store) so.fitting);
   tells = subst (λ s. AllTellHeld old.seat s old.store.held items) (sym ends.nothing.seat) so.tells;

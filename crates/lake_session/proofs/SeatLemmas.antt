@@ -7,10 +7,8 @@ use Rattle.lake_model.specs.declared.history.HistoryEntry.{HistoryEntry}
 use Rattle.lake_model.specs.History.{IsLegal}
 use Rattle.lake_model.specs.Soundness.{IsSound}
 use Rattle.lake_core.specs.declared.standing.LakeOrigin.{LakeOrigin}
-use Rattle.shared_lake.specs.SeatSteps.{LakeSeat, SeesOwn}
+use Rattle.lake_api.specs.AnswerWords.{KeepsFitting, LakeSeat, SeesOwn, opened_state}
 use Rattle.turn_lock.specs.Seats.{seat_after}
-use Rattle.flow_steps.specs.FlowSeats.{opened_state}
-use Rattle.body_laws.specs.BodiesKept.{KeepsFitting}
 use Rattle.lake_session.specs.SessionViews.{Moves}
 use Rattle.lake_session.specs.WholeSessions.{GoesThrough}
 

@@ -9,20 +9,18 @@ use Rattle.http_wire.proofs.ReadingLemmas.{gave_then}
 use Rattle.http_wire.specs.SinkFronts.{Wrote}
 use Rattle.lake_model.specs.declared.history.HistoryEntry.{HistoryEntry}
 use Rattle.lake_core.specs.declared.standing.LakeOrigin.{LakeOrigin}
-use Rattle.shared_lake.specs.SeatSteps.{LakeSeat}
+use Rattle.lake_api.specs.AnswerWords.{KeepsFitting, LakeSeat, opened_state}
 use Rattle.call_placement.specs.Sessions.{AreServed, IsItemServed, caller}
 use Rattle.call_placement.proofs.ServedLemmas.{one_more}
 use Rattle.lake_calls.specs.LakeRules.{lake_rules}
 use Rattle.lake_calls.specs.Requests.{form_of}
-use Rattle.flow_steps.specs.FlowSeats.{opened_state}
-use Rattle.body_laws.specs.BodiesKept.{KeepsFitting}
 use Rattle.api_forms.specs.CallForms.{asked}
 use Rattle.lake_session.specs.SessionItems.{AreFirst, NoneCloses, SessionItem, call_item, item_text, moments, placed_item, placed_items, texts}
 use Rattle.lake_session.specs.SessionTurns.{ServesWhole, Tally}
 use Rattle.lake_session.specs.SessionViews.{HasCounted, ServesItem, SessionView, StoreView, TakesRequest}
-use Rattle.lake_session.specs.WholeSessions.{AllTellHeld, AreCounted, GoesThrough, TellsHeld}
+use Rattle.lake_session.specs.WholeSessions.{AllTellHeld, AreCounted, GoesThrough, TellsGivenTo, TellsHeld}
 use Rattle.lake_session.proofs.ItemLemmas.{calls_long, calls_more, first_longer, first_more, moments_more, placed_more, texts_more}
-use Rattle.lake_session.proofs.SeatLemmas.{fits_at_first, fits_further, goes_further, seen_more, stays}
+use Rattle.lake_session.proofs.SeatLemmas.{fits_at_first, fits_further, goes_further, moved_origin, seen_more, stays}
 
 -- the calls of items were served, from one seat to the other
 abbrev pub AreAllServed : (old now : LakeSeat) → List SessionItem → (edge : ℕ) → Type 0
@@ -42,7 +40,7 @@ pub record SoFar (old now : SessionView) (tally : Tally) (items : List SessionIt
   pub told : HasTold old.readings now.readings items
   pub goes : GoesThrough old.seat now.seat
   pub served : AreAllServed old.seat now.seat items tally.edge
-  pub counted : AreCounted old.store items now.store
+  pub counted : AreCounted now.seat old.store items now.store
   pub fitting : KeepsFitting old.seat now.seat old.store.held now.store.held
   pub tells : AllTellHeld old.seat now.seat old.store.held items
   pub wrote : Wrote old.written now.written (texts 1 items)
@@ -93,11 +91,32 @@ wrote_more (Some before) between next one more first behind =
     let is = subst (λ b. Wrote b next more) first behind in
     is ∙ ap Some (append_assoc before one more)
 
-counted_more : (before between next : StoreView) (items : List SessionItem) (item : SessionItem) → AreCounted before items between
-    → HasCounted between next item.met → AreCounted before (items ++ item ∷ []) next
-counted_more before between next [] item counted one = (next, subst (λ b. HasCounted b next item.met) counted one, refl)
-counted_more before between next (first ∷ items) item counted one =
-    (counted.0, counted.1, counted_more counted.0 between next items item counted.2 one)
+-- what was told of bytes that the store gave stays told where the seat has seen more
+module _ (seat next : LakeSeat) (added : List HistoryEntry) (more : next.seen ≡ seat.seen ++ added) (origin_is : next.origin ≡ seat.origin) where
+  given_later : (held : Option HeldObjects) (item : SessionItem) → TellsGivenTo seat held item → TellsGivenTo next held item
+  given_later held item tells origin from c objects asks is =
+      let told = tells origin (sym origin_is ∙ from) c objects asks is in
+      (told.0, told.1 ++ added, more ∙ ap (λ l. l ++ added) told.2 ∙ append_assoc told.0 told.1 added, told.3, told.4)
+
+  counted_later : (before now : StoreView) (items : List SessionItem) → AreCounted seat before items now → AreCounted next before items now
+  counted_later before now [] counted = counted
+  counted_later before now (item ∷ items) counted =
+      (counted.0, counted.1, given_later before.held item counted.2, counted_later counted.0 now items counted.3)
+
+counted_more : (seat : LakeSeat) (before between next : StoreView) (items : List SessionItem) (item : SessionItem)
+    → AreCounted seat before items between → HasCounted between next item.met → TellsGivenTo seat between.held item
+    → AreCounted seat before (items ++ item ∷ []) next
+counted_more seat before between next [] item counted one given =
+    (next, subst (λ b. HasCounted b next item.met) counted one, subst (λ (b : StoreView). TellsGivenTo seat b.held item) counted given, refl)
+counted_more seat before between next (first ∷ items) item counted one given =
+    (counted.0, counted.1, counted.2, counted_more seat counted.0 between next items item counted.3 one given)
+
+-- an item tells of bytes that the store gave
+gives_item : (number edge next_edge : ℕ) (ahead ahead_now : List ℕ) (now next : SessionView) (item : SessionItem)
+    → ServesItem number edge next_edge ahead ahead_now now next item → TellsGivenTo next.seat now.store.held item
+gives_item number edge next_edge ahead ahead_now now next item serves origin from c objects asks is =
+    let given = serves.given _ asks c origin objects refl (sym (moved_origin number now.seat next.seat serves.moves) ∙ from) is in
+    (next.seat.seen, [], sym (append-nil next.seat.seen), given.0, given.1)
 
 served_more : (number : ℕ) (old now next : LakeSeat) (items : List SessionItem) (item : SessionItem) (edge call_edge edge_now : ℕ)
     → number ≡ length items + 1 → now.number ≡ old.number → now.origin ≡ old.origin → edge_now ≡ max edge call_edge
@@ -167,7 +186,7 @@ pub record Behind (number : ℕ) (old next : SessionView) (tally_next : Tally) (
   pub told : HasTold old.readings next.readings (items ++ item ∷ [])
   pub goes : GoesThrough old.seat next.seat
   pub served : AreAllServed old.seat next.seat (items ++ item ∷ []) tally_next.edge
-  pub counted : AreCounted old.store (items ++ item ∷ []) next.store
+  pub counted : AreCounted next.seat old.store (items ++ item ∷ []) next.store
   pub fitting : KeepsFitting old.seat next.seat old.store.held next.store.held
   pub tells : AllTellHeld old.seat next.seat old.store.held (items ++ item ∷ [])
 
@@ -178,13 +197,16 @@ goes_behind number old now next tally tally_next items item at so serves =
     let number_is = ap (λ (s : LakeSeat). s.number) so.goes.seat in
     let origin_is = ap (λ (s : LakeSeat). s.origin) so.goes.seat in
     let alone_is = ap (λ (s : LakeSeat). s.alone) so.goes.seat in
+    let more = seen_more number now.seat next.seat serves.moves in
     record {
       read = read_more old.unread now.unread next.unread tally.held tally_next.held items item so.read serves.request;
       told = told_more old.readings now.readings next.readings items item so.told serves.moment serves.clock_told;
       goes = goes_further number old.seat now.seat next.seat so.goes serves.moves;
       served = served_more number old.seat now.seat next.seat items item tally.edge serves.call_edge tally_next.edge at number_is origin_is
           serves.edge_is so.served serves.served;
-      counted = counted_more old.store now.store next.store items item so.counted serves.counted;
+      counted = counted_more next.seat old.store now.store next.store items item
+          (counted_later now.seat next.seat more.0 more.1 (moved_origin number now.seat next.seat serves.moves) old.store now.store items so.counted)
+          serves.counted (gives_item number tally.edge tally_next.edge tally.held tally_next.held now next item serves);
       fitting = fits_further old.seat now.seat next.seat old.store.held now.store.held next.store.held alone_is origin_is so.fitting serves.fitting;
       tells = tells_more number tally.edge tally_next.edge tally.held tally_next.held old.seat old.store.held now next items item alone_is origin_is
           so.fitting so.tells serves;

@@ -14,15 +14,13 @@ use Rattle.call_placement.specs.Sessions.{caller}
 use Rattle.lake_calls.specs.Requests.{Asked, Asks}
 use Rattle.lake_calls.specs.declared.call.Call.{Call}
 use Rattle.lake_calls.specs.declared.reply.CallReply.{CallReply}
-use Rattle.flow_steps.specs.FlowSeats.{opened_state}
+use Rattle.lake_api.specs.AnswerWords.{Answered, ReadsGiven, ReadsHeld, opened_state}
 use Rattle.api_forms.specs.CallForms.{asked}
-use Rattle.call_objects.specs.HeldReplies.{ReadsHeld}
-use Rattle.call_readings.specs.declared.answers.Answered.{Answered}
 use Rattle.lake_session.specs.declared.replies.Printed.{Printed}
 use Rattle.lake_session.specs.declared.report.End.{End}
 use Rattle.lake_session.specs.declared.report.End.TheVariants as end
 use Rattle.lake_session.specs.FaultEnds.{EndsBehind, EndsByFault}
-use Rattle.lake_session.specs.PrintedAnswers.{IsPrinted, Starved, StarvedForm, Whole, sent_by, told_by}
+use Rattle.lake_session.specs.PrintedAnswers.{IsPrinted, Starved, StarvedForm, Whole, sent_by, tells_form, told_by}
 use Rattle.lake_session.specs.SessionItems.{SessionItem, item_text, placed_item}
 use Rattle.lake_session.specs.SessionTexts.{Writes, last_reply, reply_to_fault, told_text}
 use Rattle.lake_session.specs.SessionTurns.{EndsSo, EndsUnserved, IsLeft, NothingServed, ServesWhole, Tally, TurnEnds, end_behind}
@@ -115,6 +113,14 @@ module _ (number edge moment : ℕ) (request : Request) (old now : SessionView) 
       (starves_form (opened_state origin) (caller old.seat.number number) edge old.seat.seen now.seat.seen moment answers.met (asked request) answer.reply
       answer.position answer.edge form (answers.served origin from))
 
+  -- what asks for a call isn't told that its form was refused
+  form_of_no_call : (call : Call) → asked request ≡ Asks call → tells_form answer.reply ≡ true → (origin : LakeOrigin) → old.seat.origin ≡ Some origin → ⊥
+  form_of_no_call call asks form origin from =
+      let served = subst (λ (a : Asked). IsServedSo (opened_state origin) (caller old.seat.number number) edge old.seat.seen now.seat.seen moment answers.met a
+      answer.reply answer.position answer.edge) asks (answers.served origin from) in
+      no_form call moment (opened_state origin) (caller old.seat.number number) old.seat.seen now.seat.seen answers.met answer.reply answer.position
+      answer.edge served.0 form
+
   reads_so : IsPrinted now.seat answer printed → (call : Call) → asked request ≡ Asks call
       → ReadsHeld old.seat old.store.held call told printed.position
   reads_so (Whole is) call asks =
@@ -124,11 +130,19 @@ module _ (number edge moment : ℕ) (request : Request) (old now : SessionView) 
       (λ c origin objects one alone from held fits. let read = answers.reads call asks c origin objects one alone from held fits in (read.0, tt))
   reads_so (StarvedForm form is) call asks =
       subst (λ (p : Printed). ReadsHeld old.seat old.store.held call (told_by answer.reply p.reply) p.position) (sym is)
-      (λ c origin objects one alone from held fits.
-      let served = subst (λ (a : Asked). IsServedSo (opened_state origin) (caller old.seat.number number) edge old.seat.seen now.seat.seen moment answers.met a
-      answer.reply answer.position answer.edge) asks (answers.served origin from) in
-      absurd (no_form call moment (opened_state origin) (caller old.seat.number number) old.seat.seen now.seat.seen answers.met answer.reply answer.position
-      answer.edge served.0 form))
+      (λ c origin objects one alone from held fits. absurd (form_of_no_call call asks form origin from))
+
+  given_so : IsPrinted now.seat answer printed → (call : Call) → asked request ≡ Asks call
+      → ReadsGiven old.seat now.seat old.store.held call answers.met.bytes told printed.position
+  given_so (Whole is) call asks =
+      subst (λ (p : Printed). ReadsGiven old.seat now.seat old.store.held call answers.met.bytes (told_by answer.reply p.reply) p.position) (sym is)
+      (answers.given call asks)
+  given_so (Starved none is) call asks =
+      subst (λ (p : Printed). ReadsGiven old.seat now.seat old.store.held call answers.met.bytes (told_by answer.reply p.reply) p.position) (sym is)
+      (λ c origin objects one from held. let given = answers.given call asks c origin objects one from held in (given.0, tt))
+  given_so (StarvedForm form is) call asks =
+      subst (λ (p : Printed). ReadsGiven old.seat now.seat old.store.held call answers.met.bytes (told_by answer.reply p.reply) p.position) (sym is)
+      (λ c origin objects one from held. absurd (form_of_no_call call asks form origin from))
 
   abbrev pub item : SessionItem
   item = record { request = request; moment = moment; met = answers.met; told = told; position = printed.position }
@@ -148,6 +162,7 @@ module _ (number edge moment : ℕ) (request : Request) (old now : SessionView) 
     moves = answers.moves;
     counted = answers.counted;
     fitting = answers.fitting;
+    given = given_so is_printed;
     reads = reads_so is_printed;
   }
 

@@ -5,3 +5,4 @@ pub mod FaultEnds
 pub mod SessionTurns
 pub mod PrintedAnswers
 pub mod WholeSessions
+pub mod AnswerWords

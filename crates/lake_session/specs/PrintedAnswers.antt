@@ -5,8 +5,7 @@ use Rattle.http_wire.specs.declared.message.Reply.{Reply}
 use Rattle.lake_calls.specs.declared.reply.CallReply.{CallReply}
 use Rattle.lake_calls.specs.declared.reply.CallReply.TheVariants as reply
 use Rattle.api_replies.specs.PrintedReplies.{printed_reply}
-use Rattle.call_readings.specs.declared.answers.Answered.{Answered}
-use Rattle.shared_lake.specs.SeatSteps.{LakeSeat}
+use Rattle.lake_api.specs.AnswerWords.{Answered, LakeSeat}
 use Rattle.lake_session.specs.declared.replies.Printed.{Printed}
 
 -- whether it is told that a request's form was refused

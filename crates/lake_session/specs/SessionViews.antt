@@ -5,24 +5,21 @@ use Rattle.http_wire.specs.declared.message.Request.{Request}
 use Rattle.http_wire.specs.Messages.{IsRequestAnswer}
 use Rattle.http_wire.specs.declared.fault.WireFault.{WireFault}
 use Rattle.lake_core.specs.declared.standing.LakeOrigin.{LakeOrigin}
-use Rattle.shared_lake.specs.SeatSteps.{LakeSeat}
+use Rattle.lake_api.specs.AnswerWords.{Answered, GoesOn, KeepsFitting, LakeSeat, ReadsGiven, ReadsHeld, opened_state}
 use Rattle.call_placement.specs.Sessions.{IsItemServed, caller}
 use Rattle.lake_calls.specs.CallExceptions.{CallMet}
 use Rattle.lake_calls.specs.LakeRules.{lake_rules}
 use Rattle.lake_calls.specs.Requests.{Asks, form_of}
 use Rattle.lake_calls.specs.declared.call.Call.{Call}
-use Rattle.flow_steps.specs.FlowSeats.{GoesOn, opened_state}
-use Rattle.body_laws.specs.BodiesKept.{KeepsFitting}
 use Rattle.api_forms.specs.CallForms.{asked}
-use Rattle.call_objects.specs.HeldReplies.{ReadsHeld}
-use Rattle.call_readings.specs.declared.answers.Answered.{Answered}
 use Rattle.lake_session.specs.SessionItems.{SessionItem, call_item}
 
--- what a store of objects shows
+-- what a store of objects shows: what it holds, where it tells that; its faults, its misses, and the number missed last
 pub record StoreView : Type 0 where
   pub held : Option HeldObjects
   pub faults : ℕ
   pub misses : ℕ
+  pub missed : ℕ
 
 -- what a session works on: the bytes that its source has left, and what was written, where streams tell it; the clock's readings; the
 -- store of objects; and its seat
@@ -39,6 +36,7 @@ pub record SessionView : Type 0 where
 pub record HasCounted (before now : StoreView) (met : CallMet) : Type 0 where
   pub faults : met.block_faults ≡ record { before = before.faults; now = now.faults }
   pub misses : met.misses ≡ record { before = before.misses; now = now.misses }
+  pub missed_last : met.missed_last ≡ now.missed
   pub faults_rise : before.faults ≤ now.faults
   pub misses_rise : before.misses ≤ now.misses
 
@@ -58,6 +56,7 @@ pub record IsRequestAnswered (number edge : ℕ) (request : Request) (moment : �
   pub moves : Moves number old new
   pub counted : HasCounted before now met
   pub fitting : KeepsFitting old new before.held now.held
+  pub given : (call : Call) → asked request ≡ Asks call → ReadsGiven old new before.held call met.bytes answer.reply answer.position
   pub reads : (call : Call) → asked request ≡ Asks call → ReadsHeld old before.held call answer.reply answer.position
 
 -- A REQUEST WAS TAKEN from a source, or none for a fault: it gave the first of the bytes that it had, behind those that were held; so
@@ -79,4 +78,6 @@ pub record ServesItem (number edge next_edge : ℕ) (held held_now : List ℕ) (
   pub moves : Moves number old.seat now.seat
   pub counted : HasCounted old.store now.store item.met
   pub fitting : KeepsFitting old.seat now.seat old.store.held now.store.held
+  pub given : (call : Call) → asked item.request ≡ Asks call
+      → ReadsGiven old.seat now.seat old.store.held call item.met.bytes item.told item.position
   pub reads : (call : Call) → asked item.request ≡ Asks call → ReadsHeld old.seat old.store.held call item.told item.position

@@ -11,7 +11,7 @@ use Rattle.lake_model.specs.declared.history.HistoryEntry.{HistoryEntry}
 use Rattle.lake_model.specs.History.{IsLegal}
 use Rattle.lake_model.specs.Soundness.{IsSound}
 use Rattle.lake_core.specs.declared.standing.LakeOrigin.{LakeOrigin}
-use Rattle.shared_lake.specs.SeatSteps.{LakeSeat, SeesOwn}
+use Rattle.lake_api.specs.AnswerWords.{IsGivenReply, IsHeldReply, KeepsFitting, LakeSeat, SeesOwn, opened_state, state_at}
 use Rattle.turn_lock.specs.Seats.{seat_after}
 use Rattle.call_placement.specs.Placed.{ArePlaced}
 use Rattle.call_placement.specs.Sessions.{AreServed}
@@ -21,10 +21,7 @@ use Rattle.lake_calls.specs.Requests.{Asks}
 use Rattle.lake_calls.specs.declared.call.Call.TheVariants.{Objects}
 use Rattle.lake_calls.specs.declared.objects.ObjectCall.TheVariants as object
 use Rattle.lake_calls.specs.declared.objects.ReadCall.{ReadCall}
-use Rattle.flow_steps.specs.FlowSeats.{opened_state, state_at}
-use Rattle.body_laws.specs.BodiesKept.{KeepsFitting}
 use Rattle.api_forms.specs.CallForms.{asked}
-use Rattle.call_objects.specs.HeldReplies.{IsHeldReply}
 use Rattle.lake_session.specs.declared.report.End.{End}
 use Rattle.lake_session.specs.declared.report.End.TheVariants as end
 use Rattle.lake_session.specs.declared.report.Placed.{Placed}
@@ -55,10 +52,24 @@ pub record ServesAll (origin : LakeOrigin) (old now : LakeSeat) (items : List Se
 
 -- ---- what the store of objects counted and held
 
--- what calls met of the store of objects, one after the other, is what that counted between two moments
-abbrev pub AreCounted : StoreView → List SessionItem → StoreView → Type 0
-AreCounted before [] now = now ≡ before
-AreCounted before (item ∷ items) now = (between : StoreView) × HasCounted before between item.met × AreCounted between items now
+-- An item that tells of an object's bytes does so by what the store holds then: at its position, up to which so much of all these
+-- entries had come, bytes that it tells are those that the store gave, and has under the number of the object; it has nothing under
+-- the number of one that is lost; and of one that is damaged it gave bytes that it has under the number.
+abbrev pub TellsGiven : LakeOrigin → (all : List HistoryEntry) → (held : Option HeldObjects) → SessionItem → Type 0
+TellsGiven origin all held item = (c : ReadCall) (objects : HeldObjects) → asked item.request ≡ Asks (Objects (object.Read c)) → held ≡ Some objects
+    → (seen later : List HistoryEntry) × (all ≡ seen ++ later) × (item.position ≡ length seen)
+    × IsGivenReply c (state_at origin seen) objects item.met.bytes item.told
+
+-- so it does, of all that this seat has seen
+abbrev pub TellsGivenTo : LakeSeat → (held : Option HeldObjects) → SessionItem → Type 0
+TellsGivenTo seat held item = (origin : LakeOrigin) → seat.origin ≡ Some origin → TellsGiven origin seat.seen held item
+
+-- What calls met of the store of objects, one after the other, is what that counted between two moments, and gave of what it held
+-- then, to a seat that has seen all of this at the end.
+abbrev pub AreCounted : LakeSeat → StoreView → List SessionItem → StoreView → Type 0
+AreCounted seat before [] now = now ≡ before
+AreCounted seat before (item ∷ items) now =
+    (between : StoreView) × HasCounted before between item.met × TellsGivenTo seat before.held item × AreCounted seat between items now
 
 -- An item tells of bytes as they are held: the store's bodies fitted the state at the item's position, which comes of the first of all
 -- these entries, and the bytes are theirs; too many tries never come, and bytes are lost or damaged only of a commit that is expired
@@ -146,7 +157,7 @@ pub record IsSession (old now : SessionView) (report : SessionReport) : Type 0 w
   pub goes : GoesThrough old.seat now.seat
   pub edge : ℕ
   pub history : (origin : LakeOrigin) → old.seat.origin ≡ Some origin → ServesAll origin old.seat now.seat items edge
-  pub counted : AreCounted old.store items now.store
+  pub counted : AreCounted now.seat old.store items now.store
   pub fitting : KeepsFitting old.seat now.seat old.store.held now.store.held
   pub tells : AllTellHeld old.seat now.seat old.store.held items
   pub out : List ℕ

@@ -7,10 +7,9 @@ ghost use Rattle.lake_session.specs.SessionTexts.{Writes};
 
 use api_forms::print;
 use http_wire::{Reply, write_no_memory, write_reply};
-use lake_api::Answered;
+use lake_api::{Answered, LakeSeat};
 use lake_base::{Failed, Sink};
 use lake_calls::CallReply;
-use shared_lake::LakeSeat;
 use std::alloc::Global;
 
 /// What is sent of an answer: its reply, or none where no memory was left to print it; and where that is placed.

@@ -7,9 +7,8 @@ use api_forms::{FormFault, read_call};
 use block_store::Blocks;
 use http_wire::Request;
 use keeper::Keeper;
-use lake_api::{Answered, answer};
+use lake_api::{Answered, Client, LakeSeat, NoPause, Shared, answer};
 use lake_calls::CallReply;
-use shared_lake::{Client, LakeSeat, NoPause, Shared};
 use std::alloc::Global;
 use std::sync::Wait;
 
@@ -28,8 +27,8 @@ pub(crate) fn answer_request<K: Keeper, B: Blocks, W: Wait>(
 ) -> Answered
     requires { seat.old.turn ≡ lake.now }
     ensures { IsRequestAnswered number edge request moment
-        (record { held = B.held blocks.old; faults = B.faults blocks.old; misses = B.misses blocks.old })
-        (record { held = B.held blocks.new; faults = B.faults blocks.new; misses = B.misses blocks.new })
+        (record { held = B.held blocks.old; faults = B.faults blocks.old; misses = B.misses blocks.old; missed = B.missed blocks.old })
+        (record { held = B.held blocks.new; faults = B.faults blocks.new; misses = B.misses blocks.new; missed = B.missed blocks.new })
         seat.old seat.new result }
 {
     match read_call(alloc, request) {

@@ -7,8 +7,8 @@ use crate::turns::{REQUEST_LIMIT, serve_next};
 use block_store::Blocks;
 use http_wire::Buffer;
 use keeper::Keeper;
+use lake_api::{LakeSeat, Shared};
 use lake_base::{Clock, Sequence, Sink, Source};
-use shared_lake::{LakeSeat, Shared};
 use std::alloc::Global;
 use std::sync::Wait;
 
@@ -36,7 +36,7 @@ pub fn serve_session<K: Keeper, B: Blocks, C: Clock, S: Source, O: Sink, W: Wait
           written = O.written sink.old;
           write_faults = O.faults sink.old;
           readings = C.readings clock.old;
-          store = record { held = B.held blocks.old; faults = B.faults blocks.old; misses = B.misses blocks.old };
+          store = record { held = B.held blocks.old; faults = B.faults blocks.old; misses = B.misses blocks.old; missed = B.missed blocks.old };
           seat = seat.old;
         })
         (record {
@@ -45,7 +45,7 @@ pub fn serve_session<K: Keeper, B: Blocks, C: Clock, S: Source, O: Sink, W: Wait
           written = O.written sink.new;
           write_faults = O.faults sink.new;
           readings = C.readings clock.new;
-          store = record { held = B.held blocks.new; faults = B.faults blocks.new; misses = B.misses blocks.new };
+          store = record { held = B.held blocks.new; faults = B.faults blocks.new; misses = B.misses blocks.new; missed = B.missed blocks.new };
           seat = seat.new;
         })
         result }

@@ -11,8 +11,8 @@ use crate::requests::answer_request;
 use block_store::Blocks;
 use http_wire::{Buffer, Request, WireFault, read_request};
 use keeper::Keeper;
+use lake_api::{LakeSeat, Shared};
 use lake_base::{Clock, Failed, Sink, Source};
-use shared_lake::{LakeSeat, Shared};
 use std::alloc::Global;
 use std::sync::Wait;
 
@@ -42,7 +42,7 @@ pub(crate) fn serve_next<K: Keeper, B: Blocks, C: Clock, S: Source, O: Sink, W: 
           written = O.written sink.old;
           write_faults = O.faults sink.old;
           readings = C.readings clock.old;
-          store = record { held = B.held blocks.old; faults = B.faults blocks.old; misses = B.misses blocks.old };
+          store = record { held = B.held blocks.old; faults = B.faults blocks.old; misses = B.misses blocks.old; missed = B.missed blocks.old };
           seat = seat.old;
         })
         (record {
@@ -51,7 +51,7 @@ pub(crate) fn serve_next<K: Keeper, B: Blocks, C: Clock, S: Source, O: Sink, W: 
           written = O.written sink.new;
           write_faults = O.faults sink.new;
           readings = C.readings clock.new;
-          store = record { held = B.held blocks.new; faults = B.faults blocks.new; misses = B.misses blocks.new };
+          store = record { held = B.held blocks.new; faults = B.faults blocks.new; misses = B.misses blocks.new; missed = B.missed blocks.new };
           seat = seat.new;
         })
         (record { placed = placed.old.items; edge = edge.old; held = buffer.old })

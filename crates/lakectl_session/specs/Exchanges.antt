@@ -7,7 +7,7 @@ use Rattle.http_wire.specs.declared.message.Request.{Request}
 use Rattle.lakectl_requests.specs.SentReadings.{read_back}
 use Rattle.lake_core.specs.declared.standing.LakeOrigin.{LakeOrigin}
 use Rattle.shared_lake.specs.SeatSteps.{LakeSeat}
-use Rattle.body_laws.specs.BodiesKept.{KeepsFitting}
+use Rattle.lake_session.specs.AnswerWords.{KeepsFitting}
 pub use Rattle.lake_session.specs.SessionItems.{SessionItem, call_item, item_text, moments}
 pub use Rattle.lake_session.specs.SessionTexts.{closes_behind, last_reply, reply_to_fault, told_text}
 pub use Rattle.lake_session.specs.SessionViews.{StoreView}
@@ -27,7 +27,7 @@ pub record ServesItems (old now : LakeView) (items : List SessionItem) : Type 0 
   pub goes : GoesThrough old.seat now.seat
   pub edge : ℕ
   pub history : (origin : LakeOrigin) → old.seat.origin ≡ Some origin → ServesAll origin old.seat now.seat items edge
-  pub counted : AreCounted old.store items now.store
+  pub counted : AreCounted now.seat old.store items now.store
   pub fitting : KeepsFitting old.seat now.seat old.store.held now.store.held
   pub tells : AllTellHeld old.seat now.seat old.store.held items
 

@@ -38,7 +38,7 @@ pub fn serve_command<K: Keeper, B: Blocks, C: Clock, F: Files, W: Wait>(
         (record {
           lake = record {
             readings = C.readings clock.old;
-            store = record { held = B.held blocks.old; faults = B.faults blocks.old; misses = B.misses blocks.old };
+            store = record { held = B.held blocks.old; faults = B.faults blocks.old; misses = B.misses blocks.old; missed = B.missed blocks.old };
             seat = seat.old;
           };
           files = F.files files.old;
@@ -46,7 +46,7 @@ pub fn serve_command<K: Keeper, B: Blocks, C: Clock, F: Files, W: Wait>(
         (record {
           lake = record {
             readings = C.readings clock.new;
-            store = record { held = B.held blocks.new; faults = B.faults blocks.new; misses = B.misses blocks.new };
+            store = record { held = B.held blocks.new; faults = B.faults blocks.new; misses = B.misses blocks.new; missed = B.missed blocks.new };
             seat = seat.new;
           };
           files = F.files files.new;
@@ -83,7 +83,7 @@ pub fn serve_line<K: Keeper, B: Blocks, C: Clock, F: Files, W: Wait>(
         (record {
           lake = record {
             readings = C.readings clock.old;
-            store = record { held = B.held blocks.old; faults = B.faults blocks.old; misses = B.misses blocks.old };
+            store = record { held = B.held blocks.old; faults = B.faults blocks.old; misses = B.misses blocks.old; missed = B.missed blocks.old };
             seat = seat.old;
           };
           files = F.files files.old;
@@ -91,7 +91,7 @@ pub fn serve_line<K: Keeper, B: Blocks, C: Clock, F: Files, W: Wait>(
         (record {
           lake = record {
             readings = C.readings clock.new;
-            store = record { held = B.held blocks.new; faults = B.faults blocks.new; misses = B.misses blocks.new };
+            store = record { held = B.held blocks.new; faults = B.faults blocks.new; misses = B.misses blocks.new; missed = B.missed blocks.new };
             seat = seat.new;
           };
           files = F.files files.new;

@@ -32,12 +32,12 @@ fn served<K: Keeper, B: Blocks, C: Clock, W: Wait>(
     ensures { IsSessionOf text.now
         (record {
           readings = C.readings clock.old;
-          store = record { held = B.held blocks.old; faults = B.faults blocks.old; misses = B.misses blocks.old };
+          store = record { held = B.held blocks.old; faults = B.faults blocks.old; misses = B.misses blocks.old; missed = B.missed blocks.old };
           seat = seat.old;
         })
         (record {
           readings = C.readings clock.new;
-          store = record { held = B.held blocks.new; faults = B.faults blocks.new; misses = B.misses blocks.new };
+          store = record { held = B.held blocks.new; faults = B.faults blocks.new; misses = B.misses blocks.new; missed = B.missed blocks.new };
           seat = seat.new;
         })
         (written_by result) }
@@ -67,12 +67,12 @@ pub(crate) fn exchange<K: Keeper, B: Blocks, C: Clock, W: Wait>(
     ensures exchanged { (request : Request) → IsClosingText request text.now → IsExchanged request
         (record {
           readings = C.readings clock.old;
-          store = record { held = B.held blocks.old; faults = B.faults blocks.old; misses = B.misses blocks.old };
+          store = record { held = B.held blocks.old; faults = B.faults blocks.old; misses = B.misses blocks.old; missed = B.missed blocks.old };
           seat = seat.old;
         })
         (record {
           readings = C.readings clock.new;
-          store = record { held = B.held blocks.new; faults = B.faults blocks.new; misses = B.misses blocks.new };
+          store = record { held = B.held blocks.new; faults = B.faults blocks.new; misses = B.misses blocks.new; missed = B.missed blocks.new };
           seat = seat.new;
         })
         result }

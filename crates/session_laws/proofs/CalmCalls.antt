@@ -9,6 +9,7 @@ use Rattle.lake_core.specs.Faults.{HasFault}
 use Rattle.lake_model.specs.History.{faulted_entry}
 use Rattle.lake_model.specs.State.{State}
 use Rattle.lake_model.specs.declared.history.HistoryEntry.{HistoryEntry}
+use Rattle.shared_lake.specs.SeatSteps.{LakeSeat}
 use Rattle.lake_calls.specs.CallExceptions.{HasRisen}
 use Rattle.lake_calls.specs.LakeRules.{by_caller}
 use Rattle.lake_calls.specs.Requests.{Asks}
@@ -22,11 +23,11 @@ use Rattle.session_laws.specs.LikeSessions.{HasBytes}
 use Rattle.session_laws.proofs.CallPairs.{Adds, AreCalm, OfCall, OfForm, ServedBy}
 
 -- the store's count of faults doesn't fall
-pub faults_rise : (old now : StoreView) (items : List SessionItem) → AreCounted old items now → old.faults ≤ now.faults
-faults_rise old now [] same = let is = ap (λ (s : StoreView). s.faults) same in omega (arith, is)
-faults_rise old now (item ∷ items) (between, counted, later) =
+pub faults_rise : (seat : LakeSeat) (old now : StoreView) (items : List SessionItem) → AreCounted seat old items now → old.faults ≤ now.faults
+faults_rise seat old now [] same = let is = ap (λ (s : StoreView). s.faults) same in omega (arith, is)
+faults_rise seat old now (item ∷ items) (between, counted, given, later) =
     let first = counted.faults_rise in
-    let rest = faults_rise between now items later in
+    let rest = faults_rise seat between now items later in
     omega (arith, first, rest)
 
 none_rose : (before between now : ℕ) → before ≤ between → between ≤ now → now ≤ before → now < 18446744073709551615
@@ -60,21 +61,21 @@ noted_later here later added is fault = record {
       (Contains-append_right here later (faulted_entry fault.by fault.tried) fault.among);
 }
 
-pub all_calm : (opened : State) (seat number : ℕ) (before : List HistoryEntry) (items : List SessionItem) (added : List HistoryEntry) (old now : StoreView)
-    → Adds opened seat number before items added → AreCounted old items now → now.faults ≤ old.faults → now.faults < last_count
+pub all_calm : (of : LakeSeat) (opened : State) (seat number : ℕ) (before : List HistoryEntry) (items : List SessionItem) (added : List HistoryEntry) (old now : StoreView)
+    → Adds opened seat number before items added → AreCounted of old items now → now.faults ≤ old.faults → now.faults < last_count
     → (HasFault added → ⊥) → All (λ (item : SessionItem). item.told ≢ reply.NoMemory) items
     → All HasBytes items → AreCalm items
-all_calm opened seat number before [] added old now adds counted still counting unnoted memory had =
+all_calm of opened seat number before [] added old now adds counted still counting unnoted memory had =
     All-nil (λ (item : SessionItem). is_trouble item.told ≡ false)
-all_calm opened seat number before (item ∷ items) added old now (here, later, parted, served, adds) (between, counted, counts) still counting unnoted memory
+all_calm of opened seat number before (item ∷ items) added old now (here, later, parted, served, adds) (between, counted, given, counts) still counting unnoted memory
     had =
-    let rise = faults_rise between now items counts in
+    let rise = faults_rise of between now items counts in
     let first = counted.faults_rise in
     let quiet : HasRisen item.met.block_faults → ⊥ =
     λ rose. none_rose old.faults between.faults now.faults first rise still counting (subst HasRisen counted.faults rose) in
     All-cons (λ (one : SessionItem). is_trouble one.told ≡ false) item items
     (one_calm opened (caller seat number) before here item served quiet (λ fault. unnoted (noted_first here later added parted fault))
     (All-head (λ (one : SessionItem). one.told ≢ reply.NoMemory) item items memory) (All-head HasBytes item items had))
-    (all_calm opened seat (number + 1) (before ++ here) items later between now adds counts (omega (arith, first, still)) counting
+    (all_calm of opened seat (number + 1) (before ++ here) items later between now adds counts (omega (arith, first, still)) counting
     (λ fault. unnoted (noted_later here later added parted fault)) (All-tail (λ (one : SessionItem). one.told ≢ reply.NoMemory) item items memory)
     (All-tail HasBytes item items had))

@@ -20,7 +20,7 @@ use Rattle.lake_calls.specs.declared.reply.CallReply.TheVariants as reply
 use Rattle.lake_calls.specs.declared.reply.Refusal.TheVariants as refusal
 use Rattle.lake_core.specs.declared.standing.LakeOrigin.{LakeOrigin}
 use Rattle.flow_steps.specs.FlowSeats.{opened_state, state_at}
-use Rattle.call_objects.specs.HeldReplies.{IsHeldReply}
+use Rattle.lake_session.specs.AnswerWords.{IsHeldReply}
 use Rattle.seat_laws.proofs.ExpiryFreeLemmas.{none_expires, replay_kept}
 use Rattle.seat_laws.specs.Expiries.{HasNoneExpired, NoneExpires, is_expiry}
 use Rattle.seat_laws.specs.Troubles.{is_unread}

@@ -70,7 +70,7 @@ module _ (old now : SessionView) (report : SessionReport) (one : IsSession old n
     pub calm_of : AreCalm one.items
     calm_of =
         let still = well.objects.same in
-        all_calm (opened_state origin) old.seat.number 1 old.seat.seen one.items one.goes.added old.store now.store adds_of one.counted
+        all_calm now.seat (opened_state origin) old.seat.number 1 old.seat.seen one.items one.goes.added old.store now.store adds_of one.counted
         (omega (arith, still)) well.objects.counting well.pairs well.memory well.bodies
 
 -- ---- two sessions

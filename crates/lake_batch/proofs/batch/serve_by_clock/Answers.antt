@@ -27,7 +27,7 @@ returns-clause-outcome g c =
     (λ lines. record {
       lake = record {
         readings = g.C.Clock.readings lines.clock;
-        store = record { held = Some lines.blocks.now.held; faults = 0; misses = lines.blocks.now.misses };
+        store = record { held = Some lines.blocks.now.held; faults = 0; misses = lines.blocks.now.misses; missed = lines.blocks.now.missed };
         seat = lines.seat.now;
       };
       files = g.F.Files.files lines.files;
@@ -35,7 +35,7 @@ returns-clause-outcome g c =
     (λ line old now reply ends. ends) c.args.limit 65536 before after input c.serve_lines-status.result outcome
     (record {
       seat = c.in-Ok.ensures.fresh;
-      store = λ i. record { held = Some (c.new-blocks.ensures i).held; faults = 0; misses = (c.new-blocks.ensures i).misses };
+      store = λ i. record { held = Some (c.new-blocks.ensures i).held; faults = 0; misses = (c.new-blocks.ensures i).misses; missed = (c.new-blocks.ensures i).missed };
       files = refl;
     })
     refl (refl, refl) refl) some))

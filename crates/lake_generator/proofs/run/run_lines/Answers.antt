@@ -13,7 +13,7 @@ returns-clause-runs g c =
     (λ lines. record {
       lake = record {
         readings = fixed_readings lines.clock;
-        store = record { held = Some lines.blocks.now.held; faults = 0; misses = lines.blocks.now.misses };
+        store = record { held = Some lines.blocks.now.held; faults = 0; misses = lines.blocks.now.misses; missed = lines.blocks.now.missed };
         seat = lines.seat.now;
       };
       files = Some empty;
@@ -21,8 +21,8 @@ returns-clause-runs g c =
     (λ line old now reply ends. ends) c.args.asked _ c.serve_lines.new.lines
     (record {
       seat = c.requires.fresh;
-      store = λ i. record { held = Some (c.requires.store i).held; faults = 0; misses = (c.requires.store i).misses };
+      store = λ i. record { held = Some (c.requires.store i).held; faults = 0; misses = (c.requires.store i).misses; missed = (c.requires.store i).missed };
       files = refl;
       moment = ap fixed_readings c.requires.clock;
     })
-    c.serve_lines.new.lines.clock refl c.serve_lines.result c.serve_lines.ensures.goes
+    c.serve_lines.new.lines.clock refl refl c.serve_lines.result c.serve_lines.ensures.goes

@@ -74,7 +74,7 @@ loop-seat-preserved g c =
     } in
     let is : IsBegun c.in-Some.seat c.share_of.result (worker_view show worker) = record {
       seat = refl;
-      store = ap (λ blocks. record { held = Some blocks.held; faults = 0; misses = blocks.misses }) c.new.ensures;
+      store = ap (λ blocks. record { held = Some blocks.held; faults = 0; misses = blocks.misses; missed = blocks.missed }) c.new.ensures;
       connections = refl;
       served = refl;
       failed = refl;

@@ -1,12 +1,12 @@
 use native.Mathlib.Omega.{arith}
-use Rattle.std.proofs.Common.{◌≡◌, All, length, map, inl, inr, Err, if◌then◌else◌, sym, ◌∙◌, ap, subst}
+use Rattle.std.proofs.Common.{◌≡◌, All, length, map, inl, inr, Err, if◌then◌else◌, sym, ◌∙◌, ap, subst, refl}
 use Rattle.std.proofs.lemmas.List.{length-map}
 use Rattle.core_puts.specs.KeeperViews.{KeeperView}
 use Rattle.shared_lake.specs.SeatSteps.{Finds, LakeSeat}
 use Rattle.lake_server.specs.ServedConnections.{PartViews, WorkerView, worker_view}
 use Rattle.lake_host.specs.Doors.{door_of, door_view, host_views}
 use Rattle.lake_host.specs.declared.server.ServerEnd.TheVariants.{Done, Failed}
-use Rattle.lake_host.proofs.ServerLemmas.{all_mapped, all_ready, as_many, back_since, opened_so, origins_found, origins_stay, out_still, turns_stay, unlistened}
+use Rattle.lake_host.proofs.ServerLemmas.{all_calm, all_mapped, all_ready, as_many, back_since, opened_so, origins_found, origins_stay, out_still, turns_stay, unlistened}
 use Rattle.lake_host.proofs.server.serve_listeners.Goals as goal
 
 pub serve_all-workers-requires-after_bounds : goal.serve_all-workers-requires-after_bounds
@@ -87,6 +87,7 @@ returns-in-Ok-listen-clause-server g c =
       finds = all_mapped (λ seat. Finds view seat c.close-in-Ok-listen.result) (λ (worker : WorkerView). worker.carried.seat)
           (map (worker_view show) c.serve_all-workers.result.items)
           (subst (λ seats. All (λ seat. Finds view seat c.close-in-Ok-listen.result) seats) c.dismiss-failed.ensures.seats c.close-in-Ok-listen.ensures.found);
+      calm = all_calm show (λ blocks. refl) c.serve_all-workers.result.items;
       opened = opened_so c.args.at.now (g.H.Host.opened c.args.host.now) (g.H.Host.opened c.listen.new.self) (g.H.Host.opened c.dismiss-failed.new.host)
           (map (door_view g.H.Door.Listen.accepted g.H.Door.Listen.returned g.H.Door.Listen.faults) c.in-Ok-listen.doors.items)
           (map door_of (map (worker_view show) c.hire-workers.result.items))

@@ -5,19 +5,19 @@ use Rattle.lake_server.proofs.worker.serve_connections.Goals as goal
 
 pub loop-init : goal.loop-init
 loop-init g c =
-    let views = part_views g.B.Blocks.held g.B.Blocks.faults g.B.Blocks.misses g.C.Clock.readings g.L.Listen.accepted g.L.Listen.returned g.L.Listen.faults in
+    let views = part_views g.B.Blocks.held g.B.Blocks.faults g.B.Blocks.misses g.B.Blocks.missed g.C.Clock.readings g.L.Listen.accepted g.L.Listen.returned g.L.Listen.faults in
     ([], begins (worker_view views c.args.worker.now) c.requires.served c.requires.failed)
 
 pub returns-then-is_reached : goal.returns-then-is_reached
 returns-then-is_reached g c =
-    let views = part_views g.B.Blocks.held g.B.Blocks.faults g.B.Blocks.misses g.C.Clock.readings g.L.Listen.accepted g.L.Listen.returned g.L.Listen.faults in
+    let views = part_views g.B.Blocks.held g.B.Blocks.faults g.B.Blocks.misses g.B.Blocks.missed g.C.Clock.readings g.L.Listen.accepted g.L.Listen.returned g.L.Listen.faults in
     let way = c.loop.invariant in
     ends_at_number (worker_view views c.args.worker.now) (worker_view views c.loop.worker) way.0 way.1
     (rw c.if-is_reached.true at c.is_reached.ensures.reached)
 
 pub serve_one-requires : goal.serve_one-requires
 serve_one-requires g c =
-    let views = part_views g.B.Blocks.held g.B.Blocks.faults g.B.Blocks.misses g.C.Clock.readings g.L.Listen.accepted g.L.Listen.returned g.L.Listen.faults in
+    let views = part_views g.B.Blocks.held g.B.Blocks.faults g.B.Blocks.misses g.B.Blocks.missed g.C.Clock.readings g.L.Listen.accepted g.L.Listen.returned g.L.Listen.faults in
     let way = c.loop.invariant in (
       c.type_bounds.send-L-In,
       (
@@ -28,7 +28,7 @@ serve_one-requires g c =
 
 pub returns-then-is_err : goal.returns-then-is_err
 returns-then-is_err g c =
-    let views = part_views g.B.Blocks.held g.B.Blocks.faults g.B.Blocks.misses g.C.Clock.readings g.L.Listen.accepted g.L.Listen.returned g.L.Listen.faults in
+    let views = part_views g.B.Blocks.held g.B.Blocks.faults g.B.Blocks.misses g.B.Blocks.missed g.C.Clock.readings g.L.Listen.accepted g.L.Listen.returned g.L.Listen.faults in
     let old = worker_view views c.args.worker.now in
     let now = worker_view views c.loop.worker in
     let next = worker_view views c.serve_one.new.worker in
@@ -40,7 +40,7 @@ returns-then-is_err g c =
 
 pub loop-preserved : goal.loop-preserved
 loop-preserved g c =
-    let views = part_views g.B.Blocks.held g.B.Blocks.faults g.B.Blocks.misses g.C.Clock.readings g.L.Listen.accepted g.L.Listen.returned g.L.Listen.faults in
+    let views = part_views g.B.Blocks.held g.B.Blocks.faults g.B.Blocks.misses g.B.Blocks.missed g.C.Clock.readings g.L.Listen.accepted g.L.Listen.returned g.L.Listen.faults in
     let old = worker_view views c.args.worker.now in
     let now = worker_view views c.loop.worker in
     let next = worker_view views c.serve_one.new.worker in

@@ -14,6 +14,7 @@ returns-clause-serves g c =
         held = g.B.Blocks.held c.args.worker.now.blocks;
         faults = g.B.Blocks.faults c.args.worker.now.blocks;
         misses = g.B.Blocks.misses c.args.worker.now.blocks;
+        missed = g.B.Blocks.missed c.args.worker.now.blocks;
       };
       seat = c.args.worker.now.seat;
     } in
@@ -27,6 +28,7 @@ returns-clause-serves g c =
         held = g.B.Blocks.held c.serve_session-report.new.blocks;
         faults = g.B.Blocks.faults c.serve_session-report.new.blocks;
         misses = g.B.Blocks.misses c.serve_session-report.new.blocks;
+        missed = g.B.Blocks.missed c.serve_session-report.new.blocks;
       };
       seat = c.serve_session-report.new.seat;
     } in

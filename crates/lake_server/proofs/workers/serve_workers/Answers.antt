@@ -7,7 +7,7 @@ use Rattle.lake_server.proofs.workers.serve_workers.Goals as goal
 
 pub returns : goal.returns
 returns g c =
-    let views = part_views g.B.Blocks.held g.B.Blocks.faults g.B.Blocks.misses g.C.Clock.readings g.L.Listen.accepted g.L.Listen.returned g.L.Listen.faults in
+    let views = part_views g.B.Blocks.held g.B.Blocks.faults g.B.Blocks.misses g.B.Blocks.missed g.C.Clock.readings g.L.Listen.accepted g.L.Listen.returned g.L.Listen.faults in
     each_served views _ _ (omega arith) (λ i d within.
     let at = (c.for_each_mut.ensures i d within).1 in
     lent views at.argument_is at.left at.call)

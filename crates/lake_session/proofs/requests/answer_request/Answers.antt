@@ -4,7 +4,7 @@ use Rattle.lake_session.proofs.requests.answer_request.Goals as goal
 
 pub returns-in-Ok : goal.returns-in-Ok
 returns-in-Ok g c =
-    call_answered g.B.Blocks.held g.B.Blocks.faults g.B.Blocks.misses _ _ _ _ _ _ _ _ _ _ _ _ (search rules) c.in-Ok.ensures.asked c.answer.ensures.served
+    call_answered g.B.Blocks.held g.B.Blocks.faults g.B.Blocks.misses g.B.Blocks.missed _ _ _ _ _ _ _ _ _ _ _ (search rules) c.in-Ok.ensures.asked c.answer.ensures.served
 
 pub returns-in-Err : goal.returns-in-Err
 returns-in-Err g c =

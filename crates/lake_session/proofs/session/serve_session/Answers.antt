@@ -16,6 +16,7 @@ serving-init g c =
         held = g.B.Blocks.held c.args.blocks.now;
         faults = g.B.Blocks.faults c.args.blocks.now;
         misses = g.B.Blocks.misses c.args.blocks.now;
+        missed = g.B.Blocks.missed c.args.blocks.now;
       };
       seat = c.args.seat.now;
     } in
@@ -37,6 +38,7 @@ returns-in-Some g c =
         held = g.B.Blocks.held c.args.blocks.now;
         faults = g.B.Blocks.faults c.args.blocks.now;
         misses = g.B.Blocks.misses c.args.blocks.now;
+        missed = g.B.Blocks.missed c.args.blocks.now;
       };
       seat = c.args.seat.now;
     } in
@@ -50,6 +52,7 @@ returns-in-Some g c =
         held = g.B.Blocks.held c.serving.blocks;
         faults = g.B.Blocks.faults c.serving.blocks;
         misses = g.B.Blocks.misses c.serving.blocks;
+        missed = g.B.Blocks.missed c.serving.blocks;
       };
       seat = c.serving.seat;
     } in
@@ -63,6 +66,7 @@ returns-in-Some g c =
         held = g.B.Blocks.held c.serve_next-ended.new.blocks;
         faults = g.B.Blocks.faults c.serve_next-ended.new.blocks;
         misses = g.B.Blocks.misses c.serve_next-ended.new.blocks;
+        missed = g.B.Blocks.missed c.serve_next-ended.new.blocks;
       };
       seat = c.serve_next-ended.new.seat;
     } in
@@ -88,6 +92,7 @@ serving-preserved g c =
         held = g.B.Blocks.held c.args.blocks.now;
         faults = g.B.Blocks.faults c.args.blocks.now;
         misses = g.B.Blocks.misses c.args.blocks.now;
+        missed = g.B.Blocks.missed c.args.blocks.now;
       };
       seat = c.args.seat.now;
     } in
@@ -101,6 +106,7 @@ serving-preserved g c =
         held = g.B.Blocks.held c.serving.blocks;
         faults = g.B.Blocks.faults c.serving.blocks;
         misses = g.B.Blocks.misses c.serving.blocks;
+        missed = g.B.Blocks.missed c.serving.blocks;
       };
       seat = c.serving.seat;
     } in
@@ -114,6 +120,7 @@ serving-preserved g c =
         held = g.B.Blocks.held c.serve_next-ended.new.blocks;
         faults = g.B.Blocks.faults c.serve_next-ended.new.blocks;
         misses = g.B.Blocks.misses c.serve_next-ended.new.blocks;
+        missed = g.B.Blocks.missed c.serve_next-ended.new.blocks;
       };
       seat = c.serve_next-ended.new.seat;
     } in
@@ -141,6 +148,7 @@ returns g c =
         held = g.B.Blocks.held c.args.blocks.now;
         faults = g.B.Blocks.faults c.args.blocks.now;
         misses = g.B.Blocks.misses c.args.blocks.now;
+        missed = g.B.Blocks.missed c.args.blocks.now;
       };
       seat = c.args.seat.now;
     } in
@@ -154,6 +162,7 @@ returns g c =
         held = g.B.Blocks.held c.serving.blocks;
         faults = g.B.Blocks.faults c.serving.blocks;
         misses = g.B.Blocks.misses c.serving.blocks;
+        missed = g.B.Blocks.missed c.serving.blocks;
       };
       seat = c.serving.seat;
     } in

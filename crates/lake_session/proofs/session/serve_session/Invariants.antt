@@ -12,7 +12,7 @@ invariant-serving g l = record {
         written = g.O.Sink.written l.fn.sink;
         write_faults = g.O.Sink.faults l.fn.sink;
         readings = g.C.Clock.readings l.fn.clock;
-        store = record { held = g.B.Blocks.held l.fn.blocks; faults = g.B.Blocks.faults l.fn.blocks; misses = g.B.Blocks.misses l.fn.blocks };
+        store = record { held = g.B.Blocks.held l.fn.blocks; faults = g.B.Blocks.faults l.fn.blocks; misses = g.B.Blocks.misses l.fn.blocks; missed = g.B.Blocks.missed l.fn.blocks };
         seat = l.fn.seat;
       })
       (record {
@@ -21,7 +21,7 @@ invariant-serving g l = record {
         written = g.O.Sink.written l.sink;
         write_faults = g.O.Sink.faults l.sink;
         readings = g.C.Clock.readings l.clock;
-        store = record { held = g.B.Blocks.held l.blocks; faults = g.B.Blocks.faults l.blocks; misses = g.B.Blocks.misses l.blocks };
+        store = record { held = g.B.Blocks.held l.blocks; faults = g.B.Blocks.faults l.blocks; misses = g.B.Blocks.misses l.blocks; missed = g.B.Blocks.missed l.blocks };
         seat = l.seat;
       })
       (record { placed = l.placed.items; edge = l.edge; held = l.buffer });

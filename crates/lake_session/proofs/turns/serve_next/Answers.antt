@@ -16,6 +16,7 @@ returns-in-Err g c =
       held = g.B.Blocks.held c.args.blocks.now;
       faults = g.B.Blocks.faults c.args.blocks.now;
       misses = g.B.Blocks.misses c.args.blocks.now;
+      missed = g.B.Blocks.missed c.args.blocks.now;
     } in
     let old : SessionView = record {
       unread = g.S.Source.left c.args.source.now;
@@ -59,6 +60,7 @@ returns g c =
         held = g.B.Blocks.held c.args.blocks.now;
         faults = g.B.Blocks.faults c.args.blocks.now;
         misses = g.B.Blocks.misses c.args.blocks.now;
+        missed = g.B.Blocks.missed c.args.blocks.now;
       };
       seat = c.args.seat.now;
     } in
@@ -72,6 +74,7 @@ returns g c =
         held = g.B.Blocks.held c.answer_request-answered.new.blocks;
         faults = g.B.Blocks.faults c.answer_request-answered.new.blocks;
         misses = g.B.Blocks.misses c.answer_request-answered.new.blocks;
+        missed = g.B.Blocks.missed c.answer_request-answered.new.blocks;
       };
       seat = c.answer_request-answered.new.seat;
     } in

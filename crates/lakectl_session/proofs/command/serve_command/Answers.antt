@@ -16,6 +16,7 @@ returns-in-Err-clause-ends g c =
         held = g.B.Blocks.held c.args.blocks.now;
         faults = g.B.Blocks.faults c.args.blocks.now;
         misses = g.B.Blocks.misses c.args.blocks.now;
+        missed = g.B.Blocks.missed c.args.blocks.now;
       };
       seat = c.args.seat.now;
     } in
@@ -34,6 +35,7 @@ returns-in-Err-exchange-clause-ends g c =
         held = g.B.Blocks.held c.args.blocks.now;
         faults = g.B.Blocks.faults c.args.blocks.now;
         misses = g.B.Blocks.misses c.args.blocks.now;
+        missed = g.B.Blocks.missed c.args.blocks.now;
       };
       seat = c.args.seat.now;
     } in
@@ -43,6 +45,7 @@ returns-in-Err-exchange-clause-ends g c =
         held = g.B.Blocks.held c.exchange.new.blocks;
         faults = g.B.Blocks.faults c.exchange.new.blocks;
         misses = g.B.Blocks.misses c.exchange.new.blocks;
+        missed = g.B.Blocks.missed c.exchange.new.blocks;
       };
       seat = c.exchange.new.seat;
     } in
@@ -63,6 +66,7 @@ returns-clause-ends g c =
         held = g.B.Blocks.held c.args.blocks.now;
         faults = g.B.Blocks.faults c.args.blocks.now;
         misses = g.B.Blocks.misses c.args.blocks.now;
+        missed = g.B.Blocks.missed c.args.blocks.now;
       };
       seat = c.args.seat.now;
     } in
@@ -72,6 +76,7 @@ returns-clause-ends g c =
         held = g.B.Blocks.held c.exchange.new.blocks;
         faults = g.B.Blocks.faults c.exchange.new.blocks;
         misses = g.B.Blocks.misses c.exchange.new.blocks;
+        missed = g.B.Blocks.missed c.exchange.new.blocks;
       };
       seat = c.exchange.new.seat;
     } in

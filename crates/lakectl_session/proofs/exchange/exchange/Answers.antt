@@ -14,6 +14,7 @@ returns-in-Err-clause-exchanged g c = λ request closing.
         held = g.B.Blocks.held c.args.blocks.now;
         faults = g.B.Blocks.faults c.args.blocks.now;
         misses = g.B.Blocks.misses c.args.blocks.now;
+        missed = g.B.Blocks.missed c.args.blocks.now;
       };
       seat = c.args.seat.now;
     } in
@@ -23,6 +24,7 @@ returns-in-Err-clause-exchanged g c = λ request closing.
         held = g.B.Blocks.held c.served.new.blocks;
         faults = g.B.Blocks.faults c.served.new.blocks;
         misses = g.B.Blocks.misses c.served.new.blocks;
+        missed = g.B.Blocks.missed c.served.new.blocks;
       };
       seat = c.served.new.seat;
     } in
@@ -37,6 +39,7 @@ returns-clause-exchanged g c = λ request closing.
         held = g.B.Blocks.held c.args.blocks.now;
         faults = g.B.Blocks.faults c.args.blocks.now;
         misses = g.B.Blocks.misses c.args.blocks.now;
+        missed = g.B.Blocks.missed c.args.blocks.now;
       };
       seat = c.args.seat.now;
     } in
@@ -46,6 +49,7 @@ returns-clause-exchanged g c = λ request closing.
         held = g.B.Blocks.held c.served.new.blocks;
         faults = g.B.Blocks.faults c.served.new.blocks;
         misses = g.B.Blocks.misses c.served.new.blocks;
+        missed = g.B.Blocks.missed c.served.new.blocks;
       };
       seat = c.served.new.seat;
     } in
