@@ -11,7 +11,7 @@ use Rattle.pair_format.specs.PairSpelling.{key_of, key_spelling}
 use Rattle.keeper.specs.Keepers.{KeptPairs}
 use Rattle.core_state.specs.RepositoryStates.{RepositoryStateValue}
 use Rattle.core_state.specs.LakeStates.{LakeStateValue}
-use Rattle.core_pairs.specs.LakePairs.{IsFileKey, StandsIn}
+use Rattle.core_pairs.specs.LakePairs.{IsFile, StandsIn}
 use Rattle.core_pairs.proofs.PlaceLemmas.{found}
 use Rattle.core_pairs.proofs.StandLemmas.{Stand, stand_for, tied}
 use Rattle.core_pairs.proofs.ThingLemmas.{IsIn, LakeThing, ThingOf, from_repository, into, lake_stays, lake_stood, new_stands, other_stands, splits, with_one}
@@ -57,16 +57,16 @@ module _ (l : LakeStateValue) (q : List ℕ) (r : RepositoryStateValue) (in_lake
       (new_stands l q with_tree (file_thing false range)
       (refl, (tree, ((id, get_inserted r.trees id tree), (metarange, (ranges, (files, among)))))))
 
-  old_here : (s : Stored) → ThingOf q r s → StandsIn (with_one l q with_tree) s ⊎ IsFileKey (key_spelling (key_of s))
-  old_here (stored.MetaRange name bytes) h = inr (name, inl refl)
-  old_here (stored.Range name bytes) h = inr (name, inr refl)
+  old_here : (s : Stored) → ThingOf q r s → StandsIn (with_one l q with_tree) s ⊎ IsFile s
+  old_here (stored.MetaRange name bytes) h = inr tt
+  old_here (stored.Range name bytes) h = inr tt
   old_here s h = inl (new_stands l q with_tree s h)
 
-  old : (s : Stored) → LakeThing l s ⊎ IsIn l s → StandsIn (with_one l q with_tree) s ⊎ IsFileKey (key_spelling (key_of s))
+  old : (s : Stored) → LakeThing l s ⊎ IsIn l s → StandsIn (with_one l q with_tree) s ⊎ IsFile s
   old s (inl h) = inl (lake_stays l q with_tree s h)
   old s (inr i) = by (bytes_eq i.q q) refl
     where
-      by : (test : Bool) → bytes_eq i.q q ≡ test → StandsIn (with_one l q with_tree) s ⊎ IsFileKey (key_spelling (key_of s))
+      by : (test : Bool) → bytes_eq i.q q ≡ test → StandsIn (with_one l q with_tree) s ⊎ IsFile s
       by true e =
           let same = tied i.q q e in
           let is : Some i.r ≡ Some r = sym i.in_lake ∙ ap (get l.repositories) same ∙ in_lake in
@@ -74,7 +74,7 @@ module _ (l : LakeStateValue) (q : List ℕ) (r : RepositoryStateValue) (in_lake
           old_here s (subst (λ x. ThingOf q x s) one (subst (λ p. ThingOf p i.r s) same i.thing))
       by false e = inl (other_stands l q with_tree i.q i.r e i.in_lake s i.thing)
 
-  goes : (s : Stored) → With s → StandsIn (with_one l q with_tree) s ⊎ IsFileKey (key_spelling (key_of s))
+  goes : (s : Stored) → With s → StandsIn (with_one l q with_tree) s ⊎ IsFile s
   goes s (inl h) = old s (into l s h)
   goes s (inr file) = inl (there s file)
 

@@ -14,7 +14,7 @@ use Rattle.core_state.specs.Counts.{AreFew}
 use Rattle.core_state.specs.RepositoryStates.{RepositoryStateValue}
 use Rattle.core_state.specs.LakeStates.{LakeStateValue}
 use Rattle.core_puts.specs.Puts.{spelled_put}
-use Rattle.core_pairs.specs.LakePairs.{IsFileKey, StandFor, StandsIn}
+use Rattle.core_pairs.specs.LakePairs.{IsFile, StandFor, StandsIn}
 use Rattle.core_pairs.proofs.StandLemmas.{Stand, after_first, after_none, stand_as, turned}
 use Rattle.core_pairs.proofs.ThingLemmas.{IsIn, LakeThing, from_repository, into}
 
@@ -92,7 +92,7 @@ module _ (l : LakeStateValue) (number version token : ℕ) (P : Stored → Type 
         key = tt;
         new = λ s put.
             let same : counts_thing ≡ s = cc in
-            subst (λ s. (key_of s ≡ key.Counts) × (IsSpelledStored s × (StandsIn now s ⊎ IsFileKey (key_spelling key.Counts)))) same
+            subst (λ s. (key_of s ≡ key.Counts) × (IsSpelledStored s × (StandsIn now s ⊎ IsFile s))) same
             (refl, (record { named = tt; valued = (a, (b, c)) }, inl (refl, (refl, refl))));
         either = either;
         stays = λ s p apart. stays_in s (from s p) apart;

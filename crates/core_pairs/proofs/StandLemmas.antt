@@ -14,7 +14,7 @@ use Rattle.pair_format.specs.PairSpelling.{IsSpelledKey, IsSpelledStored, key_of
 use Rattle.pair_format.proofs.ReadingLemmas.{keys_apart}
 use Rattle.keeper.specs.declared.put.Put.{Put}
 use Rattle.keeper.specs.Keepers.{KeptPairs, pairs_after, pairs_with}
-use Rattle.core_pairs.specs.LakePairs.{IsFileKey}
+use Rattle.core_pairs.specs.LakePairs.{IsFile, IsFilePair}
 
 -- ---- bytes
 
@@ -41,11 +41,11 @@ IsPair P bytes value = (s : Stored) × (P s × ((bytes ≡ key_spelling (key_of 
 pub record Stand (pairs : KeptPairs) (P : Stored → Type 0) : Type 0 where
   pub spelled : (s : Stored) → P s → IsSpelledStored s
   pub each : (s : Stored) → P s → get pairs (key_spelling (key_of s)) ≡ Some (value_spelling s)
-  pub only : (bytes value : List ℕ) → get pairs bytes ≡ Some value → IsPair P bytes value ⊎ IsFileKey bytes
+  pub only : (bytes value : List ℕ) → get pairs bytes ≡ Some value → IsPair P bytes value ⊎ IsFilePair bytes value
 
 module _ (pairs : KeptPairs) (P Q : Stored → Type 0) (stand : Stand pairs P)
     (has : (s : Stored) → Q s → P s ⊎ (IsSpelledStored s × (get pairs (key_spelling (key_of s)) ≡ Some (value_spelling s))))
-    (goes : (s : Stored) → P s → Q s ⊎ IsFileKey (key_spelling (key_of s))) where
+    (goes : (s : Stored) → P s → Q s ⊎ IsFile s) where
   spelled_by : (s : Stored) → P s ⊎ (IsSpelledStored s × (get pairs (key_spelling (key_of s)) ≡ Some (value_spelling s))) → IsSpelledStored s
   spelled_by s (inl p) = stand.spelled s p
   spelled_by s (inr (within, there)) = within
@@ -55,13 +55,13 @@ module _ (pairs : KeptPairs) (P Q : Stored → Type 0) (stand : Stand pairs P)
   there_by s (inl p) = stand.each s p
   there_by s (inr (within, there)) = there
 
-  going : (bytes value : List ℕ) (s : Stored) → bytes ≡ key_spelling (key_of s) → value ≡ value_spelling s → Q s ⊎ IsFileKey (key_spelling (key_of s))
-      → IsPair Q bytes value ⊎ IsFileKey bytes
-  going bytes value s key is (inl q) = inl (s, (q, (key, is)))
-  going bytes value s key is (inr file) = inr (subst IsFileKey (sym key) file)
+  going : (bytes value : List ℕ) (s : Stored) → P s → bytes ≡ key_spelling (key_of s) → value ≡ value_spelling s → Q s ⊎ IsFile s
+      → IsPair Q bytes value ⊎ IsFilePair bytes value
+  going bytes value s p key is (inl q) = inl (s, (q, (key, is)))
+  going bytes value s p key is (inr file) = inr (s, (file, (stand.spelled s p, (key, is))))
 
-  only_by : (bytes value : List ℕ) → IsPair P bytes value ⊎ IsFileKey bytes → IsPair Q bytes value ⊎ IsFileKey bytes
-  only_by bytes value (inl (s, (p, (key, is)))) = going bytes value s key is (goes s p)
+  only_by : (bytes value : List ℕ) → IsPair P bytes value ⊎ IsFilePair bytes value → IsPair Q bytes value ⊎ IsFilePair bytes value
+  only_by bytes value (inl (s, (p, (key, is)))) = going bytes value s p key is (goes s p)
   only_by bytes value (inr file) = inr file
 
   -- of other things, that have their pairs, with files of those that go
@@ -99,7 +99,7 @@ unlike a b one other apart = by (bytes_eq (key_spelling a) (key_spelling b)) ref
 -- another key; and what stood under another key stands.
 pub record Turns (P Q : Stored → Type 0) (k : OwnedKey) (o : Option Stored) : Type 0 where
   pub key : IsSpelledKey k
-  pub new : (s : Stored) → o ≡ Some s → (key_of s ≡ k) × (IsSpelledStored s × (Q s ⊎ IsFileKey (key_spelling k)))
+  pub new : (s : Stored) → o ≡ Some s → (key_of s ≡ k) × (IsSpelledStored s × (Q s ⊎ IsFile s))
   pub either : (s : Stored) → Q s → (o ≡ Some s) ⊎ (P s × (key_of s ≡ k → ⊥))
   pub stays : (s : Stored) → P s → (key_of s ≡ k → ⊥) → Q s
 
@@ -124,23 +124,23 @@ module _ (pairs : KeptPairs) (P Q : Stored → Type 0) (k : OwnedKey) (o : Optio
 
   -- what stands under the key of the put
   put_there : (bytes value : List ℕ) → bytes ≡ key_spelling k → (one : Option Stored) → o ≡ one → option_map value_spelling one ≡ Some value
-      → IsPair Q bytes value ⊎ IsFileKey bytes
+      → IsPair Q bytes value ⊎ IsFilePair bytes value
   put_there bytes value key None is there = absurd cc
   put_there bytes value key (Some s) is there = by (t.new s is).1.1
     where
-      by : Q s ⊎ IsFileKey (key_spelling k) → IsPair Q bytes value ⊎ IsFileKey bytes
+      by : Q s ⊎ IsFile s → IsPair Q bytes value ⊎ IsFilePair bytes value
       by (inl q) = inl (s, (q, (key ∙ ap key_spelling (sym (t.new s is).0), cc)))
-      by (inr file) = inr (subst IsFileKey (sym key) file)
+      by (inr file) = inr (s, (file, ((t.new s is).1.0, (key ∙ ap key_spelling (sym (t.new s is).0), cc))))
 
   -- and under another one
-  kept_there : (bytes value : List ℕ) → bytes_eq bytes (key_spelling k) ≡ false → IsPair P bytes value ⊎ IsFileKey bytes
-      → IsPair Q bytes value ⊎ IsFileKey bytes
+  kept_there : (bytes value : List ℕ) → bytes_eq bytes (key_spelling k) ≡ false → IsPair P bytes value ⊎ IsFilePair bytes value
+      → IsPair Q bytes value ⊎ IsFilePair bytes value
   kept_there bytes value apart (inl (s, (p, (key, is)))) =
       inl (s, (t.stays s p (λ same. untied bytes (key_spelling k) apart (key ∙ ap key_spelling same)), (key, is)))
   kept_there bytes value apart (inr file) = inr file
 
   only_then : (bytes value : List ℕ) (test : Bool) → bytes_eq bytes (key_spelling k) ≡ test
-      → cond test (option_map value_spelling o) (get pairs bytes) ≡ Some value → IsPair Q bytes value ⊎ IsFileKey bytes
+      → cond test (option_map value_spelling o) (get pairs bytes) ≡ Some value → IsPair Q bytes value ⊎ IsFilePair bytes value
   only_then bytes value true test there = put_there bytes value (tied _ _ test) o refl there
   only_then bytes value false test there = kept_there bytes value test (stand.only bytes value there)
 

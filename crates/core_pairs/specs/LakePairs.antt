@@ -10,7 +10,6 @@ use Rattle.meta_range.specs.Ranges.{TreeValue}
 use Rattle.branch_record.specs.Record.{is_among}
 use Rattle.branch_record.specs.Tokens.{changes_under}
 use Rattle.lake_model.specs.NoteChanges.{note_at}
-use Rattle.pair_format.specs.declared.key.OwnedKey.TheVariants as key
 use Rattle.pair_format.specs.declared.stored.Stored.{Stored}
 use Rattle.pair_format.specs.declared.stored.Stored.TheVariants as stored
 use Rattle.pair_format.specs.PairSpelling.{IsSpelledStored, key_of, key_spelling, value_spelling}
@@ -71,9 +70,16 @@ StandsIn l (stored.Counts number version token) =
 
 -- ---- the pairs of a lake
 
--- the key of a file, of a metarange or of a range
-abbrev pub IsFileKey : List ℕ → Type 0
-IsFileKey bytes = (name : Digest) × ((bytes ≡ key_spelling (key.MetaRange name)) ⊎ (bytes ≡ key_spelling (key.Range name)))
+-- a file, a metarange or a range
+abbrev pub IsFile : Stored → Type 0
+IsFile (stored.MetaRange name bytes) = Unit {0}
+IsFile (stored.Range name bytes) = Unit {0}
+IsFile _ = ⊥
+
+-- a pair of a file, within the limits of the format
+abbrev pub IsFilePair : List ℕ → List ℕ → Type 0
+IsFilePair bytes value =
+    (s : Stored) × (IsFile s × (IsSpelledStored s × ((bytes ≡ key_spelling (key_of s)) × (value ≡ value_spelling s))))
 
 -- a pair of something that stands in a lake
 abbrev pub IsPairIn : LakeStateValue → List ℕ → List ℕ → Type 0
@@ -86,7 +92,7 @@ IsPairIn l bytes value =
 pub record StandFor (pairs : KeptPairs) (l : LakeStateValue) : Type 0 where
   pub spelled : (s : Stored) → StandsIn l s → IsSpelledStored s
   pub each : (s : Stored) → StandsIn l s → get pairs (key_spelling (key_of s)) ≡ Some (value_spelling s)
-  pub only : (bytes value : List ℕ) → get pairs bytes ≡ Some value → IsPairIn l bytes value ⊎ IsFileKey bytes
+  pub only : (bytes value : List ℕ) → get pairs bytes ≡ Some value → IsPairIn l bytes value ⊎ IsFilePair bytes value
 
 -- a lake put to rest: it has no unfinished uploads and no entries, and isn't stopped, and is otherwise as it was
 abbrev pub at_rest : LakeStateValue → LakeStateValue
