@@ -3,22 +3,29 @@ use Rattle.std.proofs.Common.{◌≡◌, ℕ, zero, suc, ◌<◌, Bool, true, fa
 use Rattle.std.proofs.Common.{Result, Ok, Err, refl, sym, ap, subst, ◌∙◌, inl, inr, arith, append_assoc}
 use Rattle.std.specs.List.{AllByRecursion, Contains, find}
 use Rattle.std.specs.List.{cons_option, filter_map}
+use Rattle.std.specs.FinMap.{entries, find as find_row, get, entries-from_sorted, get-from_sorted}
+use Rattle.std.specs.Ordering.{eq_by_cmp}
 use Rattle.std.specs.Option.{option_map}
 use Rattle.std.specs.Str.{bytes_eq}
 use Rattle.std.proofs.lemmas.Bool.{cases_Bool}
 use Rattle.std.proofs.lemmas.List.{append-nil}
+use Rattle.std.proofs.lemmas.List.Elements.{Contains-append_cases}
+use Rattle.std.proofs.lemmas.Map.Text.{is_eq-slice_cmp}
 use Rattle.std.proofs.lemmas.Slice.Eq.{bytes_eq-Decides}
+use Rattle.lake_base.specs.Maps.{byte_order, HasAscendingKeys}
 use Rattle.lake_base.specs.declared.digest.Digest.{Digest}
-use Rattle.lake_format.specs.Spelling.{file_name, line_of, metarange_spelling, range_spelling, AreBytes}
+use Rattle.lake_format.specs.Cutting.{files, ranges}
+use Rattle.lake_format.specs.Spelling.{file_name, line_of, metarange_spelling, range_spelling, AreBytes, FollowOn, IsMetarange, IsRange}
 use Rattle.lake_format.specs.declared.cut.Cut.{Cut}
 use Rattle.lake_format.specs.declared.range_line.RangeLine.{RangeLine}
 use Rattle.lake_values.specs.Commit.{CommitRecordValue}
+use Rattle.lake_values.specs.Entry.{EntryValue}
 use Rattle.range_file.specs.Rows.{RowValue}
 use Rattle.range_file.specs.RangeReading.{range_from}
 use Rattle.range_file.specs.declared.fault.RangeFault.{RangeFault}
-use Rattle.range_file.proofs.ReadingLemmas.{found as range_found}
+use Rattle.range_file.proofs.ReadingLemmas.{again as range_again, found as range_found}
 use Rattle.meta_range.specs.ReadingSteps.{◌>>=◌}
-use Rattle.meta_range.specs.Ranges.{TreeValue, first_file, tree_of}
+use Rattle.meta_range.specs.Ranges.{TreeValue, files_of, first_file, rows_of, tree_of}
 use Rattle.meta_range.specs.Files.{bytes_named}
 use Rattle.meta_range.specs.Metarange.{metarange_from}
 use Rattle.meta_range.specs.TreeReading.{cut_of, in_metarange, in_range, is_said, not_cut, read_file, read_range, read_ranges, IsGiven}
@@ -27,7 +34,7 @@ use Rattle.meta_range.specs.declared.fault.MetaFault.{MetaFault}
 use Rattle.meta_range.specs.declared.fault.TreeFault.{TreeFault}
 use Rattle.meta_range.specs.declared.fault.TreeFault.TheVariants.{Mismatch}
 use Rattle.meta_range.proofs.MetarangeLemmas.{found as metarange_found}
-use Rattle.meta_range.proofs.ReadingLemmas.{file_read, is_read}
+use Rattle.meta_range.proofs.ReadingLemmas.{ascend_read, file_read, is_cut, is_read}
 use Rattle.pair_format.specs.declared.stored.Stored.{Stored}
 use Rattle.pair_format.specs.declared.stored.Stored.TheVariants as stored
 use Rattle.pair_format.specs.PairSpelling.{IsSpelledStored}
@@ -138,6 +145,7 @@ chosen false x y fault e = absurd cc
 
 -- a range is read that is within its limits, of which this is said, and whose file is given
 pub record IsReadAt (given : List File) (line : RangeLine) (range : List RowValue) : Type 0 where
+  pub valid : IsRange range
   pub said : line ≡ line_of range
   pub named : IsGiven given range
 
@@ -152,28 +160,32 @@ module _ (given : List File) (fits : (name : Digest) (bytes : List ℕ) → byte
       let named = file_read line.name given file.0 file.1 in
       let read = is_read given line file.0 rows.0 file.1 (range_found file.0 rows.0 (fits line.name file.0 named.0)
       (range_ok i (range_from file.0) rows.0 rows.1)) last.0 in
-      subst (IsReadAt given line) last.1 (record { said = read.said; named = read.given })
+      subst (IsReadAt given line) last.1 (record { valid = read.valid; said = read.said; named = read.given })
 
   read_all : (lines : List RangeLine) (before ranges : List (List RowValue)) → read_ranges given before lines ≡ Ok ranges
-      → AllByRecursion (IsGiven given) before → AllByRecursion (IsGiven given) ranges × (map line_of ranges ≡ map line_of before ++ lines)
+      → AllByRecursion IsRange before → AllByRecursion (IsGiven given) before
+      → AllByRecursion IsRange ranges × AllByRecursion (IsGiven given) ranges × (map line_of ranges ≡ map line_of before ++ lines)
   unfolding read_ranges
-  read_all [] before ranges e all = (
+  read_all [] before ranges e within all = (
+    subst (AllByRecursion IsRange) (ok_is before ranges e) within,
     subst (AllByRecursion (IsGiven given)) (ok_is before ranges e) all,
     sym (ap (map line_of) (ok_is before ranges e)) ∙ sym (append-nil (map line_of before)),
   )
-  read_all (line ∷ lines) before ranges e all =
+  read_all (line ∷ lines) before ranges e within all =
       let one = bind_ok (read_range given (length before) line) (λ rows. read_ranges given (before ++ rows ∷ []) lines) ranges e in
       let is = read_one (length before) line one.0 one.1 in
-      let rest = read_all lines (before ++ one.0 ∷ []) ranges one.2 (all_more before all one.0 is.named) in (
+      let rest = read_all lines (before ++ one.0 ∷ []) ranges one.2 (all_more IsRange before within one.0 is.valid)
+      (all_more (IsGiven given) before all one.0 is.named) in (
         rest.0,
-        rest.1 ∙ ap (λ l. l ++ lines) (map_end before one.0) ∙ append_assoc (map line_of before) (line_of one.0 ∷ []) lines
+        rest.1,
+        rest.2 ∙ ap (λ l. l ++ lines) (map_end before one.0) ∙ append_assoc (map line_of before) (line_of one.0 ∷ []) lines
             ∙ ap (λ l. map line_of before ++ l ∷ lines) (sym is.said),
       )
     where
-      all_more : (xs : List (List RowValue)) → AllByRecursion (IsGiven given) xs → (x : List RowValue) → IsGiven given x
-          → AllByRecursion (IsGiven given) (xs ++ x ∷ [])
-      all_more [] all x is = (is, tt)
-      all_more (y ∷ xs) all x is = (all.0, all_more xs all.1 x is)
+      all_more : (P : List RowValue → Type 0) (xs : List (List RowValue)) → AllByRecursion P xs → (x : List RowValue) → P x
+          → AllByRecursion P (xs ++ x ∷ [])
+      all_more P [] all x is = (is, tt)
+      all_more P (y ∷ xs) all x is = (all.0, all_more P xs all.1 x is)
 
       map_end : (xs : List (List RowValue)) (x : List RowValue) → map line_of (xs ++ x ∷ []) ≡ map line_of xs ++ line_of x ∷ []
       map_end [] x = refl
@@ -199,6 +211,7 @@ pub record HasParts (name : Digest) (metaranges ranges : List File) (cut : Cut) 
   pub said : metarange_from bytes ≡ Ok lines
   pub read : List (List RowValue)
   pub reads : read_ranges ranges [] lines ≡ Ok read
+  pub uncut : not_cut cut read ≡ None
   pub is : tree_of read ≡ tree
 
 parts_of : (name : Digest) (metaranges ranges : List File) (cut : Cut) (tree : TreeValue) → tree_among name metaranges ranges cut ≡ Ok tree
@@ -216,9 +229,14 @@ parts_of name metaranges ranges cut tree e =
       said = metarange_ok (metarange_from file.0) lines.0 lines.1;
       read = read.0;
       reads = read.1;
+      uncut = none_so (not_cut cut read.0) read.0 tree read.2;
       is = cut_so (not_cut cut read.0) read.0 tree read.2;
     }
   where
+    none_so : (found : Option ℕ) (read : List (List RowValue)) (tree : TreeValue) → cut_of found read ≡ Ok tree → found ≡ None
+    none_so None read tree e = refl
+    none_so (Some i) read tree e = absurd cc
+
     cut_so : (found : Option ℕ) (read : List (List RowValue)) (tree : TreeValue) → cut_of found read ≡ Ok tree → tree_of read ≡ tree
     cut_so None read tree e = ok_is (tree_of read) tree e
     cut_so (Some i) read tree e = absurd cc
@@ -232,21 +250,74 @@ module _ (cut : Cut) (things : Things) (limits : (s : Stored) → IsThere things
   range_fits : (name : Digest) (bytes : List ℕ) → bytes_named name (ranges_in things) ≡ Some bytes → AreBytes bytes
   range_fits name bytes is = (limits (stored.Range name bytes) (file_there range_in stored.Range range_back things name bytes is)).valued
 
-  given_all : AllByRecursion (IsGiven (ranges_in things)) parts.read × (map line_of parts.read ≡ parts.lines)
-  given_all = read_all (ranges_in things) range_fits parts.lines [] parts.read parts.reads tt
+  given_all : AllByRecursion IsRange parts.read × AllByRecursion (IsGiven (ranges_in things)) parts.read × (map line_of parts.read ≡ parts.lines)
+  given_all = read_all (ranges_in things) range_fits parts.lines [] parts.read parts.reads tt tt
 
   -- a range of it is there
   pub range_there : (bytes : List ℕ) → Contains (drop 1 tree.files) bytes → IsThere things (stored.Range (file_name bytes) bytes)
   range_there bytes has =
       file_there range_in stored.Range range_back things (file_name bytes) bytes
-      (given_one (ranges_in things) range_fits parts.read given_all.0 bytes (subst (λ (t : TreeValue). Contains (drop 1 t.files) bytes) (sym parts.is) has))
+      (given_one (ranges_in things) range_fits parts.read given_all.1 bytes (subst (λ (t : TreeValue). Contains (drop 1 t.files) bytes) (sym parts.is) has))
+
+  metarange_spelled : IsMetarange parts.lines × (parts.bytes ≡ metarange_spelling parts.lines)
+  metarange_spelled =
+      let named = file_read commit.meta_range (metaranges_in things) parts.bytes parts.file in
+      let there = file_there metarange_in stored.MetaRange metarange_back things commit.meta_range parts.bytes named.0 in
+      metarange_found parts.bytes parts.lines (limits (stored.MetaRange commit.meta_range parts.bytes) there).valued parts.said
+
+  rows_ascend : HasAscendingKeys (rows_of parts.read)
+  rows_ascend = ascend_read parts.read given_all.0 (subst FollowOn (sym given_all.2) metarange_spelled.0.follow)
+
+  -- its files are those that the cut gives of its map
+  pub read_cut : tree.files ≡ files cut tree.map
+  unfolding files
+  read_cut =
+      let entries_are = entries-from_sorted byte_order (rows_of parts.read) rows_ascend in
+      let due = is_cut cut parts.read given_all.0 parts.uncut ∙ ap (ranges cut) (sym entries_are) in
+      subst (λ (t : TreeValue). t.files ≡ files_of (ranges cut (entries t.map))) parts.is (ap files_of due)
+
+  -- an entry of its map stands in one of its ranges
+  pub row_there : (path : List ℕ) (entry : EntryValue) → get tree.map path ≡ Some entry
+      → (bytes : List ℕ) × (rows : List RowValue) × Contains (drop 1 tree.files) bytes × (range_from bytes ≡ Ok rows) × Contains rows (path, entry)
+  row_there path entry stands =
+      let found : find_row byte_order path (rows_of parts.read) ≡ Some entry =
+      sym (get-from_sorted byte_order (rows_of parts.read) path rows_ascend) ∙ ap (λ (t : TreeValue). get t.map path) parts.is ∙ stands in
+      let row = row_in parts.read given_all.0 path entry (found_row (rows_of parts.read) path entry found) in
+      (row.0, row.1, subst (λ (t : TreeValue). Contains (drop 1 t.files) row.0) parts.is row.2, row.3, row.4)
+    where
+      -- what is found by a path stands there
+      found_row : (rows : List RowValue) (path : List ℕ) (entry : EntryValue) → find_row byte_order path rows ≡ Some entry → Contains rows (path, entry)
+      found_row [] path entry e = absurd cc
+      found_row (row ∷ rows) path entry e = by (eq_by_cmp byte_order path row.0) refl (found_row rows path entry)
+        where
+          by : (b : Bool) → eq_by_cmp byte_order path row.0 ≡ b → (find_row byte_order path rows ≡ Some entry → Contains rows (path, entry))
+              → Contains (row ∷ rows) (path, entry)
+          by true same more =
+              let value : row.1 ≡ entry = one (sym (ap (λ b. cond b (Some row.1) (find_row byte_order path rows)) same) ∙ e) in
+              let key : path ≡ row.0 = (bytes_eq-Decides path row.0).0 (sym (is_eq-slice_cmp path row.0) ∙ same) in
+              (0, omega arith, λ i. (sym key i, value i))
+            where
+              one : {x y : EntryValue} → Some x ≡ Some y → x ≡ y
+              one h = cc
+          by false apart more = later row rows (path, entry) (more (sym (ap (λ b. cond b (Some row.1) (find_row byte_order path rows)) apart) ∙ e))
+
+      row_in : (ranges : List (List RowValue)) → AllByRecursion IsRange ranges → (path : List ℕ) (entry : EntryValue)
+          → Contains (rows_of ranges) (path, entry)
+          → (bytes : List ℕ) × (rows : List RowValue) × Contains (map range_spelling ranges) bytes × (range_from bytes ≡ Ok rows) × Contains rows (path, entry)
+      row_in [] within path entry has = absurd (omega (arith, has.1))
+      row_in (range ∷ ranges) within path entry has =
+          elim (Contains-append_cases range (rows_of ranges) (path, entry) has) [
+            | inl here ↦ (range_spelling range, range, (0, omega arith, refl), range_again range within.0, here)
+            | inr there ↦
+                let rest = row_in ranges within.1 path entry there in
+                (rest.0, rest.1, later (range_spelling range) (map range_spelling ranges) rest.0 rest.2, rest.3, rest.4)
+          ]
 
   -- its metarange is there, under the name that the commit tells
   pub metarange_there : IsThere things (stored.MetaRange commit.meta_range (first_file tree.files)) × (commit.meta_range ≡ file_name (first_file tree.files))
   metarange_there =
       let named = file_read commit.meta_range (metaranges_in things) parts.bytes parts.file in
       let there = file_there metarange_in stored.MetaRange metarange_back things commit.meta_range parts.bytes named.0 in
-      let spelled = metarange_found parts.bytes parts.lines (limits (stored.MetaRange commit.meta_range parts.bytes) there).valued parts.said in
       let same : parts.bytes ≡ first_file tree.files =
-      spelled.1 ∙ ap metarange_spelling (sym given_all.1) ∙ ap (λ (t : TreeValue). first_file t.files) parts.is in
+      metarange_spelled.1 ∙ ap metarange_spelling (sym given_all.2) ∙ ap (λ (t : TreeValue). first_file t.files) parts.is in
       (subst (λ b. IsThere things (stored.MetaRange commit.meta_range b)) same there, named.1 ∙ ap file_name same)
