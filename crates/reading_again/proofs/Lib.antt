@@ -1,0 +1,10 @@
+pub mod PlaceLemmas
+pub mod KindLemmas
+pub mod TreeAgainLemmas
+pub mod FileTieLemmas
+pub mod StagedTieLemmas
+pub mod ReadAgainLemmas
+pub mod SameMapLemmas
+pub mod SameSideLemmas
+pub mod SameLakeLemmas
+pub mod GivenNumberLemmas
