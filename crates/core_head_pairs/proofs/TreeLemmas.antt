@@ -7,7 +7,6 @@ use Rattle.meta_range.specs.Ranges.{TreeValue}
 use Rattle.byte_map.proofs.ByteMapLemmas.{get_inserted}
 use Rattle.pair_format.specs.declared.stored.Stored.{Stored}
 use Rattle.pair_format.specs.declared.stored.Stored.TheVariants as stored
-use Rattle.pair_format.specs.PairSpelling.{key_of, key_spelling}
 use Rattle.keeper.specs.Keepers.{KeptPairs}
 use Rattle.core_state.specs.RepositoryStates.{RepositoryStateValue}
 use Rattle.core_state.specs.LakeStates.{LakeStateValue}

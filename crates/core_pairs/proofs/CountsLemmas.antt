@@ -7,7 +7,7 @@ use Rattle.lake_model.specs.Parts.{changed_at}
 use Rattle.pair_format.specs.declared.key.OwnedKey.TheVariants as key
 use Rattle.pair_format.specs.declared.stored.Stored.{Stored}
 use Rattle.pair_format.specs.declared.stored.Stored.TheVariants as stored
-use Rattle.pair_format.specs.PairSpelling.{IsSpelledStored, key_of, key_spelling}
+use Rattle.pair_format.specs.PairSpelling.{IsSpelledStored, key_of}
 use Rattle.keeper.specs.declared.put.Put.{Put}
 use Rattle.keeper.specs.Keepers.{KeptPairs, pairs_after, pairs_with}
 use Rattle.core_state.specs.Counts.{AreFew}

@@ -1,5 +1,5 @@
 -- The commits of a repository that was read are those that its pairs spell.
-use Rattle.std.proofs.Common.{◌≡◌, ℕ, Bool, List, Option, Some, None, IsSome, refl, sym, ap, subst, ◌∙◌}
+use Rattle.std.proofs.Common.{◌≡◌, ℕ, Bool, List, Option, Some, None, IsSome, refl, sym, subst, ◌∙◌}
 use Rattle.std.specs.FinMap.{contains_key, get}
 use Rattle.lake_base.specs.Maps.{HasAscendingKeys}
 use Rattle.lake_base.specs.declared.digest.Digest.{Digest}
@@ -76,7 +76,8 @@ module _ (cut : Cut) (pairs : List Pair) (l : LakeStateValue) (ascend : HasAscen
   module _ (id : Digest) (commit : CommitRecordValue) (is : commit_of r.commits id ≡ Some commit) where
     pub commit_place : IsTiedThere cut (things_of pairs) (stored.Commit repo id (contains_key r.expired id.0) commit)
     commit_place =
-        tie_of cut pairs l ascend tied read (stored.Commit repo id (contains_key r.expired id.0) commit) (commit_stands pairs l ascend read.stand repo r in_lake id commit is)
+        tie_of cut pairs l ascend tied read (stored.Commit repo id (contains_key r.expired id.0) commit)
+        (commit_stands pairs l ascend read.stand repo r in_lake id commit is)
 
     pub commit_tie : IsTiedCommit (things_of pairs) commit_place.place repo id commit
     commit_tie = commit_place.tie

@@ -1,9 +1,8 @@
 -- What has a key, by the kind of the key.
-use Rattle.std.proofs.Common.{◌≡◌, ℕ, Bool, List, refl, ap, ◌∙◌}
+use Rattle.std.proofs.Common.{◌≡◌, ℕ, Bool, List, ap}
 use Rattle.lake_base.specs.declared.digest.Digest.{Digest}
 use Rattle.lake_values.specs.Commit.{CommitRecordValue}
 use Rattle.lake_values.specs.declared.entry.Change.{Change}
-use Rattle.pair_format.specs.declared.key.OwnedKey.{OwnedKey}
 use Rattle.pair_format.specs.declared.key.OwnedKey.TheVariants as key
 use Rattle.pair_format.specs.declared.stored.Stored.{Stored}
 use Rattle.pair_format.specs.declared.stored.Stored.TheVariants as stored

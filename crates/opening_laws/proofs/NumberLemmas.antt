@@ -1,13 +1,12 @@
 -- The numbers that a lake names that was read from tied pairs: they were given out, and none of them is gone.
-use Rattle.std.proofs.Common.{◌≡◌, ◌⊎◌, inl, inr, ℕ, ◌<◌, Bool, true, false, List, [], ◌∷◌, ◌++◌, Option, Some, None, Ok, IsSome, IfSome, refl, sym, ap, subst, ◌∙◌}
-use Rattle.std.specs.Prelude.{option_map}
+use Rattle.std.proofs.Common.{◌≡◌, ◌⊎◌, inl, inr, ℕ, ◌<◌, true, false, List, [], ◌∷◌, ◌++◌, Some, None, Ok, IfSome}
+use Rattle.std.proofs.Common.{refl, sym, ap, subst, ◌∙◌}
 use Rattle.std.specs.List.{Contains}
 use Rattle.std.specs.Option.{option_map_or}
 use Rattle.std.specs.Ordering.{nat_cmp}
 use Rattle.std.specs.Result.{result_ok}
-use Rattle.std.specs.FinMap.{contains_key, empty, get, get-empty}
+use Rattle.std.specs.FinMap.{contains_key, get, get-empty}
 use Rattle.lake_base.specs.Maps.{HasAscendingKeys}
-use Rattle.lake_base.specs.declared.digest.Digest.{Digest}
 use Rattle.lake_values.specs.Ancestry.{commit_of}
 use Rattle.lake_values.specs.Commit.{CommitRecordValue}
 use Rattle.lake_values.specs.Entry.{EntryValue}
@@ -19,18 +18,16 @@ use Rattle.range_file.specs.Rows.{RowValue}
 use Rattle.branch_record.specs.Record.{AreDistinct, is_among}
 use Rattle.branch_record.specs.Tokens.{changes_under}
 use Rattle.branch_record.proofs.TokensLemmas.{first_apart, rest_distinct}
-use Rattle.byte_map.specs.Values.{map_values}
 use Rattle.byte_map.proofs.ValuesLemmas.{get_map_values}
-use Rattle.lake_model.specs.Naming.{IsCommitted, IsNamed, IsNamedIn, IsPut, IsUncommitted}
+use Rattle.lake_model.specs.Naming.{IsCommitted, IsNamed, IsPut, IsUncommitted}
 use Rattle.lake_model.specs.Soundness.{IsSound, IsSoundRepository}
 use Rattle.lake_model.specs.State.{Branch, Repository}
 use Rattle.lake_model.specs.Uncommitted.{own_number, put_number}
-use Rattle.pair_format.specs.declared.key.OwnedKey.TheVariants as key
 use Rattle.pair_format.specs.declared.pair.Pair.{Pair}
 use Rattle.pair_format.specs.declared.stored.Stored.TheVariants as stored
 use Rattle.keeper.specs.Keepers.{entries_of}
 use Rattle.pair_trees.specs.PairTrees.{IsReadRange, numbers_in, numbers_of}
-use Rattle.pair_trees.specs.Things.{HasKey, IsGivenNumber, IsGone, IsThere, Things, things_of}
+use Rattle.pair_trees.specs.Things.{IsGivenNumber, IsGone, IsThere, Things, things_of}
 use Rattle.pair_trees.proofs.ProvenanceLemmas.{range_there, row_there}
 use Rattle.pair_ties.specs.PairTies.{AreTied as AreTiedPairs, IsHidden, IsTiedRange, IsTiedStaged}
 use Rattle.core_state.specs.BranchStates.{BranchStateValue, branch_of, tokens_of}
@@ -52,7 +49,7 @@ nothing : {X : Type 0} {x : X} → Some x ≡ None → ⊥
 nothing e = cc
 
 -- an own number of a row of a range is one of those that its file names
-number_in : (bytes : List ℕ) (rows : List RowValue) (path : List ℕ) (entry : EntryValue) (number : ℕ) → range_from bytes ≡ Ok rows
+pub number_in : (bytes : List ℕ) (rows : List RowValue) (path : List ℕ) (entry : EntryValue) (number : ℕ) → range_from bytes ≡ Ok rows
     → Contains rows (path, entry) → own_number entry.place ≡ Some number → Contains (numbers_in bytes) number
 unfolding numbers_in
 number_in bytes rows path entry number is has names =
@@ -138,7 +135,8 @@ module _ (cut : Cut) (pairs : List Pair) (l : LakeStateValue) (ascend : HasAscen
       over_it : (token : ℕ) (path : List ℕ) → is_among (tokens_of b) token ≡ true → IsHidden things token path → IsOver token path
       over_it token path names h =
           let home = branch_opened l h.repo h.branch (IsRecord h.version h.head h.staging (h.newer ++ token ∷ h.older))
-          (there_stands pairs l ascend read.stand (stored.Branch h.repo h.branch h.version h.head h.staging (h.newer ++ token ∷ h.older)) (λ file. file) h.there) in
+          (there_stands pairs l ascend read.stand (stored.Branch h.repo h.branch h.version h.head h.staging (h.newer ++ token ∷ h.older))
+          (λ file. file) h.there) in
           let sealed : home.b.sealed ≡ h.newer ++ token ∷ h.older = home.holds.1.1.1 in
           let own : home.b ≡ b =
           this_one token names h.repo h.branch (IsRecord h.version h.head h.staging (h.newer ++ token ∷ h.older)) home
@@ -183,8 +181,10 @@ module _ (cut : Cut) (pairs : List Pair) (l : LakeStateValue) (ascend : HasAscen
             (subst (λ o. IfSome o (λ n. IsGone things n → IsHidden things token path)) names change_tie.apart (gone_there number gone))
 
       staged : (number : ℕ) → IsPut (changes_under b.tokens b.staging) number → IsFine number
-      staged number put =
-          (given b.staging put.path put.change number put.stands put.names, λ gone. apart (over_gone b.staging put.path put.change number put.stands put.names gone))
+      staged number put = (
+        given b.staging put.path put.change number put.stands put.names,
+        λ gone. apart (over_gone b.staging put.path put.change number put.stands put.names gone),
+      )
         where
           apart : IsOver b.staging put.path → ⊥
           apart over =

@@ -1,12 +1,12 @@
 -- What stands in a lake, and what the pairs spell that stand for it.
-use Rattle.std.proofs.Common.{◌≡◌, ◌⊎◌, inl, inr, ℕ, zero, suc, ◌<◌, Bool, true, false, cond, List, [], ◌∷◌, length, map, get_or, Option, Some, None, Ok}
+use Rattle.std.proofs.Common.{◌≡◌, ◌⊎◌, inl, inr, ℕ, suc, ◌<◌, Bool, true, false, cond, List, [], ◌∷◌, length, get_or, Option, Some}
 use Rattle.std.proofs.Common.{IsSomeAnd, refl, sym, ap, subst, ◌∙◌, arith}
 use Rattle.std.specs.List.{Contains}
 use Rattle.std.specs.Cmp.{tied_itself}
 use Rattle.std.specs.Ordering.{eq_by_cmp}
 use Rattle.std.specs.Result.{result_ok}
 use Rattle.std.specs.declared.cmp.Ordering.TheVariants.{Equal}
-use Rattle.std.specs.FinMap.{find, get, get-from_sorted}
+use Rattle.std.specs.FinMap.{find, get-from_sorted}
 use Rattle.std.proofs.lemmas.Cmp.{nat_list_cmp_total}
 use Rattle.std.proofs.lemmas.List.{get_or-map, length-map}
 use Rattle.std.proofs.lemmas.List.Elements.{Contains-get_or}
@@ -22,7 +22,7 @@ use Rattle.pair_format.specs.PairReading.{pair_from}
 use Rattle.pair_format.specs.PairSpelling.{IsSpelledStored, key_of, key_spelling, value_spelling}
 use Rattle.pair_format.proofs.ReadingLemmas.{again}
 use Rattle.keeper.specs.Keepers.{entries_of}
-use Rattle.pair_trees.specs.Things.{IsThere, Spells, Things, kept_of, thing_at, thing_of, things_of}
+use Rattle.pair_trees.specs.Things.{IsThere, Spells, Things, kept_of, thing_of, things_of}
 use Rattle.pair_trees.proofs.ThingsLemmas.{there_spells, thing_here}
 use Rattle.pair_ties.specs.PairTies.{AreTied, IsTied}
 use Rattle.core_state.specs.LakeStates.{LakeStateValue}

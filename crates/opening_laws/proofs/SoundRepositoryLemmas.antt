@@ -1,21 +1,21 @@
 -- A repository that was read from tied pairs is sound.
-use Rattle.std.proofs.Common.{◌≡◌, ℕ, Bool, true, false, List, Option, Some, None, Ok, IsSome, refl, sym, ap, subst, ◌∙◌}
+use Rattle.std.proofs.Common.{◌≡◌, ℕ, false, List, Option, Some, None, Ok, IsSome, refl, sym, ap, subst, ◌∙◌}
 use Rattle.std.specs.Prelude.{is_some, option_map}
 use Rattle.std.specs.Option.{unwrap_or}
-use Rattle.std.specs.FinMap.{contains_key, empty, get}
-use Rattle.lake_base.specs.Maps.{ByteMap, HasAscendingKeys}
+use Rattle.std.specs.FinMap.{empty, get}
+use Rattle.lake_base.specs.Maps.{HasAscendingKeys}
 use Rattle.lake_base.specs.Names.{is_like_id}
 use Rattle.lake_base.specs.declared.digest.Digest.{Digest}
 use Rattle.lake_values.specs.Ancestry.{commit_of}
 use Rattle.lake_values.specs.Commit.{CommitRecordValue}
-use Rattle.lake_format.specs.Cutting.{files, tree_id}
-use Rattle.lake_format.specs.Spelling.{commit_id, file_name}
+use Rattle.lake_format.specs.Cutting.{tree_id}
+use Rattle.lake_format.specs.Spelling.{file_name}
 use Rattle.lake_format.specs.declared.cut.Cut.{Cut}
 use Rattle.meta_range.specs.Ranges.{TreeValue, first_file}
 use Rattle.meta_range.proofs.LawLemmas.{first_is}
 use Rattle.byte_map.specs.Values.{map_values}
 use Rattle.byte_map.proofs.ValuesLemmas.{get_map_values}
-use Rattle.lake_model.specs.State.{Branch, HasCommit, HasLiveCommit, map_of}
+use Rattle.lake_model.specs.State.{Branch, HasLiveCommit, map_of}
 use Rattle.lake_model.specs.Soundness.{IsSoundRepository}
 use Rattle.pair_format.specs.declared.pair.Pair.{Pair}
 use Rattle.pair_format.specs.declared.stored.Stored.TheVariants as stored
@@ -24,7 +24,7 @@ use Rattle.pair_trees.specs.PairTrees.{tree_named}
 use Rattle.pair_trees.specs.Things.{HasLiveCommit as HasLivePair, IsThere, things_of}
 use Rattle.pair_trees.proofs.ProvenanceLemmas.{metarange_there, read_cut}
 use Rattle.pair_ties.specs.PairTies.{AreTied as AreTiedPairs, IsTiedTag}
-use Rattle.core_state.specs.BranchStates.{BranchStateValue, branch_of}
+use Rattle.core_state.specs.BranchStates.{branch_of}
 use Rattle.core_state.specs.RepositoryStates.{RepositoryStateValue, repository_of}
 use Rattle.core_state.specs.LakeStates.{LakeStateValue}
 use Rattle.core_pairs.specs.LakePairs.{StandsIn}

@@ -1,12 +1,11 @@
 -- The counts, the branches and the tokens of a lake that was read from tied pairs.
-use Rattle.std.proofs.Common.{◌≡◌, ◌⊎◌, inl, inr, ℕ, zero, suc, ◌<◌, ltb, Bool, true, false, ◌||◌, List, [], ◌∷◌, length, take, Option, Some, None}
-use Rattle.std.proofs.Common.{refl, sym, ap, subst, ◌∙◌, arith}
+use Rattle.std.proofs.Common.{◌≡◌, inl, inr, ℕ, zero, suc, ◌<◌, ltb, Bool, true, false, ◌||◌, List, [], ◌∷◌, take, Some}
+use Rattle.std.proofs.Common.{refl, sym, ap, ◌∙◌, arith}
 use Rattle.std.specs.Prelude.{nat_eq}
 use Rattle.std.specs.FinMap.{contains_key, get}
 use Rattle.std.proofs.lemmas.Bool.{cases_Bool, ltb-true, ltb-false}
 use Rattle.std.proofs.lemmas.List.Folds.{list_any-append}
 use Rattle.lake_base.specs.Maps.{HasAscendingKeys}
-use Rattle.lake_base.specs.declared.digest.Digest.{Digest}
 use Rattle.lake_values.specs.declared.entry.Change.{Change}
 use Rattle.lake_format.specs.declared.cut.Cut.{Cut}
 use Rattle.branch_record.specs.Record.{is_among}
@@ -22,7 +21,7 @@ use Rattle.core_state.specs.RepositoryStates.{RepositoryStateValue}
 use Rattle.core_state.specs.LakeStates.{LakeStateValue}
 use Rattle.core_standing.specs.Standing.{HasNoHistory}
 use Rattle.core_standing.specs.Ties.{AreTied, IsTied}
-use Rattle.core_pairs.specs.LakePairs.{AreTokensApart, HasBranchIn, StandsIn, at_rest}
+use Rattle.core_pairs.specs.LakePairs.{AreTokensApart, StandsIn}
 use Rattle.core_pairs.proofs.ThingLemmas.{HasChange, IsBranchThere, IsRecord, IsRepository, branch_closed, branch_opened, closed}
 use Rattle.opening_laws.specs.ReadLakes.{IsReadFrom}
 use Rattle.opening_laws.proofs.PairLemmas.{IsTiedThere, some_is, stands_there, tied_there}

@@ -23,7 +23,8 @@ pub fn laws_of_reading()
         → HasAscendingKeys (entries_of pairs) → IsReadFrom cut pairs l → AreTied l }
     ensures apart { (cut : AnyCut) (pairs : List AnyPair) (l : LakeStateValue) → AreTiedPairs cut (things_of pairs)
         → HasAscendingKeys (entries_of pairs) → IsReadFrom cut pairs l → AreTokensApart l }
-    ensures fresh { (cut : AnyCut) (pairs : List AnyPair) (l : LakeStateValue) → IsReadFrom cut pairs l → HasNoHistory l }
+    ensures fresh { (cut : AnyCut) (pairs : List AnyPair) (l : LakeStateValue) → IsReadFrom cut pairs l
+        → HasNoHistory l }
     ensures sound { (cut : AnyCut) (pairs : List AnyPair) (l : LakeStateValue) → AreTiedPairs cut (things_of pairs)
         → HasAscendingKeys (entries_of pairs) → IsReadFrom cut pairs l → IsSound (state_of l) }
 {}

@@ -1,5 +1,5 @@
 -- The trees of a lake in order are those that its pairs spell, and its files are tied.
-use Rattle.std.proofs.Common.{◌≡◌, ◌⊎◌, inl, inr, ℕ, ◌<◌, Bool, true, false, List, [], ◌∷◌, length, map, drop, Option, Some, None, Result, Ok, IsSome, IfSome}
+use Rattle.std.proofs.Common.{◌≡◌, inl, ℕ, Bool, true, false, List, ◌∷◌, drop, Some, Result, Ok, IsSome}
 use Rattle.std.proofs.Common.{refl, sym, ap, subst, ◌∙◌, arith}
 use Rattle.std.specs.Prelude.{is_some, option_map}
 use Rattle.std.specs.List.{Contains}
@@ -22,7 +22,7 @@ use Rattle.pair_format.specs.declared.pair.Pair.{Pair}
 use Rattle.pair_format.specs.declared.stored.Stored.TheVariants as stored
 use Rattle.keeper.specs.Keepers.{entries_of}
 use Rattle.pair_trees.specs.Found.{IsOnlyMetaRange, IsOnlyRange}
-use Rattle.pair_trees.specs.PairTrees.{IsReadMetaRange, IsReadRange, metaranges_in, numbers_in, ranges_in, tree_named}
+use Rattle.pair_trees.specs.PairTrees.{metaranges_in, numbers_in, ranges_in, tree_named}
 use Rattle.pair_trees.specs.Things.{IsGone, IsThere, Things, kept_of, things_of}
 use Rattle.pair_trees.proofs.TreesLemmas.{metarange_named, range_named}
 use Rattle.pair_ties.specs.PairTies.{IsTiedMetaRange, IsTiedRange}
@@ -101,8 +101,9 @@ module _ (cut : Cut) (pairs : List Pair) (l : LakeStateValue) (ascend : HasAscen
         let named : commit.meta_range ≡ tree_id cut tree.map =
         (sound_here cut pairs l ascend stand order can repo r in_lake).trees id commit is
         ∙ ap (λ c. tree_id c (map_of (repository_of r) id)) can.cut_is ∙ ap (tree_id cut) map_so in
-        among_again commit.meta_range (metaranges_in things) (ranges_in things) cut tree.map (can.fits tree tree_in) named
-        (subst (λ fs. bytes_named (file_name (first_file fs)) (metaranges_in things) ≡ Some (first_file fs)) cut_so (metarange_named things (file_name (first_file tree.files)) (first_file tree.files) metarange_only))
+        among_again commit.meta_range (metaranges_in things) (ranges_in things) cut tree.map (can.parts.fits repo r id.0 tree in_lake at) named
+        (subst (λ fs. bytes_named (file_name (first_file fs)) (metaranges_in things) ≡ Some (first_file fs)) cut_so
+        (metarange_named things (file_name (first_file tree.files)) (first_file tree.files) metarange_only))
         (λ bytes among.
         let here : Contains (drop 1 tree.files) bytes = subst (λ fs. Contains (drop 1 fs) bytes) (sym cut_so) among in
         range_named things (file_name bytes) bytes (range_only bytes here))
@@ -180,7 +181,7 @@ module _ (cut : Cut) (pairs : List Pair) (l : LakeStateValue) (ascend : HasAscen
   in_map : (repo : List ℕ) (id : Digest) (expired : Bool) (commit : CommitRecordValue) (tree : TreeValue) (of : IsTreeOfLake repo id expired commit tree)
       → (bytes : List ℕ) (number : ℕ) → Contains (drop 1 tree.files) bytes → Contains (numbers_in bytes) number → IsInMap tree.map number
   in_map repo id expired commit tree of bytes number among names =
-      number_back cut tree.map bytes number (can.fits tree (tree_in repo of.r of.in_lake id tree of.at))
+      number_back cut tree.map bytes number (can.parts.fits repo of.r id.0 tree of.in_lake of.at)
       (subst (λ fs. Contains (drop 1 fs) bytes) (cut_so repo of.r of.in_lake id tree of.at) among) names
 
   -- a number of the map of a live commit is named

@@ -1,6 +1,6 @@
 -- After each change the own numbers of a lake were given out.
-use Rattle.std.proofs.Common.{◌≡◌, ℕ, ◌<◌, ◌≤◌, ◌+◌, Bool, true, false, cond, List, ◌∷◌, Option, Some, None, IfSome, arith, refl, sym, ap, subst, ◌∙◌}
-use Rattle.std.specs.Prelude.{nat_eq}
+use Rattle.std.proofs.Common.{◌≡◌, ℕ, ◌<◌, ◌≤◌, Bool, true, false, cond, List, ◌∷◌, Option, Some, None, IfSome, arith, refl, sym, ap, subst, ◌∙◌}
+use Rattle.std.specs.Prelude.{codes, nat_eq}
 use Rattle.std.specs.Option.{option_map_or}
 use Rattle.std.specs.Str.{bytes_eq}
 use Rattle.std.specs.FinMap.{contains_key, empty, get, insert, remove}
@@ -11,6 +11,7 @@ use Rattle.lake_values.specs.Reset.{changes_after_reset, drops_path}
 use Rattle.lake_values.specs.declared.commit.ResetWhat.{ResetWhat}
 use Rattle.lake_values.specs.declared.entry.Change.{Change}
 use Rattle.lake_values.proofs.ResetLemmas.{get_reset}
+use Rattle.lake_format.specs.declared.cut.Cut.{Cut}
 use Rattle.meta_range.specs.Ranges.{TreeValue}
 use Rattle.branch_record.specs.Record.{is_among}
 use Rattle.branch_record.specs.Tokens.{changes_under, with_change}
@@ -19,7 +20,7 @@ use Rattle.byte_map.proofs.ByteMapLemmas.{get_empty, get_insert}
 use Rattle.lake_model.specs.Parts.{changed_at}
 use Rattle.lake_model.specs.Uncommitted.{put_number}
 use Rattle.core_state.specs.BranchStates.{BranchStateValue, new_branch, tokens_of}
-use Rattle.core_state.specs.FirstStates.{first_id, first_tree, founded_repository}
+use Rattle.core_state.specs.FirstStates.{first_id, first_tree, founded_repository, fresh_lake}
 use Rattle.core_state.specs.NewCommits.{NewCommit, with_new_commit, with_new_head}
 use Rattle.core_state.specs.RepositoryStates.{RepositoryStateValue}
 use Rattle.core_state.specs.LakeStates.{LakeStateValue}
@@ -77,18 +78,22 @@ module _ (next : ℕ) where
       → AreChangesBelow next (branch_after (branch.Stage path change) b)
   unfolding with_change
   staged_below path change fits b below token other its number stands names =
-      by (nat_eq token b.staging) (subst (λ (c : ChangesValue). get c other ≡ Some its) (under_with b.tokens b.staging (insert (changes_under b.tokens b.staging) path change) token) stands)
+      by (nat_eq token b.staging)
+      (subst (λ (c : ChangesValue). get c other ≡ Some its)
+      (under_with b.tokens b.staging (insert (changes_under b.tokens b.staging) path change) token) stands)
     where
       own : (test : Bool) → cond test (Some change) (get (changes_under b.tokens b.staging) other) ≡ Some its → number < next
       own true is = subst (λ o. IfSome o (λ number. number < next)) (ap put_number (some_is is) ∙ names) fits
       own false is = below b.staging other its number is names
 
-      by : (test : Bool) → get (cond test (insert (changes_under b.tokens b.staging) path change) (changes_under b.tokens token)) other ≡ Some its → number < next
+      by : (test : Bool) → get (cond test (insert (changes_under b.tokens b.staging) path change) (changes_under b.tokens token)) other ≡ Some its
+          → number < next
       by true is = own (bytes_eq other path) (sym (get_insert (changes_under b.tokens b.staging) path change other) ∙ is)
       by false is = below token other its number is names
 
   -- changes are dropped
-  reset_below : (what : ResetWhat) (version : ℕ) (b : BranchStateValue) → AreChangesBelow next b → AreChangesBelow next (branch_after (branch.Reset what version) b)
+  reset_below : (what : ResetWhat) (version : ℕ) (b : BranchStateValue) → AreChangesBelow next b
+      → AreChangesBelow next (branch_after (branch.Reset what version) b)
   reset_below what version b below token path change number stands names =
       by (is_among (tokens_of b) token)
       (subst (λ (c : ChangesValue). get c path ≡ Some change) (under_changed (changes_after_reset what) b.tokens (tokens_of b) token) stands)
@@ -116,7 +121,8 @@ module _ (next : ℕ) where
   sealed_below fresh version b below token path change number stands names =
       below token path change number (by (contains_key b.tokens b.staging) stands) names
     where
-      by : (test : Bool) → get (changes_under (record (cond test (record b { staging = fresh; sealed = b.staging ∷ b.sealed }) b) { version = version }).tokens token)
+      by : (test : Bool)
+          → get (changes_under (record (cond test (record b { staging = fresh; sealed = b.staging ∷ b.sealed }) b) { version = version }).tokens token)
           path ≡ Some change → get (changes_under b.tokens token) path ≡ Some change
       by true is = is
       by false is = is
@@ -152,11 +158,21 @@ module _ (next : ℕ) where
   committed_below name new version fits r below = record {
     changes = all_changed (λ name b. AreChangesBelow next b) r.branches name (with_new_head version new.id)
         (λ n b tie at. head_below version new.id b (below.changes n b at)) (λ n b tie at. below.changes n b at);
-    maps = all_inserted (λ id (tree : TreeValue). IsMapBelow next tree.map) r.trees new.id.0 new.tree (λ id tie. fits) (λ id tree tie at. below.maps id tree at);
+    maps = all_inserted (λ id (tree : TreeValue). IsMapBelow next tree.map) r.trees new.id.0 new.tree (λ id tie. fits)
+        (λ id tree tie at. below.maps id tree at);
   }
 
   none_there : {X : Type 0} (P : List ℕ → X → Type 0) (q : List ℕ) (x : X) → get (empty {X = X} {R = byte_order}) q ≡ Some x → P q x
   none_there P q x at = absurd (nothing (sym (get_empty q) ∙ at))
+
+  -- a new repository names none
+  founded_below : (cut : Cut) (date : ℕ) (name : List ℕ) (version token : ℕ) → HasNumbersBelow next (founded_repository cut date name version token)
+  founded_below cut date name version token = record {
+    changes = all_inserted (λ name b. AreChangesBelow next b) empty name (new_branch version (first_id cut date) token)
+        (λ n tie. new_below version (first_id cut date) token) (λ n b tie at. none_there (λ name b. AreChangesBelow next b) n b at);
+    maps = all_inserted (λ id (tree : TreeValue). IsMapBelow next tree.map) empty (first_id cut date).0 (first_tree cut) (λ id tie. empty_below)
+        (λ id tree tie at. none_there (λ id (tree : TreeValue). IsMapBelow next tree.map) id tree at);
+  }
 
 -- ---- lakes
 
@@ -207,17 +223,7 @@ module _ (l : LakeStateValue) (given : AreNumbersGiven l) (q name : List ℕ) wh
   pub found_given : (date : ℕ) → AreNumbersGiven (after_repository_create q name date l)
   found_given date repo r at =
       all_inserted (λ repo r. HasNumbersBelow l.next_number r) l.repositories q (founded_repository l.cut date name l.next_version l.next_token)
-      (λ repo tie. founded) (λ repo r tie there. given repo r there) repo r at
-    where
-      founded : HasNumbersBelow l.next_number (founded_repository l.cut date name l.next_version l.next_token)
-      founded = record {
-        changes = all_inserted (λ name b. AreChangesBelow l.next_number b) empty name (new_branch l.next_version (first_id l.cut date) l.next_token)
-            (λ n tie. new_below l.next_number l.next_version (first_id l.cut date) l.next_token)
-            (λ n b tie at. none_there l.next_number (λ name b. AreChangesBelow l.next_number b) n b at);
-        maps = all_inserted (λ id (tree : TreeValue). IsMapBelow l.next_number tree.map) empty (first_id l.cut date).0 (first_tree l.cut)
-            (λ id tie. empty_below l.next_number)
-            (λ id tree tie at. none_there l.next_number (λ id (tree : TreeValue). IsMapBelow l.next_number tree.map) id tree at);
-      }
+      (λ repo tie. founded_below l.next_number l.cut date name l.next_version l.next_token) (λ repo r tie there. given repo r there) repo r at
 
   -- what is neither of its branches nor of its trees was changed
   pub others_given : (change : RepositoryStateValue → RepositoryStateValue) → ((r : RepositoryStateValue) → (change r).branches ≡ r.branches)
@@ -229,3 +235,9 @@ module _ (l : LakeStateValue) (given : AreNumbersGiven l) (q name : List ℕ) wh
         changes = λ n b at. below.changes n b (subst (λ (all : ByteMap BranchStateValue). get all n ≡ Some b) (branches r) at);
         maps = λ id tree at. below.maps id tree (subst (λ (all : ByteMap TreeValue). get all id ≡ Some tree) (trees r) at);
       }) given
+
+-- the fresh lake names none
+pub fresh_given : (cut : Cut) → AreNumbersGiven (fresh_lake cut)
+fresh_given cut repo r at =
+    all_inserted (λ repo r. HasNumbersBelow 0 r) empty (codes "quickstart") (founded_repository cut 0 (codes "main") 1 0)
+    (λ repo tie. founded_below 0 cut 0 (codes "main") 1 0) (λ repo r tie there. none_there 0 (λ repo r. HasNumbersBelow 0 r) repo r there) repo r at

@@ -1,5 +1,5 @@
 -- What stands in a lake in order is tied among the pairs that stand for it, kind by kind.
-use Rattle.std.proofs.Common.{◌≡◌, ◌⊎◌, inl, inr, ℕ, ◌<◌, Bool, true, false, List, [], ◌∷◌, length, take, Option, Some, None, IsSome, IsSomeAnd}
+use Rattle.std.proofs.Common.{◌≡◌, inl, inr, ℕ, ◌<◌, Bool, true, false, List, [], ◌∷◌, take, Some, IsSome, IsSomeAnd}
 use Rattle.std.proofs.Common.{refl, sym, ap, subst, ◌∙◌, arith}
 use Rattle.std.specs.Prelude.{is_some, option_map}
 use Rattle.std.specs.Option.{option_and_then, unwrap_or}
@@ -25,7 +25,7 @@ use Rattle.pair_format.specs.declared.stored.Stored.{Stored}
 use Rattle.pair_format.specs.declared.stored.Stored.TheVariants as stored
 use Rattle.keeper.specs.Keepers.{entries_of}
 use Rattle.pair_trees.specs.SettingTexts.{IsTextOf}
-use Rattle.pair_trees.specs.Things.{HasKey, HasLiveCommit as HasLivePair, IsGivenNumber, IsGivenToken, IsGivenVersion, IsThere, Spells, Things, commits_in}
+use Rattle.pair_trees.specs.Things.{HasKey, HasLiveCommit as HasLivePair, IsGivenNumber, IsGivenToken, IsGivenVersion, IsThere, Spells, Things}
 use Rattle.pair_trees.specs.Things.{kept_of, things_of, tokens_in, tokens_named}
 use Rattle.pair_trees.proofs.ThingsLemmas.{spells_there}
 use Rattle.pair_ties.specs.PairTies.{IsTiedBranch, IsTiedCommit, IsTiedCounts, IsTiedNote, IsTiedRepository, IsTiedTag}
@@ -35,9 +35,9 @@ use Rattle.core_state.specs.RepositoryStates.{RepositoryStateValue, repository_o
 use Rattle.core_state.specs.LakeStates.{LakeStateValue}
 use Rattle.core_puts.specs.Puts.{note_text}
 use Rattle.core_pairs.specs.LakePairs.{StandFor, StandsIn}
-use Rattle.core_pairs.proofs.ThingLemmas.{HasCommitOf, IsBranchThere, IsRecord, IsRepository, branch_closed, branch_opened, closed, opened}
+use Rattle.core_pairs.proofs.ThingLemmas.{HasCommitOf, IsRecord, IsRepository, branch_closed, branch_opened, closed, opened}
 use Rattle.lake_model.specs.NoteChanges.{note_at}
-use Rattle.opening_laws.proofs.GraphLemmas.{commit_stands, commit_there, same_commits}
+use Rattle.opening_laws.proofs.GraphLemmas.{commit_stands, same_commits}
 use Rattle.opening_laws.proofs.PairLemmas.{some_is, stands_there, there_stands}
 use Rattle.opening_laws.proofs.SoundRepositoryLemmas.{mapped_some, some_there}
 use Rattle.reading_again.specs.ReadableLakes.{CanBeRead, IsInOrder}
@@ -203,7 +203,8 @@ module _ (cut : Cut) (pairs : List Pair) (l : LakeStateValue) (ascend : HasAscen
         let bytes : commit_spelling other ≡ commit_spelling commit =
         some_is (sym (order.index.commits home x.one id other x.is x.holds.0) ∙ order.index.commits repo r id commit in_lake is) in
         commit_apart other commit (stand.spelled (stored.Commit home id expired other) h).valued
-        (stand.spelled (stored.Commit repo id (contains_key r.expired id.0) commit) (commit_stands pairs l ascend stand repo r in_lake id commit is)).valued bytes
+        (stand.spelled (stored.Commit repo id (contains_key r.expired id.0) commit)
+        (commit_stands pairs l ascend stand repo r in_lake id commit is)).valued bytes
 
     pub commit_so : (n : ℕ) (id : Digest) (commit : CommitRecordValue) → commit_of r.commits id ≡ Some commit → IsTiedCommit things n repo id commit
     commit_so n id commit is = record {
@@ -221,7 +222,8 @@ module _ (cut : Cut) (pairs : List Pair) (l : LakeStateValue) (ascend : HasAscen
 
   -- ---- by what is stored
 
-  pub repository_tied : (repo : List ℕ) (created : ℕ) (default_branch : List ℕ) (settings : ℕ) → StandsIn l (stored.Repository repo created default_branch settings)
+  pub repository_tied : (repo : List ℕ) (created : ℕ) (default_branch : List ℕ) (settings : ℕ)
+      → StandsIn l (stored.Repository repo created default_branch settings)
       → IsTiedRepository things repo default_branch settings
   repository_tied repo created default_branch settings h =
       let r = opened (get l.repositories repo) (IsRepository created default_branch settings) h in
@@ -257,5 +259,5 @@ module _ (cut : Cut) (pairs : List Pair) (l : LakeStateValue) (ascend : HasAscen
       let note = opened (note_at name r.one.notes) (λ note. note_text note ≡ text) r.holds in
       record {
         repository = repository_there repo r.one r.is;
-        kept = (note.one, subst (λ t. IsTextOf name t note.one) note.holds (can.texts repo r.one name note.one r.is note.is));
+        kept = (note.one, subst (λ t. IsTextOf name t note.one) note.holds (can.parts.texts repo r.one name note.one r.is note.is));
       }

@@ -8,3 +8,5 @@ pub mod SameMapLemmas
 pub mod SameSideLemmas
 pub mod SameLakeLemmas
 pub mod GivenNumberLemmas
+pub mod ReadNumberLemmas
+pub mod ReadablePartLemmas

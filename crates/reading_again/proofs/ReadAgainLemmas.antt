@@ -1,10 +1,9 @@
 -- The pairs of a lake in order are tied, so that none of them is broken, and each tree is read.
-use Rattle.std.proofs.Common.{◌≡◌, ◌⊎◌, inl, inr, ℕ, ◌<◌, Bool, List, [], ◌∷◌, length, Option, Some, None, Ok, IsOk, IsSomeAnd, refl, sym, ap, subst, ◌∙◌, arith}
+use Rattle.std.proofs.Common.{◌⊎◌, inl, inr, ℕ, ◌<◌, List, [], ◌∷◌, length, IsOk, IsSomeAnd, refl, sym}
+use Rattle.std.proofs.Common.{subst, ◌∙◌, arith}
 use Rattle.std.specs.FinMap.{get-from_sorted}
 use Rattle.std.proofs.lemmas.List.{length-map}
 use Rattle.lake_base.specs.Maps.{HasAscendingKeys, byte_order}
-use Rattle.lake_base.specs.declared.digest.Digest.{Digest}
-use Rattle.lake_values.specs.Commit.{CommitRecordValue}
 use Rattle.lake_format.specs.declared.cut.Cut.{Cut}
 use Rattle.pair_format.specs.declared.pair.Pair.{Pair}
 use Rattle.pair_format.specs.declared.stored.Stored.{Stored}

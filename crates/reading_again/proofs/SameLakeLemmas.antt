@@ -1,5 +1,5 @@
 -- A lake that was read from the pairs of another one is that lake, put to rest.
-use Rattle.std.proofs.Common.{◌≡◌, ℕ, Bool, true, false, List, [], ◌∷◌, Option, Some, None, Result, Ok, IsSome, arith, refl, sym, ap, subst, ◌∙◌}
+use Rattle.std.proofs.Common.{◌≡◌, ℕ, true, List, ◌∷◌, Option, Some, None, Result, Ok, IsSome, arith, refl, sym, ap, subst, ◌∙◌}
 use Rattle.std.specs.Prelude.{is_some, option_map}
 use Rattle.std.specs.List.{Contains}
 use Rattle.std.specs.FinMap.{contains_key, get}
@@ -24,8 +24,7 @@ use Rattle.lake_model.specs.NoteChanges.{note_at}
 use Rattle.pair_format.specs.declared.pair.Pair.{Pair}
 use Rattle.pair_format.specs.declared.stored.Stored.TheVariants as stored
 use Rattle.keeper.specs.Keepers.{entries_of}
-use Rattle.pair_trees.specs.PairTrees.{tree_named}
-use Rattle.pair_trees.specs.Things.{kept_of, things_of}
+use Rattle.pair_trees.specs.Things.{kept_of}
 use Rattle.core_state.specs.BranchStates.{BranchStateValue, branch_of, tokens_of}
 use Rattle.core_state.specs.Counts.{versions_of}
 use Rattle.core_state.specs.RepositoryStates.{RepositoryStateValue, repository_of}
@@ -154,8 +153,8 @@ module _ (cut : Cut) (pairs : List Pair) (l o : LakeStateValue) (ascend : HasAsc
 
     note_alike : (which : NoteName) → note_at which r.notes ≡ note_at which s.notes
     note_alike which =
-        alike (note_at which r.notes) (note_at which s.notes) (note_moved pairs ascend l o stand read.stand apart_o repo r s in_l in_o can.texts texts which)
-        (note_moved pairs ascend o l read.stand stand order.apart repo s r in_o in_l texts can.texts which)
+        alike (note_at which r.notes) (note_at which s.notes) (note_moved pairs ascend l o stand read.stand apart_o repo r s in_l in_o can.parts.texts texts which)
+        (note_moved pairs ascend o l read.stand stand order.apart repo s r in_o in_l texts can.parts.texts which)
 
     notes : r.notes ≡ s.notes
     notes = λ i. record {

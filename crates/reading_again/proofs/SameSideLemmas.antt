@@ -1,5 +1,5 @@
 -- What stands in one of two lakes, for which the same pairs stand, stands in the other.
-use Rattle.std.proofs.Common.{◌≡◌, ℕ, Bool, true, false, List, [], ◌∷◌, Option, Some, None, IsSomeAnd, refl, sym, ap, subst, ◌∙◌}
+use Rattle.std.proofs.Common.{◌≡◌, ℕ, true, List, Some, IsSomeAnd, refl, sym, ap, subst, ◌∙◌}
 use Rattle.std.specs.FinMap.{contains_key, get}
 use Rattle.lake_base.specs.Maps.{HasAscendingKeys}
 use Rattle.lake_base.specs.declared.digest.Digest.{Digest}
@@ -20,7 +20,7 @@ use Rattle.core_state.specs.RepositoryStates.{RepositoryStateValue}
 use Rattle.core_state.specs.LakeStates.{LakeStateValue}
 use Rattle.core_puts.specs.Puts.{note_text}
 use Rattle.core_pairs.specs.LakePairs.{AreTokensApart, IsFile, StandFor, StandsIn}
-use Rattle.core_pairs.proofs.ThingLemmas.{HasChange, HasCommitOf, IsBranchThere, IsRecord, IsRepository, branch_closed, branch_opened, closed, opened}
+use Rattle.core_pairs.proofs.ThingLemmas.{HasChange, IsBranchThere, IsRecord, IsRepository, branch_closed, branch_opened, closed, opened}
 use Rattle.opening_laws.proofs.LayerLemmas.{held}
 use Rattle.opening_laws.proofs.PairLemmas.{some_is, stands_there, there_stands}
 use Rattle.reading_again.specs.ReadableLakes.{HasTexts}

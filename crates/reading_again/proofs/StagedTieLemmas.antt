@@ -1,5 +1,6 @@
 -- The changes of a lake in order are tied among the pairs that stand for it.
-use Rattle.std.proofs.Common.{◌≡◌, ◌⊎◌, inl, inr, ℕ, zero, suc, ◌<◌, Bool, true, false, ◌||◌, List, [], ◌∷◌, ◌++◌, length, Option, Some, None, IfSome, refl, sym, ap, subst, ◌∙◌, arith}
+use Rattle.std.proofs.Common.{◌≡◌, ◌⊎◌, inl, inr, ℕ, Bool, true, false, ◌||◌, List, [], ◌∷◌, ◌++◌, Option, Some}
+use Rattle.std.proofs.Common.{None, IfSome, refl, sym, ap, subst, ◌∙◌, arith}
 use Rattle.std.specs.Prelude.{nat_eq, option_map}
 use Rattle.std.specs.List.{Contains}
 use Rattle.std.specs.Option.{option_or}
@@ -22,7 +23,7 @@ use Rattle.keeper.specs.Keepers.{entries_of}
 use Rattle.pair_trees.specs.Things.{IsGivenNumber, IsGone, IsThere, Things, kept_of, things_of, tokens_named}
 use Rattle.pair_trees.proofs.ThingsLemmas.{there_spells}
 use Rattle.pair_ties.specs.PairTies.{IsHidden, IsTiedStaged}
-use Rattle.core_state.specs.BranchStates.{BranchStateValue, branch_of, tokens_of}
+use Rattle.core_state.specs.BranchStates.{branch_of, tokens_of}
 use Rattle.core_state.specs.RepositoryStates.{repository_of}
 use Rattle.core_state.specs.LakeStates.{LakeStateValue, state_of}
 use Rattle.core_pairs.specs.LakePairs.{StandFor, StandsIn}
@@ -187,7 +188,8 @@ module _ (cut : Cut) (pairs : List Pair) (l : LakeStateValue) (ascend : HasAscen
   staged_so = record {
     held = held_so;
     given = if_some (put_number change) (λ number. IsGivenNumber things number)
-        (λ number names. number_told cut pairs l ascend stand order can number ((can.numbers h.0 x.r x.in_lake).changes h.1.0 x.b x.in_it token path change number x.holds names));
+        (λ number names. number_told cut pairs l ascend stand order can number
+        ((can.numbers h.0 x.r x.in_lake).changes h.1.0 x.b x.in_it token path change number x.holds names));
     apart = if_some (put_number change) (λ number. IsGone things number → IsHidden things token path)
         (λ number names gone. hidden_so number names gone
         (first_or_later x.b.staging token x.b.sealed (those_among (tokens_of x.b) token among)));

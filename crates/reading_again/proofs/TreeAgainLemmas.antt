@@ -1,5 +1,6 @@
 -- A tree whose files are there is read again, and what its range files name stands in its map.
-use Rattle.std.proofs.Common.{◌≡◌, ◌⊎◌, inl, inr, ℕ, zero, suc, ◌-◌, ◌<◌, Bool, true, false, cond, ◌&&◌, eqb, List, [], ◌∷◌, ◌++◌, length, get_or, map, drop, Option, Some, None, Result, Ok, Err}
+use Rattle.std.proofs.Common.{◌≡◌, ◌⊎◌, inl, inr, ℕ, suc, ◌-◌, true, cond, List, [], ◌∷◌, ◌++◌, length}
+use Rattle.std.proofs.Common.{map, drop, Option, Some, None, Ok, Err}
 use Rattle.std.proofs.Common.{refl, sym, ap, subst, ◌∙◌, append_assoc, arith}
 use Rattle.std.specs.List.{AllByRecursion, Contains, cons_option, filter_map}
 use Rattle.std.specs.Cmp.{tied_itself}
@@ -17,7 +18,6 @@ use Rattle.lake_base.specs.Digest.{sha256}
 use Rattle.lake_base.specs.Maps.{byte_order}
 use Rattle.lake_base.specs.declared.digest.Digest.{Digest}
 use Rattle.lake_base.proofs.MapsLemmas.{find_at, same_again}
-use Rattle.lake_values.specs.Entry.{EntryValue}
 use Rattle.lake_values.specs.KeyMap.{KeyMapValue}
 use Rattle.lake_values.proofs.OrderLemmas.{first_or_later}
 use Rattle.lake_format.specs.Cutting.{files, ranges, tree_id}
@@ -28,10 +28,9 @@ use Rattle.range_file.specs.Rows.{RowValue}
 use Rattle.range_file.proofs.ReadingLemmas.{again as range_again}
 use Rattle.meta_range.specs.ReadingSteps.{◌>>=◌}
 use Rattle.meta_range.specs.Files.{FitsTree, bytes_named}
-use Rattle.meta_range.specs.Ranges.{TreeValue, files_of, first_file, metarange_of, rows_of}
-use Rattle.meta_range.specs.TreeReading.{IsGiven, cut_of, first_stray, in_metarange, in_range, is_said, not_cut, read_file, read_range, read_ranges, whole}
-use Rattle.meta_range.specs.Metarange.{metarange_from}
-use Rattle.meta_range.specs.declared.fault.TreeFault.TheVariants.{Damaged, Mismatch}
+use Rattle.meta_range.specs.Ranges.{files_of, first_file, metarange_of, rows_of}
+use Rattle.meta_range.specs.TreeReading.{IsGiven, first_stray, not_cut, read_file, read_range, read_ranges, whole}
+use Rattle.meta_range.specs.declared.fault.TreeFault.TheVariants.{Damaged}
 use Rattle.meta_range.specs.declared.file.File.{File}
 use Rattle.meta_range.proofs.LawLemmas.{ranges_are}
 use Rattle.meta_range.proofs.MetarangeLemmas.{again as metarange_again}

@@ -14,13 +14,15 @@ ghost use Rattle.reading_again.specs.ReadableLakes.{CanBeRead, HasTexts, IsInOrd
 /// A lake that was read from the pairs of a lake in order, which can be read, has the same state as that one put to
 /// rest, the same versions, and the same next token.
 pub fn laws_of_same_lakes()
-    ensures state { (cut : AnyCut) (pairs : List AnyPair) (l read : LakeStateValue) → HasAscendingKeys (entries_of pairs)
-        → StandFor (kept_of pairs) l → IsInOrder l → CanBeRead cut l → IsReadFrom cut pairs read → HasTexts read
+    ensures state { (cut : AnyCut) (pairs : List AnyPair) (l read : LakeStateValue)
+        → HasAscendingKeys (entries_of pairs) → StandFor (kept_of pairs) l → IsInOrder l → CanBeRead cut l
+        → IsReadFrom cut pairs read → HasTexts read
         → state_of read ≡ state_of (at_rest l) }
     ensures versions { (cut : AnyCut) (pairs : List AnyPair) (l read : LakeStateValue)
         → HasAscendingKeys (entries_of pairs) → StandFor (kept_of pairs) l → IsInOrder l → CanBeRead cut l
         → IsReadFrom cut pairs read → HasTexts read → versions_of read ≡ versions_of (at_rest l) }
-    ensures token { (cut : AnyCut) (pairs : List AnyPair) (l read : LakeStateValue) → HasAscendingKeys (entries_of pairs)
-        → StandFor (kept_of pairs) l → IsInOrder l → CanBeRead cut l → IsReadFrom cut pairs read → HasTexts read
+    ensures token { (cut : AnyCut) (pairs : List AnyPair) (l read : LakeStateValue)
+        → HasAscendingKeys (entries_of pairs) → StandFor (kept_of pairs) l → IsInOrder l → CanBeRead cut l
+        → IsReadFrom cut pairs read → HasTexts read
         → read.next_token ≡ l.next_token }
 {}

@@ -4,9 +4,12 @@ use Rattle.lake_values.specs.declared.entry.Change.TheVariants.{Put}
 use Rattle.lake_model.specs.NoteChanges.{notes_after}
 use Rattle.lake_model.specs.Uncommitted.{put_number}
 use Rattle.core_changes.specs.LakeChanges.{after_fault, after_note_set, after_tag_create, after_tag_delete, after_ticket_drop, after_ticket_take}
-use Rattle.reading_again.proofs.GivenNumberLemmas.{create_given, delete_given, found_given, head_given, others_given, reset_given, same_given, seal_given}
-use Rattle.reading_again.proofs.GivenNumberLemmas.{stage_given}
+use Rattle.reading_again.proofs.GivenNumberLemmas.{create_given, delete_given, found_given, fresh_given, head_given, others_given, reset_given, same_given}
+use Rattle.reading_again.proofs.GivenNumberLemmas.{seal_given, stage_given}
 use Rattle.reading_again.proofs.numbers.laws_of_given_numbers.Goals as goal
+
+pub returns-clause-fresh : goal.returns-clause-fresh
+returns-clause-fresh c = fresh_given
 
 pub returns-clause-ticket_take : goal.returns-clause-ticket_take
 returns-clause-ticket_take c l seat given = same_given l (after_ticket_take seat l) refl (omega arith) given
