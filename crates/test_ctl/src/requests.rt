@@ -15,6 +15,11 @@ GET /api/v1/repositories?after=a+b&amount=7 HTTP/1.1|Host: localhost|Connection:
 branch create lakefs://quickstart/dev --source lakefs://quickstart/main~1\n\
 POST /api/v1/repositories/quickstart/branches HTTP/1.1|Host: localhost|Content-Type: application/json|Content-Le\
 ngth: 32|Connection: close||{\"name\":\"dev\",\"source\":\"main~1\"}\n\
+branch create lakefs://quickstart/2cf24dba5fb0a30e26e83b2ac5b9e29e1b161e5c1fa7425e73043362938b9824 \
+--source lakefs://quickstart/main\n\
+POST /api/v1/repositories/quickstart/branches HTTP/1.1|Host: localhost|Content-Type: application/json|Content-Le\
+ngth: 91|Connection: close||{\"name\":\"2cf24dba5fb0a30e26e83b2ac5b9e29e1b161e5c1fa7425e73043362938b9824\",\"sou\
+rce\":\"main\"}\n\
 branch list lakefs://quickstart --after=main --amount=0\n\
 GET /api/v1/repositories/quickstart/branches?after=main&amount=0 HTTP/1.1|Host: localhost|Connection: close||\n\
 branch show lakefs://quickstart/main\n\
@@ -55,11 +60,25 @@ on|Content-Length: 15|Connection: close||{\"message\":\"m\"}\n\
 commit -mm lakefs://quickstart/main\n\
 POST /api/v1/repositories/quickstart/branches/main/commits HTTP/1.1|Host: localhost|Content-Type: application/js\
 on|Content-Length: 15|Connection: close||{\"message\":\"m\"}\n\
+commit -m-x lakefs://quickstart/main\n\
+POST /api/v1/repositories/quickstart/branches/main/commits HTTP/1.1|Host: localhost|Content-Type: application/js\
+on|Content-Length: 16|Connection: close||{\"message\":\"-x\"}\n\
+commit -m=-x lakefs://quickstart/main\n\
+POST /api/v1/repositories/quickstart/branches/main/commits HTTP/1.1|Host: localhost|Content-Type: application/js\
+on|Content-Length: 16|Connection: close||{\"message\":\"-x\"}\n\
+commit -m - lakefs://quickstart/main\n\
+POST /api/v1/repositories/quickstart/branches/main/commits HTTP/1.1|Host: localhost|Content-Type: application/js\
+on|Content-Length: 15|Connection: close||{\"message\":\"-\"}\n\
 commit -m \"\" -- lakefs://quickstart/main\n\
 POST /api/v1/repositories/quickstart/branches/main/commits HTTP/1.1|Host: localhost|Content-Type: application/js\
 on|Content-Length: 14|Connection: close||{\"message\":\"\"}\n\
 log lakefs://quickstart/main~\n\
 GET /api/v1/repositories/quickstart/refs/main~/commits HTTP/1.1|Host: localhost|Connection: close||\n\
+log lakefs://quickstart/main --since 1969-12-31T23:59:59Z\n\
+GET /api/v1/repositories/quickstart/refs/main/commits?since=1969-12-31T23%3A59%3A59Z HTTP/1.1|Host: localhost|Co\
+nnection: close||\n\
+log lakefs://quickstart/main --since x\n\
+GET /api/v1/repositories/quickstart/refs/main/commits?since=x HTTP/1.1|Host: localhost|Connection: close||\n\
 log lakefs://quickstart/main --since 1970-01-01T00:00:01Z --amount 3 --after x\n\
 GET /api/v1/repositories/quickstart/refs/main/commits?after=x&amount=3&since=1970-01-01T00%3A00%3A01Z HTTP/1.1|H\
 ost: localhost|Connection: close||\n\
