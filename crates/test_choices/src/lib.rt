@@ -1,6 +1,6 @@
 //! Tests of the choices: what no clause says of a branch's changes, merges, settings and hooks.
 //!
-//! - `records`: the changes of a branch under their tokens.
+//! - `records`: the changes of a branch under their tokens. `pages`: pages over them.
 //! - `merges`: merges of three trees.
 //! - `settings`, `hooks`: settings that are read from JSON, and patterns.
 //!
@@ -11,6 +11,8 @@
 mod hooks;
 #[cfg(test)]
 mod merges;
+#[cfg(test)]
+mod pages;
 #[cfg(test)]
 mod records;
 #[cfg(test)]
