@@ -1,12 +1,17 @@
 -- Commits are put one after the other, and tokens are told of.
-use Rattle.std.proofs.Common.{◌≡◌, ◌<◌, ◌+◌, ◌||◌, ℕ, Bool, true, false, cond, List, [], ◌∷◌, ◌++◌, drop, get_or, length, map, Option, Some, refl, sym, ap, ◌∙◌, arith}
+use Rattle.std.proofs.Common.{All, Global, subst, ◌≡◌, ◌<◌, ◌+◌, ◌||◌, ℕ, Bool, true, false, cond, List, [], ◌∷◌, ◌++◌, drop, get_or, length, map, Option, Some, refl, sym, ap, ◌∙◌, arith}
 use Rattle.std.specs.Bool.{nat_eq}
 use Rattle.std.specs.Ordering.{is_eq, nat_cmp, MatchOrdering}
 use Rattle.std.specs.declared.cmp.Ordering.{Ordering}
+use Rattle.std.specs.declared.sync.Arc.{Arc}
 use Rattle.std.specs.declared.cmp.Ordering.TheVariants.{Less, Equal, Greater}
 use Rattle.std.proofs.lemmas.Cmp.{ranked}
-use Rattle.std.proofs.lemmas.List.{drop_more}
+use Rattle.std.specs.List.{Contains}
+use Rattle.std.proofs.lemmas.List.{drop_more, get_or-map, length-map}
+use Rattle.std.proofs.lemmas.List.Elements.{Contains-get_or}
 use Rattle.std.proofs.lemmas.Bool.Decides.{nat_tests}
+use Rattle.meta_range.specs.declared.tree.Tree.{Tree}
+use Rattle.meta_range.specs.Ranges.{TreeValue}
 use Rattle.branch_record.specs.Record.{is_among}
 use Rattle.core_state.specs.LakeStates.{LakeStateValue}
 use Rattle.core_filling.specs.declared.commits.ReadCommit.{ReadCommit}
@@ -47,3 +52,13 @@ pub told_on : {A : Type 0} (tokens : List ℕ) (at : ℕ) (t : ℕ) (place : A) 
 told_on tokens at t place now before within is =
     token_told (get_or tokens at 0) (drop (at + 1) tokens) t place now before is
     ∙ ap (λ rest. cond (is_among rest t) (Some place) before) (sym (drop_more tokens at 0 within))
+
+-- the tree that is shared
+abbrev pub shared : Arc Tree Global → TreeValue
+shared tree = tree.value
+
+-- each of the commits is one of them
+pub all_read : (reads : List ReadCommit) → All (λ read. Contains (map commit_read reads) (commit_read read)) reads
+all_read reads k d within =
+    let there = Contains-get_or (map commit_read reads) k (commit_read d) (omega (arith, length-map reads commit_read, within)) in
+    subst (Contains (map commit_read reads)) (get_or-map commit_read reads k d (commit_read d) within) there

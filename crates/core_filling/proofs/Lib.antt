@@ -1,1 +1,3 @@
 pub mod FillingLemmas
+pub mod NamesLemmas
+pub mod PlacesLemmas

@@ -2,9 +2,10 @@
 ghost use Rattle.std.specs.Prelude.{◌≡◌, All, List, IsPermutation, map, OnOk};
 ghost use Rattle.core_state.specs.LakeStates.{lake_value};
 ghost use Rattle.core_filling.specs.Filling.{CommitRead, IsNamed, commit_read, with_commits, with_read};
+ghost use Rattle.core_filling.specs.NewPlaces.{AddsPlaces, AddsPlacesOf};
 
+use crate::names::put_names;
 use crate::parts::{Part, put_part};
-use core_commits::naming::{make_names_room, names_of, put_names};
 use core_state::LakeState;
 use lake_base::{NoMemory, RepoName};
 use lake_values::{CommitId, CommitRecord};
@@ -29,8 +30,10 @@ pub fn put_commits(
     mut commits: Vec<ReadCommit>,
 ) -> Result<(), NoMemory>
     requires { All IsNamed commits.items }
-    ensures { OnOk result ((sorted : List CommitRead) × (IsPermutation (map commit_read commits.items) sorted
+    ensures lake { OnOk result ((sorted : List CommitRead) × (IsPermutation (map commit_read commits.items) sorted
         × (lake_value lake.new ≡ with_commits sorted (lake_value lake.old)))) }
+    ensures places { OnOk result (AddsPlacesOf (map commit_read commits.items)
+        lake.old.names.files lake.new.names.files) }
 {
     commits.sort_by_key(|read| u64::MAX - read.commit.generation)?;
     put_sorted(alloc, lake, commits)
@@ -43,8 +46,10 @@ fn put_sorted(
     mut commits: Vec<ReadCommit>,
 ) -> Result<(), NoMemory>
     requires { All IsNamed commits.items }
-    ensures { OnOk result (lake_value lake.new
+    ensures lake { OnOk result (lake_value lake.new
         ≡ with_commits (map commit_read commits.items) (lake_value lake.old)) }
+    ensures places { OnOk result (AddsPlacesOf (map commit_read commits.items)
+        lake.old.names.files lake.new.names.files) }
 {
     while let Some(read) = commits.pop() {
         put_read(alloc, lake, read)?;
@@ -56,7 +61,8 @@ fn put_sorted(
 #[tactic(auto, unfolding(core_state::specs::LakeStates::lake_value))]
 fn put_read(alloc: Global, lake: &mut LakeState, read: ReadCommit) -> Result<(), NoMemory>
     requires { IsNamed read }
-    ensures { OnOk result (lake_value lake.new ≡ with_read (commit_read read) (lake_value lake.old)) }
+    ensures lake { OnOk result (lake_value lake.new ≡ with_read (commit_read read) (lake_value lake.old)) }
+    ensures places { OnOk result (AddsPlaces read.tree.value lake.old.names.files lake.new.names.files) }
 {
     let ReadCommit {
         repo,
@@ -65,9 +71,7 @@ fn put_read(alloc: Global, lake: &mut LakeState, read: ReadCommit) -> Result<(),
         commit,
         tree,
     } = read;
-    let names = names_of(alloc, &repo, &tree)?;
-    make_names_room(alloc, &mut lake.names, &id, &names)?;
-    put_names(&mut lake.names, &id, names);
+    put_names(alloc, &mut lake.names, &repo, &id, &tree)?;
     let part = Part::Commit {
         commit,
         tree,

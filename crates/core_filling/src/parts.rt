@@ -57,8 +57,9 @@ pub fn put_part(
     repo: &RepoName,
     part: Part<'_>,
 ) -> Result<(), NoMemory>
-    ensures { OnOk result (lake_value lake.new
+    ensures lake { OnOk result (lake_value lake.new
         ≡ in_repository repo.now (with_part part.entry) (lake_value lake.old)) }
+    ensures names { lake.new.names ≡ lake.old.names }
 {
     match lake.repositories.get_mut(repo) {
         Some(place) => put_here(alloc, place, part),

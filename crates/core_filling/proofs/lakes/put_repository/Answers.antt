@@ -6,7 +6,7 @@ use Rattle.byte_map.proofs.ValuesLemmas.{map_values_empty, some_values_empty, so
 use Rattle.core_state.specs.BranchStates.{branch_value}
 use Rattle.core_state.specs.LakeStates.{lake_value}
 use Rattle.core_state.specs.RepositoryStates.{RepositoryStateValue, repository_value}
-use Rattle.core_commits.proofs.CommitLemmas.{shared}
+use Rattle.core_filling.proofs.FillingLemmas.{shared}
 use Rattle.core_filling.specs.Filling.{bare_repository}
 use Rattle.core_filling.proofs.lakes.put_repository.Goals as goal
 

@@ -3,7 +3,7 @@ use Rattle.std.specs.FinMap.{insert}
 use Rattle.byte_map.specs.Values.{map_values}
 use Rattle.byte_map.proofs.ValuesLemmas.{map_values_insert}
 use Rattle.core_state.specs.RepositoryStates.{repository_value}
-use Rattle.core_commits.proofs.CommitLemmas.{shared}
+use Rattle.core_filling.proofs.FillingLemmas.{shared}
 use Rattle.core_filling.specs.Parts.{with_marked_commit}
 use Rattle.core_filling.proofs.parts.put_commit.Goals as goal
 
