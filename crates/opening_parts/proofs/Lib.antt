@@ -1,0 +1,4 @@
+pub mod FoldLemmas
+pub mod GoneLemmas
+pub mod GatherLemmas
+pub mod PlainLemmas
