@@ -58,11 +58,8 @@ pub fn commit_of<'p>(
     }
 }
 
-// What is given out next: a number, a version and a token.
-pub(crate) fn counts_of(
-    alloc: Global,
-    pairs: &SpelledPairs,
-) -> Result<Option<(u64, u64, u64)>, NoMemory>
+/// What is given out next: a number, a version and a token, by a search.
+pub fn counts_of(alloc: Global, pairs: &SpelledPairs) -> Result<Option<(u64, u64, u64)>, NoMemory>
     ensures { IfOk result (λ counts. MatchOption counts (HasKey pairs.now key.Counts → ⊥) (AreCounts pairs.now)) }
 {
     match pairs.find(alloc, &StoredKey::Counts)? {

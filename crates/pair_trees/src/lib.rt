@@ -16,7 +16,7 @@ mod tables;
 mod texts;
 mod trees;
 
-pub use found::{commit_of, range_of};
+pub use found::{commit_of, counts_of, range_of};
 pub use spelled::SpelledPairs;
 pub use tables::Tables;
 pub use texts::read_note;

@@ -5,7 +5,7 @@ ghost use Rattle.keeper.specs.Keepers.{entries_of};
 ghost use Rattle.pair_format.specs.declared.stored.Stored.{Stored as AnyStored};
 ghost use Rattle.pair_format.specs.Keys.{key_value};
 ghost use Rattle.pair_format.specs.PairSpelling.{IsSpelledStored, IsStoredKey, key_of, pair_spelling};
-ghost use Rattle.pair_trees.specs.Spelled.{AreSpellings, HasNoKey, IsKeyAt};
+ghost use Rattle.pair_trees.specs.Spelled.{AreSpelled, AreSpellings, HasNoKey, IsKeyAt};
 ghost use Rattle.pair_trees.specs.Things.{HasKey, IsFound, Spells, is_branch, is_staged, thing_of, things_of};
 
 use lake_base::NoMemory;
@@ -36,7 +36,8 @@ impl<'a> SpelledPairs<'a> {
     /// Reads each of these pairs once.
     pub fn read(alloc: Global, pairs: &'a [Pair]) -> Result<SpelledPairs<'a>, NoMemory>
         requires { HasAscendingKeys (entries_of pairs.now) }
-        ensures { IfOk result (λ spelled. spelled ≡ things_of pairs.now) }
+        ensures things { IfOk result (λ spelled. spelled ≡ things_of pairs.now) }
+        ensures spelled { IfOk result (λ spelled. AreSpelled pairs.now spelled) }
     {
         let things = read_things(alloc, pairs)?;
         Ok(SpelledPairs { pairs, things })
