@@ -81,7 +81,7 @@ module _ (pairs : KeptPairs) (l : LakeStateValue) (q branch : List ℕ) (date : 
   main = new_branch l.next_version id l.next_token
 
   abbrev r1 : RepositoryStateValue
-  r1 = bare l q date branch
+  r1 = bare l q date branch 0
 
   abbrev l1 : LakeStateValue
   l1 = with_one l q r1
@@ -108,7 +108,7 @@ module _ (pairs : KeptPairs) (l : LakeStateValue) (q branch : List ℕ) (date : 
   in_third = get_inserted l2.repositories q r3
 
   made_first : Makes l q None r1 (key.Repository q) (Some (repository_thing l q r1))
-  made_first = makes_bare l q date branch (record { named = valid; valued = (dated, (named, omega arith)) })
+  made_first = makes_bare l q date branch 0 (record { named = valid; valued = (dated, (named, omega arith)) })
 
   made_second : Makes l1 q (Some r1) r2 (key.Branch q branch) (Some (branch_thing l1 q r1 branch main))
   made_second =

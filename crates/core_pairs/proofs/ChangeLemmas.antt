@@ -46,7 +46,7 @@ use Rattle.core_pairs.proofs.CountsLemmas.{AreAlike, after_one, alike, changed_i
 use Rattle.core_pairs.proofs.RemovalLemmas.{stand_left, with_left}
 use Rattle.core_pairs.proofs.RepositoryPutLemmas.{is_set, makes_note, makes_settings, makes_tag, makes_untagged, repository_thing, with_notes, with_settings}
 use Rattle.core_pairs.proofs.RepositoryPutLemmas.{with_tags}
-use Rattle.core_pairs.proofs.StagedLemmas.{makes_staged, staged_thing, with_staged}
+use Rattle.core_pairs.proofs.StagedLemmas.{makes_staged, staged_thing, staging_named, with_staged}
 
 -- ---- parts
 
@@ -146,25 +146,27 @@ follow_none pairs l m same stand = standing pairs m (alike pairs l m same (thing
 module _ (pairs : KeptPairs) (l : LakeStateValue) (q name path : List ℕ) (change : Change) (stand : StandFor pairs l) (apart : AreTokensApart l)
     (valid : path_fault path ≡ None) (within : IsSpelledChange change) where
   staged : (m : LakeStateValue) (there : IsBranchThere l q name (λ b. Unit {0}))
-      → AreAlike (with_one l q (with_staged l apart q there.r there.in_lake name there.b there.in_it path change)) m
+      → AreAlike (with_one l q (with_staged l apart q there.r there.in_lake name there.b there.in_it there.b.staging (staging_named there.b) path change)) m
       → StandFor (pairs_after (stage_puts q name path change l) pairs) m
   unfolding spelled_put
   staged m there same =
       let b = there.b in
       let all = things pairs l stand in
-      let thing = staged_thing l apart q there.r there.in_lake name b there.in_it path change in
+      let thing = staged_thing l apart q there.r there.in_lake name b there.in_it b.staging (staging_named b) path change in
       let spelled : IsSpelledStored (stored.Staged b.staging path change) =
       record { named = ((spelled_branch pairs l all q there.r there.in_lake name b there.in_it).valued.1.1.0, valid); valued = within } in
       puts_of (λ b. spelled_put (stored.Staged b.staging path change) ∷ []) (branch_at q name l) b (at_branch l q name there.r b there.in_lake there.in_it)
       pairs m
       (ended pairs (spelled_put (stored.Staged b.staging path change)) m
-      (alike _ (with_one l q (with_staged l apart q there.r there.in_lake name b there.in_it path change)) m same
-      (made l q (Some there.r) (with_staged l apart q there.r there.in_lake name b there.in_it path change) (key.Staged b.staging path)
-      (Some (stored.Staged b.staging path change)) there.in_lake (makes_staged l apart q there.r there.in_lake name b there.in_it path change spelled)
+      (alike _ (with_one l q (with_staged l apart q there.r there.in_lake name b there.in_it b.staging (staging_named b) path change)) m same
+      (made l q (Some there.r) (with_staged l apart q there.r there.in_lake name b there.in_it b.staging (staging_named b) path change)
+      (key.Staged b.staging path)
+      (Some (stored.Staged b.staging path change)) there.in_lake
+      (makes_staged l apart q there.r there.in_lake name b there.in_it b.staging (staging_named b) path change spelled)
       pairs all)))
 
   alike_staged : (there : IsBranchThere l q name (λ b. Unit {0})) (o : Option ℕ)
-      → AreAlike (with_one l q (with_staged l apart q there.r there.in_lake name there.b there.in_it path change))
+      → AreAlike (with_one l q (with_staged l apart q there.r there.in_lake name there.b there.in_it there.b.staging (staging_named there.b) path change))
       (with_entry (in_branch q name (branch_after (branch.Stage path change)) (option_map_or (λ number. without_ticket number l) o l)))
   alike_staged there None = record {
     repositories = branch_changed l q name there.r there.b (branch_after (branch.Stage path change)) there.in_lake there.in_it;

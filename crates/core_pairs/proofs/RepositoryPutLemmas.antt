@@ -68,11 +68,11 @@ module _ (l : LakeStateValue) (q : List ℕ) where
   }
 
   -- a repository in which nothing stands yet
-  abbrev pub bare : ℕ → List ℕ → RepositoryStateValue
-  bare created default_branch = record {
+  abbrev pub bare : ℕ → List ℕ → ℕ → RepositoryStateValue
+  bare created default_branch settings = record {
     created = created;
     default_branch = default_branch;
-    settings = 0;
+    settings = settings;
     branches = empty;
     tags = empty;
     commits = empty;
@@ -90,30 +90,32 @@ module _ (l : LakeStateValue) (q : List ℕ) where
   no_note note.Protection text h = absurd h
   no_note note.Hooks text h = absurd h
 
-  either_bare : (created : ℕ) (default_branch : List ℕ) (s : Stored) → ThingOf q (bare created default_branch) s
-      → (Some (repository_thing (bare created default_branch)) ≡ Some s) ⊎ (⊥ × (key_of s ≡ key.Repository q → ⊥))
-  either_bare created default_branch (stored.Repository repo c d version) (same, (a, (b, e))) = inl cc
-  either_bare created default_branch (stored.Branch repo branch version head staging sealed) (same, h) =
+  either_bare : (created : ℕ) (default_branch : List ℕ) (settings : ℕ) (s : Stored) → ThingOf q (bare created default_branch settings) s
+      → (Some (repository_thing (bare created default_branch settings)) ≡ Some s) ⊎ (⊥ × (key_of s ≡ key.Repository q → ⊥))
+  either_bare created default_branch settings (stored.Repository repo c d version) (same, (a, (b, e))) = inl cc
+  either_bare created default_branch settings (stored.Branch repo branch version head staging sealed) (same, h) =
       no_branch branch (IsRecord version head staging sealed) h
-  either_bare created default_branch (stored.Tag repo tag commit) (same, h) = let none = get_empty {X = Digest} tag in absurd cc
-  either_bare created default_branch (stored.Commit repo id expired commit) (same, (h, e)) = let none = get_empty {X = CommitRecordValue} id.0 in absurd cc
-  either_bare created default_branch (stored.MetaRange name bytes) (named, (tree, ((id, h), is))) = let none = get_empty {X = TreeValue} id in absurd cc
-  either_bare created default_branch (stored.Range name bytes) (named, (tree, ((id, h), is))) = let none = get_empty {X = TreeValue} id in absurd cc
-  either_bare created default_branch (stored.Staged token path change) (branch, h) = no_branch branch (HasChange token path change) h
-  either_bare created default_branch (stored.Note repo name text) (same, h) = no_note name text h
-  either_bare created default_branch (stored.Gone number) h = absurd h
-  either_bare created default_branch (stored.Counts number version token) h = absurd h
+  either_bare created default_branch settings (stored.Tag repo tag commit) (same, h) = let none = get_empty {X = Digest} tag in absurd cc
+  either_bare created default_branch settings (stored.Commit repo id expired commit)
+      (same, (h, e)) = let none = get_empty {X = CommitRecordValue} id.0 in absurd cc
+  either_bare created default_branch settings (stored.MetaRange name bytes)
+      (named, (tree, ((id, h), is))) = let none = get_empty {X = TreeValue} id in absurd cc
+  either_bare created default_branch settings (stored.Range name bytes) (named, (tree, ((id, h), is))) = let none = get_empty {X = TreeValue} id in absurd cc
+  either_bare created default_branch settings (stored.Staged token path change) (branch, h) = no_branch branch (HasChange token path change) h
+  either_bare created default_branch settings (stored.Note repo name text) (same, h) = no_note name text h
+  either_bare created default_branch settings (stored.Gone number) h = absurd h
+  either_bare created default_branch settings (stored.Counts number version token) h = absurd h
 
   -- a repository is put where none of its name is
-  pub makes_bare : (created : ℕ) (default_branch : List ℕ) → IsSpelledStored (repository_thing (bare created default_branch))
-      → Makes l q None (bare created default_branch) (key.Repository q) (Some (repository_thing (bare created default_branch)))
-  makes_bare created default_branch spelled = record {
+  pub makes_bare : (created : ℕ) (default_branch : List ℕ) (settings : ℕ) → IsSpelledStored (repository_thing (bare created default_branch settings))
+      → Makes l q None (bare created default_branch settings) (key.Repository q) (Some (repository_thing (bare created default_branch settings)))
+  makes_bare created default_branch settings spelled = record {
     within = spelled.named;
     new = λ s put.
-        let same : repository_thing (bare created default_branch) ≡ s = cc in
-        subst (λ s. (key_of s ≡ key.Repository q) × (IsSpelledStored s × ThingOf q (bare created default_branch) s)) same
+        let same : repository_thing (bare created default_branch settings) ≡ s = cc in
+        subst (λ s. (key_of s ≡ key.Repository q) × (IsSpelledStored s × ThingOf q (bare created default_branch settings) s)) same
         (refl, (spelled, (refl, (refl, (refl, refl)))));
-    either = either_bare created default_branch;
+    either = either_bare created default_branch settings;
     stays = λ s h apart. absurd h;
     elsewhere = elsewhere_repository;
     gone = λ number e. cc;

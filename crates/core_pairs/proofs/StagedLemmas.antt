@@ -74,95 +74,97 @@ pub own_named : (l : LakeStateValue) → AreTokensApart l → (q : List ℕ) (r 
 own_named l apart q r in_lake name b in_it token path change has =
     own_names l apart q r in_lake name b in_it token (has_token b.tokens token path change has)
 
--- ---- a change is staged
+-- a branch names its staging token
+pub staging_named : (b : BranchStateValue) → is_among (tokens_of b) b.staging ≡ true
+staging_named b = ap (λ t. t || is_among b.sealed b.staging) (nat_eq_equiv.refl b.staging)
+
+-- ---- a change stands under a token that its branch names
 
 module _ (l : LakeStateValue) (apart : AreTokensApart l) (q : List ℕ) (r : RepositoryStateValue) (in_lake : get l.repositories q ≡ Some r)
-    (name : List ℕ) (b : BranchStateValue) (in_it : get r.branches name ≡ Some b) (path : List ℕ) (change : Change) where
+    (name : List ℕ) (b : BranchStateValue) (in_it : get r.branches name ≡ Some b) (own : ℕ) (names : is_among (tokens_of b) own ≡ true)
+    (path : List ℕ) (change : Change) where
   abbrev now : BranchStateValue
-  now = record b { tokens = with_change b.tokens b.staging path change }
+  now = record b { tokens = with_change b.tokens own path change }
 
   abbrev pub with_staged : RepositoryStateValue
   with_staged = record r { branches = insert r.branches name now }
 
   abbrev pub staged_thing : Stored
-  staged_thing = stored.Staged b.staging path change
+  staged_thing = stored.Staged own path change
 
   abbrev staged_key : OwnedKey
-  staged_key = key.Staged b.staging path
+  staged_key = key.Staged own path
 
   -- what is found under a token then
   under_now : (token : ℕ) (at : List ℕ)
       → get (changes_under now.tokens token) at
-      ≡ cond (nat_eq token b.staging) (cond (bytes_eq at path) (Some change) (get (changes_under b.tokens b.staging) at))
+      ≡ cond (nat_eq token own) (cond (bytes_eq at path) (Some change) (get (changes_under b.tokens own) at))
       (get (changes_under b.tokens token) at)
   unfolding with_change
   under_now token at =
-      ap (λ (c : ChangesValue). get c at) (under_with b.tokens b.staging (insert (changes_under b.tokens b.staging) path change) token)
-      ∙ by (nat_eq token b.staging)
+      ap (λ (c : ChangesValue). get c at) (under_with b.tokens own (insert (changes_under b.tokens own) path change) token)
+      ∙ by (nat_eq token own)
     where
       by : (test : Bool)
-          → get (cond test (insert (changes_under b.tokens b.staging) path change) (changes_under b.tokens token)) at
-          ≡ cond test (cond (bytes_eq at path) (Some change) (get (changes_under b.tokens b.staging) at)) (get (changes_under b.tokens token) at)
-      by true = get_insert (changes_under b.tokens b.staging) path change at
+          → get (cond test (insert (changes_under b.tokens own) path change) (changes_under b.tokens token)) at
+          ≡ cond test (cond (bytes_eq at path) (Some change) (get (changes_under b.tokens own) at)) (get (changes_under b.tokens token) at)
+      by true = get_insert (changes_under b.tokens own) path change at
       by false = refl
 
   -- it is the new one, or stood there before under another key
   split_now : (token : ℕ) (at : List ℕ) (c : Change) → HasChange token at c now
       → (Some staged_thing ≡ Some (stored.Staged token at c)) ⊎ (HasChange token at c b × (key.Staged token at ≡ staged_key → ⊥))
-  split_now token at c has = by_token (nat_eq token b.staging) refl (sym (under_now token at) ∙ has)
+  split_now token at c has = by_token (nat_eq token own) refl (sym (under_now token at) ∙ has)
     where
-      by_path : token ≡ b.staging → (test : Bool) → bytes_eq at path ≡ test
-          → cond test (Some change) (get (changes_under b.tokens b.staging) at) ≡ Some c
+      by_path : token ≡ own → (test : Bool) → bytes_eq at path ≡ test
+          → cond test (Some change) (get (changes_under b.tokens own) at) ≡ Some c
           → (Some staged_thing ≡ Some (stored.Staged token at c)) ⊎ (HasChange token at c b × (key.Staged token at ≡ staged_key → ⊥))
       by_path same true e is = let named = tied at path e in inl cc
       by_path same false e is =
           inr (subst (λ t. HasChange t at c b) (sym same) is, λ k. untied at path e (let paths : at ≡ path = cc in paths))
 
-      by_token : (test : Bool) → nat_eq token b.staging ≡ test
-          → cond test (cond (bytes_eq at path) (Some change) (get (changes_under b.tokens b.staging) at)) (get (changes_under b.tokens token) at) ≡ Some c
+      by_token : (test : Bool) → nat_eq token own ≡ test
+          → cond test (cond (bytes_eq at path) (Some change) (get (changes_under b.tokens own) at)) (get (changes_under b.tokens token) at) ≡ Some c
           → (Some staged_thing ≡ Some (stored.Staged token at c)) ⊎ (HasChange token at c b × (key.Staged token at ≡ staged_key → ⊥))
-      by_token true e is = by_path (eqb-true token b.staging e) (bytes_eq at path) refl is
+      by_token true e is = by_path (eqb-true token own e) (bytes_eq at path) refl is
       by_token false e is =
           inr (
             is,
-            λ k. let same : token ≡ b.staging = cc in let all = nat_eq_equiv.refl b.staging in
-                let none : nat_eq b.staging b.staging ≡ false = subst (λ t. nat_eq t b.staging ≡ false) same e in absurd cc,
+            λ k. let same : token ≡ own = cc in let all = nat_eq_equiv.refl own in
+                let none : nat_eq own own ≡ false = subst (λ t. nat_eq t own ≡ false) same e in absurd cc,
           )
 
   stays_now : (token : ℕ) (at : List ℕ) (c : Change) → HasChange token at c b → (key.Staged token at ≡ staged_key → ⊥) → HasChange token at c now
-  stays_now token at c has other = under_now token at ∙ by_token (nat_eq token b.staging) refl
+  stays_now token at c has other = under_now token at ∙ by_token (nat_eq token own) refl
     where
-      by_path : token ≡ b.staging → (test : Bool) → bytes_eq at path ≡ test
-          → cond test (Some change) (get (changes_under b.tokens b.staging) at) ≡ Some c
+      by_path : token ≡ own → (test : Bool) → bytes_eq at path ≡ test
+          → cond test (Some change) (get (changes_under b.tokens own) at) ≡ Some c
       by_path same true e = let named = tied at path e in absurd (other cc)
       by_path same false e = subst (λ t. HasChange t at c b) same has
 
-      by_token : (test : Bool) → nat_eq token b.staging ≡ test
-          → cond test (cond (bytes_eq at path) (Some change) (get (changes_under b.tokens b.staging) at)) (get (changes_under b.tokens token) at) ≡ Some c
-      by_token true e = by_path (eqb-true token b.staging e) (bytes_eq at path) refl
+      by_token : (test : Bool) → nat_eq token own ≡ test
+          → cond test (cond (bytes_eq at path) (Some change) (get (changes_under b.tokens own) at)) (get (changes_under b.tokens token) at) ≡ Some c
+      by_token true e = by_path (eqb-true token own e) (bytes_eq at path) refl
       by_token false e = has
 
-  put_now : HasChange b.staging path change now
+  put_now : HasChange own path change now
   put_now =
-      under_now b.staging path
-      ∙ ap (λ t. cond t (cond (bytes_eq path path) (Some change) (get (changes_under b.tokens b.staging) path)) (get (changes_under b.tokens b.staging) path))
-      (nat_eq_equiv.refl b.staging)
-      ∙ ap (λ t. cond t (Some change) (get (changes_under b.tokens b.staging) path)) (same_bytes path)
+      under_now own path
+      ∙ ap (λ t. cond t (cond (bytes_eq path path) (Some change) (get (changes_under b.tokens own) path)) (get (changes_under b.tokens own) path))
+      (nat_eq_equiv.refl own)
+      ∙ ap (λ t. cond t (Some change) (get (changes_under b.tokens own) path)) (same_bytes path)
 
   -- what the branch has is another branch's, or its own
   abbrev Either : Stored → Type 0
   Either s = (Some staged_thing ≡ Some s) ⊎ (ThingOf q r s × (key_of s ≡ staged_key → ⊥))
-
-  staging_named : is_among (tokens_of b) b.staging ≡ true
-  staging_named = ap (λ t. t || is_among b.sealed b.staging) (nat_eq_equiv.refl b.staging)
 
   -- a change of another branch has another key
   other_key : (p : List ℕ) (x : RepositoryStateValue) → get l.repositories p ≡ Some x → (branch : List ℕ) (other : BranchStateValue)
       → get x.branches branch ≡ Some other → (token : ℕ) (at : List ℕ) (c : Change) → HasChange token at c other → key.Staged token at ≡ staged_key
       → (p ≡ q) × (branch ≡ name)
   other_key p x is branch other there token at c has e =
-      let same : token ≡ b.staging = cc in
-      same_branch l apart q r in_lake name b in_it b.staging staging_named p x is branch other there at c (subst (λ t. HasChange t at c other) same has)
+      let same : token ≡ own = cc in
+      same_branch l apart q r in_lake name b in_it own names p x is branch other there at c (subst (λ t. HasChange t at c other) same has)
 
   either_staged : (s : Stored) → ThingOf q with_staged s → Either s
   either_staged (stored.Branch repo branch version head staging sealed) (same, h) =
@@ -172,13 +174,13 @@ module _ (l : LakeStateValue) (apart : AreTokensApart l) (q : List ℕ) (r : Rep
       change_was : IsThere (get (insert r.branches name now) branch) (HasChange token at c) → Either (stored.Staged token at c)
       change_was there = by (found r.branches name now branch there.one there.is)
         where
-          own : (Some staged_thing ≡ Some (stored.Staged token at c)) ⊎ (HasChange token at c b × (key.Staged token at ≡ staged_key → ⊥))
+          its : (Some staged_thing ≡ Some (stored.Staged token at c)) ⊎ (HasChange token at c b × (key.Staged token at ≡ staged_key → ⊥))
               → Either (stored.Staged token at c)
-          own (inl new) = inl new
-          own (inr (was, other)) = inr ((name, closed (get r.branches name) (HasChange token at c) b in_it was), other)
+          its (inl new) = inl new
+          its (inr (was, other)) = inr ((name, closed (get r.branches name) (HasChange token at c) b in_it was), other)
 
           by : ((branch ≡ name) × (now ≡ there.one)) ⊎ ((branch ≡ name → ⊥) × (get r.branches branch ≡ Some there.one)) → Either (stored.Staged token at c)
-          by (inl (named, one)) = own (split_now token at c (subst (HasChange token at c) (sym one) there.holds))
+          by (inl (named, one)) = its (split_now token at c (subst (HasChange token at c) (sym one) there.holds))
           by (inr (other, is)) =
               inr (
                 (branch, closed (get r.branches branch) (HasChange token at c) there.one is there.holds),
@@ -227,7 +229,7 @@ module _ (l : LakeStateValue) (apart : AreTokensApart l) (q : List ℕ) (r : Rep
             spelled,
             (
               name,
-              closed (get (insert r.branches name now) name) (HasChange b.staging path change) now
+              closed (get (insert r.branches name now) name) (HasChange own path change) now
                   (get_inserted r.branches name now) put_now,
             ),
           ),
