@@ -1,0 +1,13 @@
+pub mod ShowsLemmas
+pub mod TiesLemmas
+pub mod BaseLemmas
+pub mod BranchLemmas
+pub mod HolderLemmas
+pub mod RestLemmas
+pub mod PutsLemmas
+pub mod CommitLemmas
+pub mod ReadsLemmas
+pub mod FilledLemmas
+pub mod OpenedLemmas
+pub mod IndexLemmas
+pub mod OpeningLemmas
