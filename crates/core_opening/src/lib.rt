@@ -11,4 +11,5 @@ pub mod fault;
 mod reading;
 
 pub use fault::OpeningFault;
+pub use opening_laws::law_of_read_lakes;
 pub use reading::read_lake;

@@ -1,7 +1,6 @@
 -- A fresh lake in memory, and the seat at it.
 use Rattle.std.proofs.Common.{◌≡◌, ◌<◌, ◌+◌, ◌==◌, ◌++◌, ℕ, true, All, List, [], ◌∷◌, length, length-append, slice_index_or, Option, Some, None, refl, sym, ◌∙◌}
 use Rattle.std.proofs.Common.{ap, subst, arith}
-use Rattle.std.specs.FinMap.{empty}
 use Rattle.std.specs.List.{slice_get}
 use Rattle.std.proofs.lemmas.Option.{get_or_from_slice_get}
 use Rattle.std.specs.Option.{option_to_list}
@@ -13,19 +12,18 @@ use Rattle.core_state.specs.FirstStates as founding
 use Rattle.core_state.specs.LakeStates.{lake_value, state_of}
 use Rattle.core_puts.specs.KeeperViews.{KeeperView}
 use Rattle.lake_core.specs.Lakes.{LakeValue}
-use Rattle.lake_core.specs.Opening.{IsOpened, IsUnopened}
+use Rattle.lake_core.specs.Opening.{IsUnfounded}
 use Rattle.lake_core.specs.declared.open_fault.OpenFault.{OpenFault}
 use Rattle.lake_core.specs.declared.open_fault.OpenFault.TheVariants as opening
 use Rattle.shared_lake.specs.SeatSteps.{LakeSeat, origin_of}
 use Rattle.turn_lock.specs.Seats.{TableId, new_seat, by_seat}
 use Rattle.fresh_lakes.specs.FreshLakes.{AreFreshSeats, IsFounded, IsFreshSeat, IsLoneSeat, sure_view, usual_cut}
 
--- a lake over an empty keeper that never fails isn't opened for lack of memory alone
-pub opens_but_for_memory : (cut : Cut) (keeper back : KeptPairs) (fault : OpenFault) → IsUnopened sure_view cut keeper fault back → keeper ≡ empty
+-- a lake over a keeper that never fails isn't founded for lack of memory alone
+pub founds_but_for_memory : (cut : Cut) (keeper back : KeptPairs) (fault : OpenFault) → IsUnfounded sure_view cut keeper fault back
     → fault ≡ opening.NoMemory
-opens_but_for_memory cut keeper back opening.StoreFault is none = let rose : 0 < 0 = is.cause (omega arith) in absurd (omega arith)
-opens_but_for_memory cut keeper back (opening.BadPair number) is none = absurd (is.cause.1.0 none)
-opens_but_for_memory cut keeper back opening.NoMemory is none = refl
+founds_but_for_memory cut keeper back opening.StoreFault is = let rose : 0 < 0 = is.cause (omega arith) in absurd (omega arith)
+founds_but_for_memory cut keeper back opening.NoMemory is = refl
 
 -- what is popped of a list of one is all of it
 pub popped_only : {X : Type 0} (items rest : List X) (last : X) (result : Option X) → length items ≡ 1

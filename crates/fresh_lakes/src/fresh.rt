@@ -51,13 +51,13 @@ fn founded(alloc: Global) -> Result<Lake<SureKeeper>, NoMemory>
     ensures { IfOk result IsFounded }
 {
     let keeper = SureKeeper::holding(alloc, Vec::new(alloc));
-    match Lake::opened(alloc, keeper, USUAL_CUT) {
+    match Lake::founded(alloc, keeper, USUAL_CUT) {
         Ok(lake) => Ok(lake),
         Err((fault, _)) => Err(opening_fault(fault)),
     }
 }
 
-// A lake over an empty keeper that never fails isn't opened for lack of memory alone.
+// A lake over a keeper that never fails isn't founded for lack of memory alone.
 fn opening_fault(fault: OpenFault) -> NoMemory
     requires { fault ≡ OpenFault.NoMemory }
 {

@@ -1,7 +1,8 @@
 //! The lake: one step at a time, on a value that stands for its history.
 //!
-//! - `lake`: the lake, and its keeper; `opening`: a lake that is opened, by `filling` a keeper without pairs, or else
-//!   `open_fault`. `standing`: a lake stands behind a turn. `threads`: a lake may go from thread to thread.
+//! - `lake`: the lake, and its keeper; `opening`: a lake that is founded, by `filling` a keeper without pairs, or else
+//!   `open_fault`, and one that is opened again. `standing`: a lake stands behind a turn. `threads`: a lake may go from
+//!   thread to thread.
 //! - `repositories`, `tickets`, `paths`, `branches`, `heads`, `tags`, `notes`: the changes; `ready`: what one has ready
 //!   before it is kept.
 //! - `readings`: the readings; `preparing`: what a new head of a branch is made from.

@@ -1,17 +1,14 @@
-//! Why a lake wasn't opened.
+//! Why a lake wasn't founded.
 ghost use Rattle.std.specs.Prelude.{◌≡◌};
 ghost use Rattle.lake_core.specs.declared.open_fault.OpenFault.TheVariants.{NoMemory as open_no_memory};
 
 use lake_base::{NoMemory, Trouble};
 
-/// Why a lake wasn't opened.
+/// Why a lake wasn't founded.
 #[derive(Debug, Drop)]
 pub enum OpenFault {
     /// The keeper failed.
     StoreFault,
-    /// The pair of this number, in the order of keys from 0, isn't one of a lake that can be read. A keeper that has
-    /// pairs isn't read yet: its first pair is named.
-    BadPair(u64),
     /// No memory was left.
     NoMemory,
 }

@@ -4,10 +4,9 @@
 ghost use Rattle.std.specs.Prelude.{◌≡◌};
 
 use block_store::SureBlocks;
+use fresh_lakes::lone_lake;
 use keeper::SureKeeper;
 use lake_base::{FixedClock, MemorySink, MemorySource};
-use lake_core::Lake;
-use lake_format::Cut;
 use lake_session::{SessionReport, serve_session};
 use shared_lake::{LakeSeat, Shared};
 use std::alloc::Global;
@@ -76,19 +75,8 @@ Wire(Chunked) behind 5, seen 0 to 2";
 
 // What is written of these requests, each read in pieces of so many bytes, and how the session ended.
 fn served<W: Wait>(wait: &W, alloc: Global, requests: &str, piece: usize) -> Result<String, Fail> {
-    let keeper = SureKeeper::holding(alloc, Vec::new(alloc));
-    let cut = Cut {
-        max_bytes: 1_048_576,
-        modulus: 1024,
-    };
-    let Ok(lake) = Lake::opened(alloc, keeper, cut) else {
+    let Ok((lake, mut seat)) = lone_lake(alloc) else {
         return Err("no lake")?;
-    };
-    let Ok((lake, mut seats)) = Shared::new(alloc, lake, 1) else {
-        return Err("no shared lake")?;
-    };
-    let Some(mut seat) = seats.pop() else {
-        return Err("no seat")?;
     };
     let bytes = Vec::from_slice(alloc, requests.as_bytes())?;
     let mut source = MemorySource::new(bytes, piece.max(1), Vec::new(alloc));
