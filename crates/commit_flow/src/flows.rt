@@ -29,7 +29,7 @@ use std::sync::Wait;
 
 /// Commits what is staged and sealed on a branch: the place of the entry, the new head and what it says. The changes
 /// are sealed first, and stay sealed where the commit is refused behind that; then it is tried at most ten times. The
-/// call's own commit is said of by `about`, of the moment of the client. It waits.
+/// call's own commit is said of by `about`, whose date is the moment of the client. It waits.
 pub fn commit<K: Keeper, B: Blocks, P: Pause, W: Wait>(
     rt: &W,
     alloc: Global,
@@ -40,7 +40,8 @@ pub fn commit<K: Keeper, B: Blocks, P: Pause, W: Wait>(
     branch: &RefName,
     about: About,
 ) -> FlowAnswer<(u64, CommitId, CommitRecord), CommitFault>
-    requires { seat.old.turn ≡ lake.now }
+    requires turn { seat.old.turn ≡ lake.now }
+    requires date { about.date ≡ client.old.now }
     ensures served { (c : Committing)
         → c.repo ≡ repo.now → c.branch ≡ branch.now → commit_about c client.old.now ≡ about
         → IsAnswered (HasMadeHead
@@ -73,7 +74,7 @@ pub fn commit<K: Keeper, B: Blocks, P: Pause, W: Wait>(
 }
 
 /// Merges the commit of an expression into a branch: the place of the entry, the new head and what it says. The
-/// expression is resolved once, before the branch is sealed. It waits.
+/// expression is resolved once, before the branch is sealed. The date of `about` is the client's moment. It waits.
 pub fn merge<K: Keeper, B: Blocks, P: Pause, W: Wait>(
     rt: &W,
     alloc: Global,
@@ -86,7 +87,8 @@ pub fn merge<K: Keeper, B: Blocks, P: Pause, W: Wait>(
     strategy: Strategy,
     about: About,
 ) -> FlowAnswer<(u64, CommitId, CommitRecord), CommitFault>
-    requires { seat.old.turn ≡ lake.now }
+    requires turn { seat.old.turn ≡ lake.now }
+    requires date { about.date ≡ client.old.now }
     ensures served { (c : AnyMerge)
         → c.repo ≡ repo.now → c.branch ≡ dest.now → c.source.e ≡ source.now → c.strategy ≡ strategy
         → merge_about c client.old.now ≡ about
@@ -123,7 +125,7 @@ pub fn merge<K: Keeper, B: Blocks, P: Pause, W: Wait>(
 
 /// Undoes the commit of an expression on a branch, over its parent of this number, counted from 1, which a commit of
 /// several parents needs: the place of the entry, the new head and what it says. Its message is `Revert ID`; of
-/// `about` the committer and the moment count. It waits.
+/// `about` the committer and the date count, which is the moment of the client. It waits.
 pub fn revert<K: Keeper, B: Blocks, P: Pause, W: Wait>(
     rt: &W,
     alloc: Global,
@@ -136,10 +138,11 @@ pub fn revert<K: Keeper, B: Blocks, P: Pause, W: Wait>(
     number: Option<u32>,
     about: About,
 ) -> FlowAnswer<(u64, CommitId, CommitRecord), CommitFault>
-    requires { seat.old.turn ≡ lake.now }
+    requires turn { seat.old.turn ≡ lake.now }
+    requires date { about.date ≡ client.old.now }
     ensures served { (c : AnyPick)
         → c.repo ≡ repo.now → c.branch ≡ branch.now → c.at.e ≡ e.now → c.parent ≡ number
-        → c.committer ≡ about.committer → client.old.now ≡ about.date
+        → c.committer ≡ about.committer
         → IsAnswered (HasPicked repo.now e.now number (λ point parent. record {
           repo = repo.now;
           branch = branch.now;
@@ -175,7 +178,7 @@ pub fn revert<K: Keeper, B: Blocks, P: Pause, W: Wait>(
 
 /// Takes what the commit of an expression changed over its parent of this number, counted from 1, into a branch: the
 /// place of the entry, the new head and what it says. Its message is that of the commit; of `about` the committer and
-/// the moment count. It waits.
+/// the date count, which is the moment of the client. It waits.
 pub fn cherry_pick<K: Keeper, B: Blocks, P: Pause, W: Wait>(
     rt: &W,
     alloc: Global,
@@ -188,10 +191,11 @@ pub fn cherry_pick<K: Keeper, B: Blocks, P: Pause, W: Wait>(
     number: Option<u32>,
     about: About,
 ) -> FlowAnswer<(u64, CommitId, CommitRecord), CommitFault>
-    requires { seat.old.turn ≡ lake.now }
+    requires turn { seat.old.turn ≡ lake.now }
+    requires date { about.date ≡ client.old.now }
     ensures served { (c : AnyPick)
         → c.repo ≡ repo.now → c.branch ≡ branch.now → c.at.e ≡ e.now → c.parent ≡ number
-        → c.committer ≡ about.committer → client.old.now ≡ about.date
+        → c.committer ≡ about.committer
         → IsAnswered (HasPicked repo.now e.now number (λ point parent. record {
           repo = repo.now;
           branch = branch.now;

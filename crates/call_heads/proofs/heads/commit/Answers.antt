@@ -1,6 +1,6 @@
 use Rattle.std.proofs.Common.{sym, ap, subst}
 use Rattle.lake_base.specs.declared.digest.Digest.{Digest}
-use Rattle.lake_values.specs.Commit.{CommitRecordValue}
+use Rattle.lake_values.specs.Commit.{AboutValue, CommitRecordValue}
 use Rattle.lake_calls.specs.Calls.{CommitCall}
 use Rattle.lake_calls.specs.CallReadings.{known_commit}
 use Rattle.lake_calls.specs.CallRefusals.{names_in, names_of}
@@ -22,6 +22,9 @@ returns-in-Err-clause-served g c =
     let call : HeadCall = head.Commit c.args.call.now in
     of_reading c.args.seat.now c.out_of_memory.new.seat client.call (Heads call) client.now (g.B.Blocks.faults store) (g.B.Blocks.misses store)
     (g.B.Blocks.missed store) (g.B.Blocks.held store) c.out_of_memory.result (c.out_of_memory.ensures.served (Heads call)) (other_call call)
+
+pub commit-flow-requires-clause-date : goal.commit-flow-requires-clause-date
+commit-flow-requires-clause-date g c = ap (λ (a : AboutValue). a.date) c.in-Ok.ensures
 
 pub returns-clause-served : goal.returns-clause-served
 returns-clause-served g c =

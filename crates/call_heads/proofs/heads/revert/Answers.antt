@@ -22,6 +22,9 @@ returns-in-Err-clause-served g c =
     of_reading c.args.seat.now c.out_of_memory.new.seat client.call (Heads call) client.now (g.B.Blocks.faults store) (g.B.Blocks.misses store)
     (g.B.Blocks.missed store) (g.B.Blocks.held store) c.out_of_memory.result (c.out_of_memory.ensures.served (Heads call)) (other_call call)
 
+pub revert-flow-requires-clause-date : goal.revert-flow-requires-clause-date
+revert-flow-requires-clause-date g c = ap (λ (a : AboutValue). a.date) c.in-Ok.ensures
+
 pub returns-clause-served : goal.returns-clause-served
 returns-clause-served g c =
     let client = c.args.client.now in
@@ -32,7 +35,7 @@ returns-clause-served g c =
     let names = subst (λ (n : PickCall). AreNames c.names_at-names.result (names_at n.repo n.branch n.at [])) c.call.view_is c.names_at-names.ensures in
     let given = (flow.ensures.served call (ap (λ (n : PickCall). n.repo) same) (ap (λ (n : PickCall). n.branch) same)
     (ap (λ (n : PickCall). n.at.e) same ∙ sym c.expr.ensures) (ap (λ (n : PickCall). n.parent) same)
-    (sym (ap (λ (a : AboutValue). a.committer) c.in-Ok.ensures)) (sym (ap (λ (a : AboutValue). a.date) c.in-Ok.ensures))).answers in
+    (sym (ap (λ (a : AboutValue). a.committer) c.in-Ok.ensures))).answers in
     answered g.B.Blocks.faults g.B.Blocks.misses g.B.Blocks.missed g.B.Blocks.held client.blocks.now flow.new.client.blocks.now
     (ap (λ b. b.now) flow.ensures.blocks) c.args.seat.now flow.new.seat client.call (head.Revert call) client.now flow.ensures.turn telling flow.result
     given.met given.told given.tells given.flow given.faults given.misses given.missed_last

@@ -20,7 +20,7 @@ use Rattle.commit_flow.proofs.FlowLemmas.{answered, revert_so, undoing}
 use Rattle.commit_flow.proofs.flows.revert.Goals as goal
 
 pub returns-clause-served : goal.returns-clause-served
-returns-clause-served g c one repo branch e number committer date =
+returns-clause-served g c one repo branch e number committer =
     let client = c.args.client.now in
     let old = c.args.seat.now in
     let new = c.picked-made.new.seat in
@@ -49,7 +49,7 @@ returns-clause-served g c one repo branch e number committer date =
       repo = c.args.repo.now;
       branch = c.args.branch.now;
       kind = kind.Pick point.commit parent Refuse;
-      about = record { committer = sym committer i; message = picking_message Undo point; metadata = []; date = sym date i };
+      about = record { committer = sym committer i; message = picking_message Undo point; metadata = []; date = c.requires.date i };
     } in
     let went = subst (λ (X : Type 0). X)
     (λ i. HasPicked (sym repo i) (sym e i) (sym number i) (sym same i) client.call old new paused pauses versions result)
