@@ -4,3 +4,4 @@ pub mod CallPairs
 pub mod CalmCalls
 pub mod OneSessionLemmas
 pub mod HadBytes
+pub mod KnownSeats

@@ -1,1 +1,2 @@
 pub mod LikeSessions
+pub mod KnownSeats
