@@ -1,0 +1,21 @@
+use Rattle.core_puts.specs.KeeperViews.{KeeperView}
+use Rattle.folder_lakes.proofs.FolderLemmas.{begins, counted}
+use Rattle.folder_lakes.proofs.opening.close_folder.Goals as goal
+
+pub returns : goal.returns
+returns g c =
+    let view : KeeperView g.row.D-Pairs.Denot = record {
+      kept = g.D.Pairs.Keeper.kept;
+      faults = g.D.Pairs.Keeper.faults;
+      calls = g.D.Pairs.Keeper.calls;
+      successes = g.D.Pairs.Keeper.successes;
+    } in
+    let closed = c.close-closed.result in
+    record {
+      show = record { kept = g.D.Pairs.Keeper.kept c.into_keeper.result; faults = g.D.Pairs.Keeper.faults c.into_keeper.result };
+      back = record { keepers = c.back.ensures.keepers; stores = c.back.ensures.stores };
+      faults = c.back.ensures.faults;
+      history = closed.history;
+      begins = λ k d within. begins view closed _ (c.close-closed.ensures.found k d within);
+      counted = λ k d within. counted view closed c.into_keeper.result c.into_keeper.ensures _ (c.close-closed.ensures.found k d within);
+    }

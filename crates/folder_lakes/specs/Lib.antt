@@ -1,0 +1,2 @@
+pub mod FolderFaults
+pub mod FolderLakes
