@@ -63,6 +63,7 @@ module _ {L M : Type 0} (serves : List ℕ → L → L → LineReply → Type 0)
       early = is.early;
       text = is.text;
     }
+    ends_seen extent exit.PairsRefused is = is
     ends_seen extent exit.OutOfMemory is = is
 
     -- what became of it, as that is seen

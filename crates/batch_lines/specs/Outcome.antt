@@ -4,7 +4,7 @@ use Rattle.lake_base.specs.Outside.{Rose}
 use Rattle.http_wire.specs.SinkFronts.{IsPrefix, Wrote, WroteFirst}
 use Rattle.batch_lines.specs.declared.status.ExitStatus.{ExitStatus}
 use Rattle.batch_lines.specs.declared.status.ExitStatus.TheVariants.{Done, Refused, Usage}
-use Rattle.batch_lines.specs.declared.status.ExitStatus.TheVariants.{SourceFailed, SinkFailed, HostFailed, OutOfMemory}
+use Rattle.batch_lines.specs.declared.status.ExitStatus.TheVariants.{SourceFailed, SinkFailed, HostFailed, PairsRefused, OutOfMemory}
 use Rattle.batch_lines.specs.ServedLines.{LineReply, LineEffect, AreServed, text_of, all_done, any_starved, any_failed}
 use Rattle.batch_lines.specs.Lines.{ended_lines, batch_lines, end_text}
 use Rattle.batch_lines.specs.Status.{status_of}
@@ -105,6 +105,7 @@ module _ {L : Type 0} (serves : List ℕ → L → L → LineReply → Type 0) (
   EndsWith extent SourceFailed = IsGiven limit input source extent
   EndsWith extent SinkFailed = IsStopped serves most before after input source extent
   EndsWith extent HostFailed = IsAbandoned serves most before after input source extent
+  EndsWith extent PairsRefused = ⊥
   EndsWith extent OutOfMemory = IsWhole limit most input source extent OutOfMemory
 
   -- What became of the batch of an input, of which this is left in its source, which gives at most so many bytes at once.

@@ -2,7 +2,7 @@
 use Rattle.std.specs.Prelude.{ℕ, Bool, if◌then◌else◌}
 use Rattle.batch_lines.specs.declared.status.ExitStatus.{ExitStatus}
 use Rattle.batch_lines.specs.declared.status.ExitStatus.TheVariants.{Done, Refused, Usage}
-use Rattle.batch_lines.specs.declared.status.ExitStatus.TheVariants.{SourceFailed, SinkFailed, HostFailed, OutOfMemory}
+use Rattle.batch_lines.specs.declared.status.ExitStatus.TheVariants.{SourceFailed, SinkFailed, HostFailed, PairsRefused, OutOfMemory}
 
 -- the number by which the system knows a status
 abbrev pub status_number : ExitStatus → ℕ
@@ -12,6 +12,7 @@ status_number Usage = 2
 status_number SourceFailed = 3
 status_number SinkFailed = 4
 status_number HostFailed = 5
+status_number PairsRefused = 6
 status_number OutOfMemory = 7
 
 -- the status of a batch that was read to its end, by whether memory ran out and whether each line was done

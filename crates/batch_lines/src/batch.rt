@@ -231,6 +231,7 @@ impl Batch {
         ensures host { (L.faults lines.old ≤ L.faults lines.new)
             × (result ≡ ExitStatus.HostFailed → Rose (L.faults lines.old) (L.faults lines.new)) }
         ensures statuses { (result ≢ ExitStatus.Usage) × (result ≢ ExitStatus.SourceFailed) }
+        ensures pairs { result ≢ ExitStatus.PairsRefused }
     {
         match self.show_last(within, lines, sink) {
             Ok(()) => match self.results.output.flush(sink) {
@@ -267,6 +268,7 @@ impl Batch {
         ensures host { (L.faults lines.old ≤ L.faults lines.new) × (result ≡ ExitStatus.HostFailed
             → (end ≢ End.HostFailed) → Rose (L.faults lines.old) (L.faults lines.new)) }
         ensures statuses { result ≢ ExitStatus.Usage }
+        ensures pairs { result ≢ ExitStatus.PairsRefused }
     {
         match end {
             End::Source => self.close(true, lines, sink),

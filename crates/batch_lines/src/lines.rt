@@ -38,6 +38,7 @@ pub fn serve_lines<L: LineServer, S: Source, W: Sink>(
     ensures host { (L.faults lines.old ≤ L.faults lines.new)
         × (result ≡ ExitStatus.HostFailed → Rose (L.faults lines.old) (L.faults lines.new)) }
     ensures statuses { result ≢ ExitStatus.Usage }
+    ensures pairs { result ≢ ExitStatus.PairsRefused }
 {
     let Ok(mut batch) = Batch::new(alloc) else {
         return ExitStatus::OutOfMemory;

@@ -15,6 +15,8 @@ pub enum ExitStatus {
     SinkFailed,
     /// A file or the machine failed.
     HostFailed,
+    /// The folder's pairs were refused.
+    PairsRefused,
     /// Memory ran out, at a line or before the first was read.
     OutOfMemory,
 }

@@ -83,13 +83,13 @@ module _ (old now : CommandView) where
   unchanged : now ≡ old → Passes old.lake now.lake
   unchanged same = pass_none old.lake now.lake (ap (λ (v : CommandView). v.lake) same)
 
-  pass_shown : (host : List ℕ) (words : List (List ℕ)) (shown : Shown) → CommandShows host words old now shown → Passes old.lake now.lake
+  pub pass_shown : (host : List ℕ) (words : List (List ℕ)) (shown : Shown) → CommandShows host words old now shown → Passes old.lake now.lake
   pass_shown host words shown (Usage fault is same shows) = unchanged same
   pass_shown host words shown (NoFile call name is names missing same shows) = unchanged same
   pass_shown host words shown (Sent call request written reply is sent exchanged read shows saved) =
       pass_exchange request old.lake now.lake (Some written) exchanged
 
-  pass_stopped : (host : List ℕ) (words : List (List ℕ)) (trouble : Trouble) → CommandStops host words old now trouble → Passes old.lake now.lake
+  pub pass_stopped : (host : List ℕ) (words : List (List ℕ)) (trouble : Trouble) → CommandStops host words old now trouble → Passes old.lake now.lake
   pass_stopped host words trouble (Unsent same named) = unchanged same
   pass_stopped host words trouble (Behind call request written is sent exchanged saved named) = pass_exchange request old.lake now.lake written exchanged
 

@@ -51,6 +51,7 @@ fn serve_by_clock<R: Wait, S: Source, O: Sink, C: Clock, F: Files>(
     ensures host { (F.faults files ≤ F.faults result.2)
         × (result.0 ≡ ExitStatus.HostFailed → Rose (F.faults files) (F.faults result.2)) }
     ensures statuses { result.0 ≢ ExitStatus.Usage }
+    ensures pairs { result.0 ≢ ExitStatus.PairsRefused }
 {
     let Ok((lake, mut seat)) = lone_lake(alloc) else {
         return (ExitStatus::OutOfMemory, clock, files);
@@ -111,6 +112,7 @@ pub fn serve_batch<R: Wait, S: Source, O: Sink, C: Clock, F: Files>(
     ensures host { (F.faults files ≤ F.faults result.2)
         × (result.0 ≡ ExitStatus.HostFailed → Rose (F.faults files) (F.faults result.2)) }
     ensures statuses { result.0 ≢ ExitStatus.Usage }
+    ensures pairs { result.0 ≢ ExitStatus.PairsRefused }
 {
     match timing {
         Timing::Clock => serve_by_clock(rt, alloc, limit, source, sink, clock, files),

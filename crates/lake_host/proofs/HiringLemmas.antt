@@ -72,12 +72,40 @@ hired_one connections all rest left seat begun worker doors fewer number far nex
       omega (arith, sum, sums, same);
 }
 
--- one more listener goes from those that wait to a worker
-pub moved_over : {X Y A : Type 0} (f : X → A) (g : Y → A) (done : List X) (next : X) (waiting left : List Y) (first : Y) → waiting ≡ first ∷ left
+-- one more listener, or store, goes from those that wait to a worker
+moved_over : {X Y A : Type 0} (f : X → A) (g : Y → A) (done : List X) (next : X) (waiting left : List Y) (first : Y) → waiting ≡ first ∷ left
     → f next ≡ g first → map f (done ++ next ∷ []) ++ map g left ≡ map f done ++ map g waiting
 moved_over f g done next waiting left first one same =
     ap (λ l. l ++ map g left) (map-append f done (next ∷ [])) ∙ append_assoc (map f done) (f next ∷ []) (map g left)
     ∙ ap (λ x. map f done ++ x ∷ map g left) same ∙ ap (λ l. map f done ++ map g l) (sym one)
+
+-- the same of those that have them, as these show
+pub moved_on : {X Y W A : Type 0} (show : X → W) (f : W → A) (g : Y → A) (done now : List X) (next : X) (waiting left : List Y) (first : Y) (all : List A)
+    → now ≡ done ++ next ∷ [] → waiting ≡ first ∷ left → f (show next) ≡ g first → map f (map show done) ++ map g waiting ≡ all
+    → map f (map show now) ++ map g left ≡ all
+moved_on show f g done now next waiting left first all pushed one same far =
+    ap (λ l. map f (map show l) ++ map g left) pushed ∙ ap (λ l. map f l ++ map g left) (map-append show done (next ∷ []))
+    ∙ moved_over f g (map show done) (show next) waiting left first one same ∙ far
+
+-- and of those that were taken
+pub moved_back : {X Y A : Type 0} (f : X → A) (g : Y → A) (done now : List X) (next : X) (waiting left : List Y) (first : Y) (all : List A)
+    → now ≡ done ++ next ∷ [] → waiting ≡ first ∷ left → f next ≡ g first → map f done ++ map g waiting ≡ all → map f now ++ map g left ≡ all
+moved_back f g done now next waiting left first all pushed one same far =
+    ap (λ l. map f l ++ map g left) pushed ∙ moved_over f g done next waiting left first one same ∙ far
+
+-- none is left
+pub none_left : {X Y A : Type 0} (f : X → A) (g : Y → A) (done : List X) (waiting : List Y) (all : List A) → length waiting ≡ 0
+    → map f done ++ map g waiting ≡ all → map f done ≡ all
+none_left f g done [] all none far = sym (append-nil (map f done)) ∙ far
+none_left f g done (one ∷ others) all none far = absurd (omega (arith, none))
+
+-- of two lists one each is taken
+pub one_taken : {X Y : Type 0} (xs fewer : List X) (x : X) (ys less : List Y) (y : Y) → xs ≡ x ∷ fewer → ys ≡ y ∷ less → length xs ≡ length ys
+    → length fewer ≡ length less
+one_taken xs fewer x ys less y one other same =
+    let more : length xs ≡ suc (length fewer) = ap length one in
+    let many : length ys ≡ suc (length less) = ap length other in
+    omega (arith, more, many, same)
 
 -- there is room for one more
 pub has_place : (connections : Option ℕ) (all rest left : List LakeSeat) (seat : LakeSeat) (begun : List WorkerView) (doors number : ℕ)
@@ -136,6 +164,12 @@ taken_one all rest left worker seats more before now next failed any far one sea
   told = some ∙ far.told;
   tells = told ∙ ap (λ b. b || worker.failed) far.tells ∙ sym (failed_more far.done worker);
 }
+
+-- one more of each
+pub one_pushed : {X Y : Type 0} (xs more : List X) (x : X) (ys others : List Y) (y : Y) → more ≡ xs ++ x ∷ [] → others ≡ ys ++ y ∷ []
+    → length xs ≡ length ys → length more ≡ length others
+one_pushed xs more x ys others y one other same =
+    ap length one ∙ length-append xs (x ∷ []) ∙ ap (λ n. n + 1) same ∙ sym (length-append ys (y ∷ [])) ∙ sym (ap length other)
 
 -- there is room for one more seat
 pub taken_place : (all rest left : List WorkerView) (worker : WorkerView) (seats : List LakeSeat) (before now : Option (List DoorView)) (failed : Bool)

@@ -32,14 +32,6 @@ all_mapped P f [] all = All-nil (λ x. P (f x))
 all_mapped P f (x ∷ xs) all =
     All-cons (λ y. P (f y)) x xs (all_first P (f x) (map f xs) all) (all_mapped P f xs (all_others P (f x) (map f xs) all))
 
--- workers over stores that count no failure show none
-pub all_calm : {B C L : Type 0} (show : PartViews B C L) → ((blocks : B) → show.block_faults blocks ≡ 0) → (workers : List (Worker B C L))
-    → All (λ (worker : WorkerView). worker.carried.store.faults ≡ 0) (map (worker_view show) workers)
-all_calm show calm [] = All-nil (λ (worker : WorkerView). worker.carried.store.faults ≡ 0)
-all_calm show calm (one ∷ others) =
-    All-cons (λ (worker : WorkerView). worker.carried.store.faults ≡ 0) (worker_view show one) (map (worker_view show) others) (calm one.blocks)
-    (all_calm show calm others)
-
 -- workers that begin at seats of a turn may begin there
 pub all_ready : {B C L : Type 0} (show : PartViews B C L) (turn : TableId) (connections : Option ℕ) (workers number : ℕ) (seats : List LakeSeat)
     (made : List (Worker B C L)) → AreBegun connections workers number seats (map (worker_view show) made)

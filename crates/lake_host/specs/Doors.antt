@@ -1,10 +1,9 @@
--- Listeners, as a host is given them back, and what the workers of its server show.
-use Rattle.std.specs.Prelude.{◌≤◌, ◌+◌, ℕ, List, length, map, Option, Some, IfSome}
-use Rattle.block_store.specs.Sure.{SureBlocksValue}
+-- Listeners, as a host gives them and is given them back.
+use Rattle.std.specs.Prelude.{◌≤◌, ◌+◌, ℕ, List, length, map, Option, IfSome}
 use Rattle.http_wire.specs.Streams.{Streams}
 use Rattle.lake_server.specs.Connections.{Returned}
 pub use Rattle.lake_server.specs.MemoryListeners.{MemoryListenerValue}
-use Rattle.lake_server.specs.ServedConnections.{PartViews, WorkerView}
+use Rattle.lake_server.specs.ServedConnections.{WorkerView}
 
 -- a listener, as it shows at a moment: the connections that it handed out and was given back, where it tells them, and how often it
 -- has failed
@@ -40,17 +39,3 @@ AreOut count opened returned = IfSome opened (λ out. IfSome returned (λ back. 
 -- the listener of a worker
 abbrev pub door_of : WorkerView → DoorView
 door_of worker = record { accepted = worker.accepted; returned = worker.returned; faults = worker.faults }
-
--- what a server's workers show: a store in memory that never fails but for memory, a clock of these readings, and a listener
-abbrev pub host_views : {C L : Type 0} → (readings : C → Option (List ℕ)) → (accepted : L → Option (List Streams))
-    → (returned : L → Option (List Returned)) → (faults : L → ℕ) → PartViews SureBlocksValue C L
-host_views readings accepted returned faults = record {
-  held = λ blocks. Some blocks.held;
-  block_faults = λ blocks. 0;
-  misses = λ blocks. blocks.misses;
-  missed = λ blocks. blocks.missed;
-  readings = readings;
-  accepted = accepted;
-  returned = returned;
-  faults = faults;
-}

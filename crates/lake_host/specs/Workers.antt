@@ -1,14 +1,23 @@
 -- The workers of a server, as they begin and as they end.
-use Rattle.std.specs.Prelude.{◌≡◌, ℕ, ◌+◌, ◌||◌, Bool, false, List, [], ◌∷◌, Option, Some, ⊤}
-use Rattle.std.specs.FinMap.{empty}
+use Rattle.std.specs.Prelude.{◌≡◌, ℕ, ◌+◌, ◌||◌, Bool, false, List, [], ◌∷◌, Option, ⊤}
+use Rattle.block_store.specs.Blocks.{HeldObjects}
 use Rattle.shared_lake.specs.SeatSteps.{LakeSeat}
+pub use Rattle.lake_session.specs.SessionViews.{StoreView}
 use Rattle.lake_server.specs.ServedConnections.{WorkerView}
 use Rattle.lake_host.specs.Shares.{share_of}
 
--- a worker that begins: at this seat, with an empty store of objects and so many connections to serve
+-- what a store of objects shows
+abbrev pub store_view : {B : Type 0} → (held : B → Option HeldObjects) → (faults misses missed : B → ℕ) → B → StoreView
+store_view held faults misses missed blocks =
+    record { held = held blocks; faults = faults blocks; misses = misses blocks; missed = missed blocks }
+
+-- the store of a worker
+abbrev pub store_of : WorkerView → StoreView
+store_of worker = worker.carried.store
+
+-- a worker that begins: at this seat, with so many connections to serve
 pub record IsBegun (at : LakeSeat) (share : Option ℕ) (worker : WorkerView) : Type 0 where
   pub seat : worker.carried.seat ≡ at
-  pub store : worker.carried.store ≡ record { held = Some empty; faults = 0; misses = 0; missed = 0 }
   pub connections : worker.connections ≡ share
   pub served : worker.served ≡ 0
   pub failed : worker.failed ≡ false

@@ -3,3 +3,4 @@ pub mod RunLemmas
 pub mod ServerLemmas
 pub mod StatusLemmas
 pub mod OneBatchLemmas
+pub mod LocalLemmas

@@ -3,7 +3,6 @@ use Rattle.std.proofs.Common.{◌≡◌, ◌≢◌, ◌<◌, ◌≤◌, ◌++◌
 use Rattle.std.proofs.Common.{subst, arith}
 use Rattle.std.proofs.lemmas.List.{append-nil}
 use Rattle.lake_base.specs.Outside.{Rose, Quiet}
-use Rattle.http_wire.specs.SinkFronts.{Wrote, WroteFront}
 use Rattle.lake_batch.specs.CommandWords.{LineEnds}
 use Rattle.batch_lines.specs.Lines.{batch_lines}
 use Rattle.batch_lines.specs.Outcome.{IsWhole}
@@ -11,19 +10,20 @@ use Rattle.batch_lines.specs.ServedLines.{AreServed}
 use Rattle.batch_lines.specs.Status.{status_number}
 use Rattle.batch_lines.specs.declared.status.ExitStatus.{ExitStatus}
 use Rattle.batch_lines.specs.declared.status.ExitStatus.TheVariants as exit
+use Rattle.core_puts.specs.KeeperViews.{KeeperView}
 use Rattle.lake_host.specs.Doors.{HostView}
+use Rattle.lake_folders.specs.Folders.{FoldersView}
 use Rattle.batch_laws.proofs.OneRunLemmas.{only_run}
 use Rattle.lake_batch.proofs.BatchLemmas.{told_then}
 use Rattle.lake_batch.specs.BatchViews.{BatchView}
 use Rattle.lake_batch.specs.Batches.{IsServedBatch}
 use Rattle.program_words.specs.declared.batch.Timing.{Timing}
 use Rattle.program_words.specs.declared.generator.Generator.{Generator}
-use Rattle.program_words.specs.ProgramWords.{Asked, Batch, Control, Generate, Nothing, Send, Serve, Serving}
-use Rattle.program_words.specs.ProgramWords.{asked_of, control_of, first_asked, generator_of, service_of, timing_of}
+use Rattle.program_words.specs.ProgramWords.{Asked, Batch, Control, Generate, Send, Serve, Serving}
+use Rattle.program_words.specs.ProgramWords.{asked_of, control_of, first_asked, generator_of, local_asked_of, service_of, timing_of}
 use Rattle.lake_generator.specs.Generated.{Generates}
 use Rattle.lake_program.specs.Controls.{Controls}
 use Rattle.lake_program.specs.Run.{CountsStay, IsBatchRun, IsUnbegun, Runs, RunsAs, control_view, sink_view}
-use Rattle.lake_program.specs.Run.{usage_text}
 use Rattle.lake_program.specs.Servers.{IsServed, IsUnserved}
 use Rattle.lake_program.specs.Views.{RunView}
 
@@ -73,6 +73,7 @@ quiet_run timing input before after exit.Usage source sink host o = absurd o.out
 quiet_run timing input before after exit.SourceFailed source sink host o = absurd (source refl)
 quiet_run timing input before after exit.SinkFailed source sink host o = absurd (sink refl)
 quiet_run timing input before after exit.HostFailed source sink host o = absurd (host refl)
+quiet_run timing input before after exit.PairsRefused source sink host o = absurd o.outcome.ended
 quiet_run timing input before after exit.OutOfMemory source sink host o = whole_run timing input before after exit.OutOfMemory o o.outcome.ended
 
 -- an option that is nothing
@@ -85,27 +86,30 @@ pub maps_none : {A B : Type 0} (f : A → B) (found : Option A) (told : Option B
 maps_none f found told is none = sym is ∙ ap (option_map f) (is_none found none)
 
 -- what came of a run, of words that ask for this
-as_asked : (words : List (List ℕ)) (asked : Asked) (before after : RunView) (number : ℕ) → asked_of words ≡ asked → RunsAs asked before after number
-    → CountsStay before after → Runs words before after number
-as_asked words asked before after number is came counts =
-    record { came = subst (λ (a : Asked). RunsAs a before after number) (sym is) came; counts = counts }
+as_asked : {K : Type 0} (view : KeeperView K) (words : List (List ℕ)) (asked : Asked) (before after : RunView) (number : ℕ) → asked_of words ≡ asked
+    → RunsAs view asked before after number → CountsStay before after → Runs view words before after number
+as_asked view words asked before after number is came counts =
+    record { came = subst (λ (a : Asked). RunsAs view a before after number) (sym is) came; counts = counts }
 
 -- ---- a batch was served
 
-pub run_of_batch : (words : List (List ℕ)) (before after : RunView) (timing : Timing) (status : ExitStatus) (number : ℕ) → timing_of words ≡ Some timing
-    → number ≡ status_number status → status ≢ exit.Usage
+pub run_of_batch : {K : Type 0} (view : KeeperView K) (words : List (List ℕ)) (before after : RunView) (timing : Timing) (status : ExitStatus) (number : ℕ)
+    → timing_of words ≡ Some timing
+    → number ≡ status_number status → status ≢ exit.Usage → status ≢ exit.PairsRefused
     → IsUnbegun before after status ⊎ IfSome before.batch.left (λ input. IsServedBatch timing 1073741824 65536 before.batch after.batch input status)
     → (before.source_faults ≤ after.source_faults) × (status ≡ exit.SourceFailed → Rose before.source_faults after.source_faults)
     → (before.batch.sink_faults ≤ after.batch.sink_faults) × (status ≡ exit.SinkFailed → Rose before.batch.sink_faults after.batch.sink_faults)
     → (before.file_faults ≤ after.file_faults) × (status ≡ exit.HostFailed → Rose before.file_faults after.file_faults)
     → after ≡ record before { batch = after.batch; source_faults = after.source_faults; file_faults = after.file_faults }
-    → Runs words before after number
-run_of_batch words before after timing status number is tells no_usage outcome source sink files same =
-    as_asked words (Batch timing) before after number (ap (λ (t : Option Timing). first_asked t (service_of words) (control_of words) (generator_of words)) is)
+    → Runs view words before after number
+run_of_batch view words before after timing status number is tells no_usage no_pairs outcome source sink files same =
+    as_asked view words (Batch timing) before after number (ap (λ (t : Option Timing). first_asked t (service_of words) (control_of words) (generator_of words)
+    (local_asked_of words)) is)
     (record {
       status = status;
       tells = tells;
       possible = no_usage;
+      no_pairs = no_pairs;
       quiet = λ quiet. ⊎_elim
           (λ unbegun. told_all before.batch.left _ (λ input. told_all before.batch.written _ (λ written. inr unbegun)))
           (λ some. told_then before.batch.left _ _ (λ input told o. told_then before.batch.written _ _ (λ written written_is r. inl r)
@@ -127,16 +131,18 @@ run_of_batch words before after timing status number is tells no_usage outcome s
       files = files.0;
       host = let count = ap (λ (v : RunView). v.host.faults) same in omega (arith, count);
       dial = let count = ap (λ (v : RunView). v.dial.faults) same in omega (arith, count);
+      folders = let count = ap (λ (v : RunView). v.folders.faults) same in omega (arith, count);
     })
 
 -- ---- a server was run
 
-pub run_of_server : (words : List (List ℕ)) (before after : RunView) (serving : Serving) (status : ExitStatus) (number : ℕ)
+pub run_of_server : {K : Type 0} (view : KeeperView K) (words : List (List ℕ)) (before after : RunView) (serving : Serving) (status : ExitStatus) (number : ℕ)
     → timing_of words ≡ None → service_of words ≡ Some serving → number ≡ status_number status → after ≡ record before { host = after.host }
     → before.host.faults ≤ after.host.faults
-    → IsServed serving before.host after.host status ⊎ IsUnserved before.host after.host status → Runs words before after number
-run_of_server words before after serving status number no_batch is tells same later outcome =
-    as_asked words (Serve serving) before after number (λ i. first_asked (no_batch i) (is i) (control_of words) (generator_of words))
+    → IsServed serving before.host after.host status ⊎ IsUnserved before.host after.host status → Runs view words before after number
+run_of_server view words before after serving status number no_batch is tells same later outcome =
+    as_asked view words (Serve serving) before after number
+    (λ i. first_asked (no_batch i) (is i) (control_of words) (generator_of words) (local_asked_of words))
     (record { status = status; tells = tells; serves = outcome; alone = same })
     (record {
       source = let count = ap (λ (v : RunView). v.source_faults) same in omega (arith, count);
@@ -145,19 +151,20 @@ run_of_server words before after serving status number no_batch is tells same la
       files = let count = ap (λ (v : RunView). v.file_faults) same in omega (arith, count);
       host = later;
       dial = let count = ap (λ (v : RunView). v.dial.faults) same in omega (arith, count);
+      folders = let count = ap (λ (v : RunView). v.folders.faults) same in omega (arith, count);
     })
 
 -- ---- a command went to a server
 
-pub run_of_control : (words : List (List ℕ)) (before after : RunView) (control : Control) (number : ℕ) → timing_of words ≡ None
-    → service_of words ≡ None → control_of words ≡ Some control → Controls (control_view before) (control_view after) control number
+pub run_of_control : {K : Type 0} (view : KeeperView K) (words : List (List ℕ)) (before after : RunView) (control : Control) (number : ℕ)
+    → timing_of words ≡ None → service_of words ≡ None → control_of words ≡ Some control → Controls (control_view before) (control_view after) control number
     → (after.batch.left ≡ before.batch.left) × (after.source_faults ≡ before.source_faults) × (after.batch.readings ≡ before.batch.readings)
-    × (after.host ≡ before.host)
+    × (after.host ≡ before.host) × (after.folders ≡ before.folders)
     → before.batch.sink_faults ≤ after.batch.sink_faults → before.errors_faults ≤ after.errors_faults → before.file_faults ≤ after.file_faults
-    → before.dial.faults ≤ after.dial.faults → Runs words before after number
-run_of_control words before after control number no_batch no_server is controls same sink errors files dial =
-    as_asked words (Send control) before after number (λ i. first_asked (no_batch i) (no_server i) (is i) (generator_of words))
-    (record { controls = controls; left = same.0; source_faults = same.1; readings = same.2; host = same.3 })
+    → before.dial.faults ≤ after.dial.faults → Runs view words before after number
+run_of_control view words before after control number no_batch no_server is controls same sink errors files dial =
+    as_asked view words (Send control) before after number (λ i. first_asked (no_batch i) (no_server i) (is i) (generator_of words) (local_asked_of words))
+    (record { controls = controls; left = same.0; source_faults = same.1; readings = same.2; host = same.3; folders = same.4 })
     (record {
       source = let count = same.1 in omega (arith, count);
       sink = sink;
@@ -165,17 +172,19 @@ run_of_control words before after control number no_batch no_server is controls 
       files = files;
       host = let count = ap (λ (h : HostView). h.faults) same.3 in omega (arith, count);
       dial = dial;
+      folders = let count = ap (λ (f : FoldersView). f.faults) same.4 in omega (arith, count);
     })
 
 -- ---- the generator was run
 
-pub run_of_generator : (words : List (List ℕ)) (before after : RunView) (generator : Generator) (status : ExitStatus) (number : ℕ)
+pub run_of_generator : {K : Type 0} (view : KeeperView K) (words : List (List ℕ)) (before after : RunView) (generator : Generator)
+    (status : ExitStatus) (number : ℕ)
     → timing_of words ≡ None → service_of words ≡ None → control_of words ≡ None → generator_of words ≡ Some generator
     → number ≡ status_number status → Generates generator (sink_view before) (sink_view after) status
     → after ≡ record before { batch = record before.batch { written = after.batch.written; sink_faults = after.batch.sink_faults } }
-    → before.batch.sink_faults ≤ after.batch.sink_faults → Runs words before after number
-run_of_generator words before after generator status number no_batch no_server no_control is tells generates same sink =
-    as_asked words (Generate generator) before after number (λ i. first_asked (no_batch i) (no_server i) (no_control i) (is i))
+    → before.batch.sink_faults ≤ after.batch.sink_faults → Runs view words before after number
+run_of_generator view words before after generator status number no_batch no_server no_control is tells generates same sink =
+    as_asked view words (Generate generator) before after number (λ i. first_asked (no_batch i) (no_server i) (no_control i) (is i) (local_asked_of words))
     (record { status = status; tells = tells; generates = generates; alone = same })
     (record {
       source = let count = ap (λ (v : RunView). v.source_faults) same in omega (arith, count);
@@ -184,27 +193,17 @@ run_of_generator words before after generator status number no_batch no_server n
       files = let count = ap (λ (v : RunView). v.file_faults) same in omega (arith, count);
       host = let count = ap (λ (v : RunView). v.host.faults) same in omega (arith, count);
       dial = let count = ap (λ (v : RunView). v.dial.faults) same in omega (arith, count);
+      folders = let count = ap (λ (v : RunView). v.folders.faults) same in omega (arith, count);
     })
 
--- ---- a usage fault was shown
+-- ---- what was done on the lake of a folder, or a usage fault was shown
 
-pub run_of_nothing : (words : List (List ℕ)) (before after : RunView) (status : ExitStatus) (number : ℕ) → timing_of words ≡ None
-    → service_of words ≡ None → control_of words ≡ None → generator_of words ≡ None → number ≡ status_number status
-    → ((status ≡ exit.Usage) × Wrote before.errors after.errors usage_text)
-    ⊎ ((status ≡ exit.SinkFailed) × WroteFront before.errors after.errors usage_text × Rose before.errors_faults after.errors_faults)
-    → after ≡ record before { errors = after.errors; errors_faults = after.errors_faults } → before.errors_faults ≤ after.errors_faults
-    → Runs words before after number
-run_of_nothing words before after status number no_batch no_server no_control no_generator tells says same errors =
-    as_asked words Nothing before after number (λ i. first_asked (no_batch i) (no_server i) (no_control i) (no_generator i))
-    (record {
-      says = ⊎_elim (λ whole. inl (tells ∙ ap status_number whole.0, whole.1)) (λ failed. inr (tells ∙ ap status_number failed.0, failed.1, failed.2)) says;
-      alone = same;
-    })
-    (record {
-      source = let count = ap (λ (v : RunView). v.source_faults) same in omega (arith, count);
-      sink = let count = ap (λ (v : RunView). v.batch.sink_faults) same in omega (arith, count);
-      errors = errors;
-      files = let count = ap (λ (v : RunView). v.file_faults) same in omega (arith, count);
-      host = let count = ap (λ (v : RunView). v.host.faults) same in omega (arith, count);
-      dial = let count = ap (λ (v : RunView). v.dial.faults) same in omega (arith, count);
-    })
+pub run_of_local : {K : Type 0} (view : KeeperView K) (words : List (List ℕ)) (before after : RunView) (number : ℕ) → asked_of words ≡ local_asked_of words
+    → RunsAs view (local_asked_of words) before after number × CountsStay before after → Runs view words before after number
+run_of_local view words before after number is ran = as_asked view words (local_asked_of words) before after number is ran.0 ran.1
+
+-- the words ask for none of the four
+pub asked_local : (words : List (List ℕ)) → timing_of words ≡ None → service_of words ≡ None → control_of words ≡ None → generator_of words ≡ None
+    → asked_of words ≡ local_asked_of words
+asked_local words no_batch no_server no_control no_generator =
+    (λ i. first_asked (no_batch i) (no_server i) (no_control i) (no_generator i) (local_asked_of words))

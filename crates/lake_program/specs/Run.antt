@@ -1,5 +1,5 @@
 -- What a run of the program promises.
-use Rattle.std.specs.Prelude.{◌≡◌, ◌≢◌, ◌≤◌, ◌⊎◌, ℕ, false, List, [], ◌∷◌, ◌++◌, Some, IfSome, codes}
+use Rattle.std.specs.Prelude.{◌≡◌, ◌≢◌, ◌≤◌, ◌⊎◌, ℕ, false, List, [], ◌∷◌, ◌++◌, Some, IfSome, Result, Ok, Err, codes}
 use Rattle.lake_base.specs.Outside.{Rose, Quiet}
 use Rattle.http_wire.specs.SinkFronts.{Wrote, WroteFront}
 use Rattle.batch_lines.specs.Lines.{batch_lines, end_text}
@@ -7,7 +7,8 @@ use Rattle.batch_lines.specs.Outcome.{IsReadOut, batch_status}
 use Rattle.batch_lines.specs.ServedLines.{AreServed, LineEffect, any_failed, text_of}
 use Rattle.batch_lines.specs.Status.{status_number}
 use Rattle.batch_lines.specs.declared.status.ExitStatus.{ExitStatus}
-use Rattle.batch_lines.specs.declared.status.ExitStatus.TheVariants.{Usage, SourceFailed, SinkFailed, HostFailed, OutOfMemory}
+use Rattle.batch_lines.specs.declared.status.ExitStatus.TheVariants.{Usage, SourceFailed, SinkFailed, HostFailed, PairsRefused, OutOfMemory}
+use Rattle.core_puts.specs.KeeperViews.{KeeperView}
 use Rattle.lake_batch.specs.BatchViews.{BatchView}
 use Rattle.lake_batch.specs.Batches.{HoldsBodies, IsBegun, IsServedBatch, IsTimed}
 use Rattle.lake_batch.specs.CommandWords.{CommandView, GoesThrough, LineEnds}
@@ -15,8 +16,14 @@ use Rattle.batch_laws.specs.LikeRuns.{IsOnlyRun}
 use Rattle.lake_generator.specs.Generated.{Generates, SinkView}
 use Rattle.program_words.specs.declared.batch.Timing.{Timing}
 use Rattle.program_words.specs.declared.generator.Generator.{Generator}
-use Rattle.program_words.specs.ProgramWords.{Asked, Batch, Control, Generate, Nothing, Send, Serve, Serving, asked_of}
-use Rattle.lake_program.specs.Controls.{ControlView, Controls}
+use Rattle.folder_batch.specs.Desks.{CommandAround}
+use Rattle.folder_batch.specs.FolderBatches.{FolderEnds}
+use Rattle.folder_batch.specs.FolderCommands.{FolderCommandEnds}
+use Rattle.folder_server.specs.FolderServers.{FolderServes}
+use Rattle.lakectl_shown.specs.declared.showing.Shown.{Shown}
+use Rattle.program_words.specs.ProgramWords.{Asked, Batch, Control, Generate, LocalBatch, LocalCommand, LocalServing, Nothing, Send, Serve, Serving, asked_of}
+use Rattle.program_words.specs.ProgramWords.{BatchIn, CommandIn, ServeIn}
+use Rattle.lake_program.specs.Controls.{AreUntouched, ControlView, Controls, Prints}
 use Rattle.lake_program.specs.Servers.{IsServed, IsUnserved}
 use Rattle.lake_program.specs.Views.{RunView}
 
@@ -64,6 +71,7 @@ pub record RunsBatch (timing : Timing) (before after : RunView) (number : ℕ) :
   pub status : ExitStatus
   pub tells : number ≡ status_number status
   pub possible : status ≢ Usage
+  pub no_pairs : status ≢ PairsRefused
   -- Where neither the source nor the sink nor a file failed, each line was served, and the sink got just what they show,
   -- unless memory ran out before the first.
   pub quiet : AreQuiet before after → IfSome before.batch.left (λ input. IfSome before.batch.written (λ written.
@@ -108,6 +116,7 @@ pub record RunsControl (control : Control) (before after : RunView) (number : �
   pub source_faults : after.source_faults ≡ before.source_faults
   pub readings : after.batch.readings ≡ before.batch.readings
   pub host : after.host ≡ before.host
+  pub folders : after.folders ≡ before.folders
 
 -- ---- the generator
 
@@ -121,6 +130,49 @@ pub record RunsGenerator (generator : Generator) (before after : RunView) (numbe
   pub tells : number ≡ status_number status
   pub generates : Generates generator (sink_view before) (sink_view after) status
   pub alone : after ≡ record before { batch = record before.batch { written = after.batch.written; sink_faults = after.batch.sink_faults } }
+
+-- ---- on the lake of a folder
+
+-- A BATCH WAS RUN on the lake of a folder. Nothing but its streams, the clock, the files and the folder was touched.
+pub record RunsBatchIn (local : LocalBatch) (before after : RunView) (number : ℕ) : Type 0 where
+  pub status : ExitStatus
+  pub tells : number ≡ status_number status
+  pub possible : status ≢ Usage
+  pub ends : FolderEnds local.folder local.timing 1073741824 65536 before.folders after.folders before.batch after.batch status
+  pub alone : after ≡ record before {
+    batch = after.batch;
+    source_faults = after.source_faults;
+    file_faults = after.file_faults;
+    folders = after.folders;
+  }
+  pub source_failed : status ≡ SourceFailed → Rose before.source_faults after.source_faults
+  pub sink_failed : status ≡ SinkFailed → Rose before.batch.sink_faults after.batch.sink_faults
+
+-- A SERVER WAS RUN on the lake of a folder. Nothing but the host and the folder was touched.
+pub record RunsServerIn {K : Type 0} (view : KeeperView K) (local : LocalServing) (before after : RunView) (number : ℕ) : Type 0 where
+  pub status : ExitStatus
+  pub tells : number ≡ status_number status
+  pub serves : FolderServes view local before.host after.host before.folders after.folders status
+  pub alone : after ≡ record before { host = after.host; folders = after.folders }
+
+-- the clock's readings and the files of a run
+abbrev pub around : RunView → CommandAround
+around run = record { readings = run.batch.readings; files = run.batch.files }
+
+-- what a command shows was printed; or it stopped, and nothing was
+abbrev pub IsPrinted : (old now : ControlView) → Result Shown ExitStatus → ℕ → Type 0
+IsPrinted old now (Ok shown) number = Prints old now shown number
+IsPrinted old now (Err status) number = AreUntouched old now × (number ≡ status_number status)
+
+-- A COMMAND WAS SERVED on the lake of a folder, and what it shows was printed. Nothing of the source, the host and the network changed.
+pub record RunsCommandIn (local : LocalCommand) (before after : RunView) (number : ℕ) : Type 0 where
+  pub result : Result Shown ExitStatus
+  pub ends : FolderCommandEnds local.folder local.timing local.words before.folders after.folders (around before) (around after) result
+  pub printed : IsPrinted (control_view before) (control_view after) result number
+  pub left : after.batch.left ≡ before.batch.left
+  pub source_faults : after.source_faults ≡ before.source_faults
+  pub host : after.host ≡ before.host
+  pub dial : after.dial ≡ before.dial
 
 -- ---- other words
 
@@ -137,12 +189,15 @@ pub record RunsNothing (before after : RunView) (number : ℕ) : Type 0 where
 -- ---- all of it
 
 -- WHAT CAME OF A RUN, by what its words ask for
-abbrev pub RunsAs : Asked → (before after : RunView) → (number : ℕ) → Type 0
-RunsAs (Batch timing) before after number = RunsBatch timing before after number
-RunsAs (Serve serving) before after number = RunsServer serving before after number
-RunsAs (Send control) before after number = RunsControl control before after number
-RunsAs (Generate generator) before after number = RunsGenerator generator before after number
-RunsAs Nothing before after number = RunsNothing before after number
+abbrev pub RunsAs : {K : Type 0} → KeeperView K → Asked → (before after : RunView) → (number : ℕ) → Type 0
+RunsAs view (Batch timing) before after number = RunsBatch timing before after number
+RunsAs view (Serve serving) before after number = RunsServer serving before after number
+RunsAs view (Send control) before after number = RunsControl control before after number
+RunsAs view (Generate generator) before after number = RunsGenerator generator before after number
+RunsAs view (BatchIn local) before after number = RunsBatchIn local before after number
+RunsAs view (ServeIn local) before after number = RunsServerIn view local before after number
+RunsAs view (CommandIn local) before after number = RunsCommandIn local before after number
+RunsAs view Nothing before after number = RunsNothing before after number
 
 -- no count of failures falls
 pub record CountsStay (before after : RunView) : Type 0 where
@@ -152,8 +207,9 @@ pub record CountsStay (before after : RunView) : Type 0 where
   pub files : before.file_faults ≤ after.file_faults
   pub host : before.host.faults ≤ after.host.faults
   pub dial : before.dial.faults ≤ after.dial.faults
+  pub folders : before.folders.faults ≤ after.folders.faults
 
--- WHAT IS PROMISED of a run with these words that ended with this number
-pub record Runs (words : List (List ℕ)) (before after : RunView) (number : ℕ) : Type 0 where
-  pub came : RunsAs (asked_of words) before after number
+-- WHAT IS PROMISED of a run with these words that ended with this number; `view` tells what a folder's keeper shows
+pub record Runs {K : Type 0} (view : KeeperView K) (words : List (List ℕ)) (before after : RunView) (number : ℕ) : Type 0 where
+  pub came : RunsAs view (asked_of words) before after number
   pub counts : CountsStay before after

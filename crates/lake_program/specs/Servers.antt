@@ -1,5 +1,6 @@
 -- A server on a fresh lake in memory.
-use Rattle.std.specs.Prelude.{◌≡◌, ◌⊎◌, true, All, List, length}
+use Rattle.std.specs.FinMap.{empty}
+use Rattle.std.specs.Prelude.{◌≡◌, ◌⊎◌, true, All, List, length, replicate, Some}
 use Rattle.lake_base.specs.Outside.{Rose}
 use Rattle.keeper.specs.Keepers.{KeptPairs}
 use Rattle.lake_model.specs.History.{IsLegal}
@@ -9,6 +10,7 @@ use Rattle.shared_lake.specs.SeatSteps.{LakeSeat}
 use Rattle.fresh_lakes.specs.FreshLakes.{AreFreshSeats, sure_view, usual_cut}
 use Rattle.lake_host.specs.Doors.{HostView}
 use Rattle.lake_host.specs.Servers.{HasServedAll}
+use Rattle.lake_host.specs.Workers.{StoreView}
 use Rattle.lake_host.specs.declared.server.ServerEnd.{ServerEnd}
 use Rattle.lake_host.specs.declared.server.ServerEnd.TheVariants as end
 use Rattle.batch_lines.specs.declared.status.ExitStatus.{ExitStatus}
@@ -21,9 +23,14 @@ status_of end.Done = Done
 status_of end.Failed = HostFailed
 status_of end.NoMemory = OutOfMemory
 
--- A SERVER HAS SERVED, on a fresh lake in memory, at this address: a worker at each of its seats, as many as were asked for. What they did is one legal
--- history of the fresh lake, and what each seat has seen is a front of it. It ended well where each worker has served its share of the
--- connections, and failed where a listener failed one.
+-- a store of objects that holds nothing, and has counted nothing
+abbrev pub empty_store : StoreView
+empty_store = record { held = Some empty; faults = 0; misses = 0; missed = 0 }
+
+-- A SERVER HAS SERVED, on a fresh lake in memory, at this address: a worker at each of its seats, as many as were asked for, each with
+-- an empty store of objects of its own, none of which counted a failure. What they did is one legal history of the fresh lake, and what
+-- each seat has seen is a front of it. It ended well where each worker has served its share of the connections, and failed where a
+-- listener failed one.
 pub record IsServed (serving : Serving) (before after : HostView) (status : ExitStatus) : Type 0 where
   pub seats : List LakeSeat
   pub begun : AreFreshSeats seats
@@ -32,7 +39,10 @@ pub record IsServed (serving : Serving) (before after : HostView) (status : Exit
   pub alone : serving.service.workers ≡ 1 → All (λ (seat : LakeSeat). seat.alone ≡ true) seats
   pub lake : LakeValue KeptPairs
   pub end : ServerEnd
-  pub served : HasServedAll sure_view seats serving.at serving.service.connections before after end lake
+  pub left : List StoreView
+  pub served : HasServedAll sure_view seats (replicate serving.service.workers empty_store) serving.at serving.service.connections
+      before after end lake left
+  pub calm : All (λ (store : StoreView). store.faults ≡ 0) left
   pub legal : IsLegal (fresh usual_cut) lake.history
   pub holds : Holds sure_view lake
   pub tells : status ≡ status_of end

@@ -3,13 +3,15 @@ use Rattle.std.specs.Prelude.{ℕ, List, Option}
 use Rattle.lake_batch.specs.BatchViews.{BatchView}
 use Rattle.lake_host.specs.Doors.{HostView}
 use Rattle.lakectl_client.specs.Dialing.{DialView}
+use Rattle.lake_folders.specs.Folders.{FoldersView}
 
--- all that is told of a run at one moment: what a batch works on, what a server does, the connections to servers, what was written to
--- `errors`, and how often the source, `errors` and a file have failed
+-- all that is told of a run at one moment: what a batch works on, what a server does, the connections to servers, folders, what was written
+-- to `errors`, and how often the source, `errors` and a file have failed
 pub record RunView : Type 0 where
   pub batch : BatchView
   pub host : HostView
   pub dial : DialView
+  pub folders : FoldersView
   pub errors : Option (List ℕ)
   pub source_faults : ℕ
   pub errors_faults : ℕ

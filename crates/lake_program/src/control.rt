@@ -2,7 +2,8 @@
 ghost use Rattle.std.specs.Prelude.{◌≡◌, ◌≤◌, ◌⊎◌, OnOk, OnErr};
 ghost use Rattle.lake_base.specs.Outside.{Rose};
 ghost use Rattle.http_wire.specs.SinkFronts.{Wrote, WroteFront};
-ghost use Rattle.lake_program.specs.Controls.{Controls, stop_number};
+ghost use Rattle.lakectl_client.specs.ClientCommands.{ClientView};
+ghost use Rattle.lake_program.specs.Controls.{Controls, Prints, stop_number};
 
 use crate::status::number_of;
 use batch_lines::ExitStatus;
@@ -63,16 +64,41 @@ pub fn run_control<O: Sink, E: Sink, F: Files, N: Connect>(
     ensures network { N.faults network.old ≤ N.faults network.new }
 {
     match send_command(alloc, files, network, at, words) {
-        Ok(shown) => match print_shown(sink, errors, &shown) {
-            Ok(()) => shown.status,
-            Err(_) => number_of(ExitStatus::SinkFailed),
-        },
+        Ok(shown) => print_shown(sink, errors, &shown),
         Err(trouble) => stop_number(trouble),
     }
 }
 
+/// Prints what a command shows: its output on the sink, and then its errors on `errors`. The answer is the number that
+/// it shows, or 4 where a sink failed.
+pub(crate) fn print_shown<O: Sink, E: Sink>(sink: &mut O, errors: &mut E, shown: &Shown) -> u8
+    ensures prints { (before after : ClientView) → Prints
+        (record {
+          client = before;
+          written = O.written sink.old;
+          sink_faults = O.faults sink.old;
+          errors = E.written errors.old;
+          errors_faults = E.faults errors.old;
+        })
+        (record {
+          client = after;
+          written = O.written sink.new;
+          sink_faults = O.faults sink.new;
+          errors = E.written errors.new;
+          errors_faults = E.faults errors.new;
+        })
+        shown.now result }
+    ensures sink { O.faults sink.old ≤ O.faults sink.new }
+    ensures errors { E.faults errors.old ≤ E.faults errors.new }
+{
+    match write_shown(sink, errors, shown) {
+        Ok(()) => shown.status,
+        Err(_) => number_of(ExitStatus::SinkFailed),
+    }
+}
+
 // Writes the output to the one sink, and then the errors to the other.
-fn print_shown<O: Sink, E: Sink>(sink: &mut O, errors: &mut E, shown: &Shown) -> Result<(), Failed>
+fn write_shown<O: Sink, E: Sink>(sink: &mut O, errors: &mut E, shown: &Shown) -> Result<(), Failed>
     ensures whole { OnOk result (Wrote (O.written sink.old) (O.written sink.new) shown.now.out
         × Wrote (E.written errors.old) (E.written errors.new) shown.now.err) }
     ensures failed { OnErr result

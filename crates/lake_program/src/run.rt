@@ -1,28 +1,32 @@
 //! The program as one call.
-ghost use Rattle.std.specs.Prelude.{◌≡◌, ◌≤◌, ◌⊎◌, IsNone, IsSome, OnErr, OnOk};
-ghost use Rattle.lake_base.specs.Outside.{Rose};
+ghost use Rattle.std.specs.Prelude.{◌≡◌, IsNone, IsSome};
 ghost use Rattle.lake_base.specs.declared.limits.TheConstants.{PATH_LIMIT};
 ghost use Rattle.lake_model.specs.declared.history.TheConstants.{HISTORY_LIMIT};
 ghost use Rattle.lakectl_verbs.specs.declared.line.TheConstants.{LINE_LIMIT};
-ghost use Rattle.http_wire.specs.SinkFronts.{Wrote, WroteFront};
 ghost use Rattle.program_words.specs.ProgramWords.{
+  BatchIn,
+  CommandIn,
+  LocalBatch,
+  LocalCommand,
+  LocalServing,
   Nothing,
+  ServeIn,
   asked_of,
   control_of,
   generator_of,
   service_of,
   timing_of,
 };
-ghost use Rattle.lake_program.specs.Run.{Runs, usage_text};
+ghost use Rattle.lake_program.specs.Run.{Runs};
 
 use crate::control::run_control;
 use crate::limits::BATCH_LIMIT;
+use crate::local::run_local;
 use crate::server::serve_host;
 use crate::status::number_of;
-use batch_lines::ExitStatus;
-use http_wire::write::write_all;
 use lake_base::{Clock, Sink, Source, Text};
 use lake_batch::serve_batch;
+use lake_folders::Folders;
 use lake_generator::generate;
 use lake_host::Host;
 use lakectl_client::Connect;
@@ -32,9 +36,6 @@ use std::alloc::Global;
 use std::sync::Wait;
 use std::thread::Threads;
 
-// What is said of words that are none of the program's.
-const USAGE: &[u8] = b"Error: usage\n";
-
 /// Runs the program with these words.
 ///
 /// `batch`, or `batch --at N`: each line of the source is a command of `lakectl`, served on a fresh lake in memory;
@@ -42,8 +43,11 @@ const USAGE: &[u8] = b"Error: usage\n";
 /// at that address are served over HTTP, on a fresh lake in memory. `ctl [--at N] --server HOST:PORT WORDS..`: the
 /// command of `lakectl` goes to the server at that address; its output goes to the sink, and its errors to
 /// `errors`. `gen --number N --objects K`: lines that are made of the number are served as a batch at the moment 0,
-/// and what they came to is told on the sink. All other words are a usage fault, which is shown on `errors`. It
-/// waits.
+/// and what they came to is told on the sink.
+///
+/// `batch [--at N] --local FOLDER`, `run --listen HOST:PORT --folder FOLDER ..` and `ctl [--at N] --local FOLDER
+/// WORDS..` are such a batch, server and command on the lake for which a folder's pairs stand. What was taken of the
+/// folder is given back. All other words are a usage fault, which is shown on `errors`. It waits.
 ///
 /// The answer is the number of the run's status, and the clock and the files, which are handed back.
 pub fn run<
@@ -55,6 +59,7 @@ pub fn run<
     F: Files,
     H: Host,
     N: Connect,
+    D: Folders,
 >(
     rt: &R,
     alloc: Global,
@@ -66,8 +71,16 @@ pub fn run<
     files: F,
     host: &mut H,
     network: &mut N,
+    folders: &mut D,
 ) -> (u8, C, F)
-    ensures run { Runs words.now
+    ensures run { Runs
+        (record {
+          kept = D.Pairs.kept;
+          faults = D.Pairs.faults;
+          calls = D.Pairs.calls;
+          successes = D.Pairs.successes;
+        })
+        words.now
         (record {
           batch = record {
             left = S.left source.old;
@@ -81,6 +94,13 @@ pub fn run<
             dialed = N.dialed network.old;
             hung_up = N.hung_up network.old;
             faults = N.faults network.old;
+          };
+          folders = record {
+            pairs = D.pairs folders.old;
+            objects = D.objects folders.old;
+            keepers_back = D.keepers_back folders.old;
+            stores_back = D.stores_back folders.old;
+            faults = D.faults folders.old;
           };
           errors = E.written errors.old;
           source_faults = S.faults source.old;
@@ -101,6 +121,13 @@ pub fn run<
             hung_up = N.hung_up network.new;
             faults = N.faults network.new;
           };
+          folders = record {
+            pairs = D.pairs folders.new;
+            objects = D.objects folders.new;
+            keepers_back = D.keepers_back folders.new;
+            stores_back = D.stores_back folders.new;
+            faults = D.faults folders.new;
+          };
           errors = E.written errors.new;
           source_faults = S.faults source.new;
           errors_faults = E.faults errors.new;
@@ -108,22 +135,33 @@ pub fn run<
         })
         result.0 }
 
-    // A batch touches neither `errors` nor host and network, a server the host alone, a command neither the source nor
-    // the clock nor the host, the generator the sink alone, and a usage fault `errors` alone.
+    // A batch touches neither `errors` nor host, network and folders, a server the host alone, a command neither the
+    // source nor the clock nor the host and folders, the generator the sink alone, and a usage fault `errors` alone.
     ensures batch { IsSome (timing_of words.now)
-        → (errors.new ≡ errors.old) × (host.new ≡ host.old) × (network.new ≡ network.old) }
+        → (errors.new ≡ errors.old) × (host.new ≡ host.old) × (network.new ≡ network.old)
+        × (folders.new ≡ folders.old) }
     ensures server { IsNone (timing_of words.now) → IsSome (service_of words.now)
         → (sink.new ≡ sink.old) × (source.new ≡ source.old) × (errors.new ≡ errors.old) × (result.1 ≡ clock)
-        × (result.2 ≡ files) × (network.new ≡ network.old) }
+        × (result.2 ≡ files) × (network.new ≡ network.old) × (folders.new ≡ folders.old) }
     ensures control { IsNone (timing_of words.now) → IsNone (service_of words.now) → IsSome (control_of words.now)
-        → (source.new ≡ source.old) × (result.1 ≡ clock) × (host.new ≡ host.old) }
+        → (source.new ≡ source.old) × (result.1 ≡ clock) × (host.new ≡ host.old) × (folders.new ≡ folders.old) }
     ensures generator { IsNone (timing_of words.now) → IsNone (service_of words.now) → IsNone (control_of words.now)
         → IsSome (generator_of words.now)
         → (source.new ≡ source.old) × (errors.new ≡ errors.old) × (result.1 ≡ clock) × (result.2 ≡ files)
-        × (host.new ≡ host.old) × (network.new ≡ network.old) }
+        × (host.new ≡ host.old) × (network.new ≡ network.old) × (folders.new ≡ folders.old) }
     ensures usage { asked_of words.now ≡ Nothing
         → (sink.new ≡ sink.old) × (source.new ≡ source.old) × (result.1 ≡ clock) × (result.2 ≡ files)
-        × (host.new ≡ host.old) × (network.new ≡ network.old) }
+        × (host.new ≡ host.old) × (network.new ≡ network.old) × (folders.new ≡ folders.old) }
+
+    // On the lake of a folder a batch touches neither `errors` nor host and network, a server the host and the folder
+    // alone, and a command neither the source nor host and network.
+    ensures local { ((local : LocalBatch) → asked_of words.now ≡ BatchIn local
+        → (errors.new ≡ errors.old) × (host.new ≡ host.old) × (network.new ≡ network.old))
+        × ((local : LocalServing) → asked_of words.now ≡ ServeIn local
+        → (sink.new ≡ sink.old) × (source.new ≡ source.old) × (errors.new ≡ errors.old) × (result.1 ≡ clock)
+        × (result.2 ≡ files) × (network.new ≡ network.old))
+        × ((local : LocalCommand) → asked_of words.now ≡ CommandIn local
+        → (source.new ≡ source.old) × (host.new ≡ host.old) × (network.new ≡ network.old)) }
 
     ensures limits { (BATCH_LIMIT ≡ 1073741824) × (LINE_LIMIT ≡ 65536)
         × (HISTORY_LIMIT ≡ 4194304) × (PATH_LIMIT ≡ 1024) }
@@ -154,18 +192,7 @@ pub fn run<
         let status = generate(rt, alloc, asked, sink);
         return (number_of(status), clock, files);
     }
-    (number_of(show_usage(errors)), clock, files)
-}
-
-// Shows that the words are a usage fault.
-fn show_usage<E: Sink>(errors: &mut E) -> ExitStatus
-    ensures shows { ((result ≡ ExitStatus.Usage) × Wrote (E.written errors.old) (E.written errors.new) usage_text)
-        ⊎ ((result ≡ ExitStatus.SinkFailed) × WroteFront (E.written errors.old) (E.written errors.new) usage_text
-        × Rose (E.faults errors.old) (E.faults errors.new)) }
-    ensures later { E.faults errors.old ≤ E.faults errors.new }
-{
-    match write_all(errors, USAGE) {
-        Ok(()) => ExitStatus::Usage,
-        Err(_) => ExitStatus::SinkFailed,
-    }
+    run_local(
+        rt, alloc, words, source, sink, errors, clock, files, host, folders,
+    )
 }

@@ -1,11 +1,13 @@
 //! A server on a fresh lake in memory.
-ghost use Rattle.std.specs.Prelude.{◌≡◌, ◌<◌, ◌≤◌, ◌⊎◌};
+ghost use Rattle.std.specs.FinMap.{empty};
+ghost use Rattle.std.specs.Prelude.{◌≡◌, ◌<◌, ◌≤◌, ◌⊎◌, replicate, IfOk};
 ghost use Rattle.lake_host.specs.Doors.{HostView};
 ghost use Rattle.lake_program.specs.Servers.{IsServed, IsUnserved, status_of};
 
 use batch_lines::ExitStatus;
+use block_store::SureBlocks;
 use fresh_lakes::fresh_lake;
-use lake_base::Text;
+use lake_base::{NoMemory, Text};
 use lake_host::{Host, ServerEnd, serve_listeners};
 use program_words::Service;
 use std::alloc::Global;
@@ -29,11 +31,35 @@ pub fn serve_host<R: Threads + Wait + Sync, H: Host>(
         IsServed (record { at = at.now; service = service }) before after result ⊎ IsUnserved before after result }
     ensures later { H.faults host.old ≤ H.faults host.new }
 {
+    let Ok(stores) = empty_stores(alloc, service.workers) else {
+        return ExitStatus::OutOfMemory;
+    };
     let Ok((lake, seats)) = fresh_lake(alloc, service.workers) else {
         return ExitStatus::OutOfMemory;
     };
-    let (end, _) = serve_listeners(rt, alloc, lake, seats, host, at, service.connections);
+    let (end, _, _) = serve_listeners(
+        rt,
+        alloc,
+        lake,
+        seats,
+        stores,
+        host,
+        at,
+        service.connections,
+    );
     status_of(end)
+}
+
+// So many stores of objects in memory, which hold nothing.
+fn empty_stores(alloc: Global, count: u32) -> Result<Vec<SureBlocks>, NoMemory>
+    ensures { IfOk result
+        (λ stores. stores.items ≡ replicate count (record { held = empty; misses = 0; missed = 0 })) }
+{
+    let mut stores = Vec::new(alloc);
+    for _ in 0..count {
+        stores.push(SureBlocks::new(alloc))?;
+    }
+    Ok(stores)
 }
 
 // The status of a run whose server ended so.

@@ -16,6 +16,7 @@ pub fn number_of(status: ExitStatus) -> u8
         ExitStatus::SourceFailed => 3,
         ExitStatus::SinkFailed => 4,
         ExitStatus::HostFailed => 5,
+        ExitStatus::PairsRefused => 6,
         ExitStatus::OutOfMemory => 7,
     }
 }

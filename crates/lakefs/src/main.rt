@@ -1,9 +1,10 @@
 //! The program `lakefs`: a lake of objects with Git-like branches, driven by lakectl's commands and over HTTP.
 //!
-//! What it does is `lake_program::run::run`; here are only the real streams, clock, files, sockets and words.
+//! What it does is `lake_program::run::run`; here are only the real streams, clock, files, sockets, folders and words.
 #![tactic(auto)]
 
 use batch_lines::ExitStatus;
+use disk_folders::DiskFolders;
 use lake_base::{NoMemory, Text};
 use lake_machine::{StdFiles, StdSink, StdSource, SystemClock};
 use lake_program::run::run;
@@ -38,6 +39,7 @@ fn main(rt: HostRuntime) -> ExitCode {
     let mut errors = StdSink::new(rt.stderr());
     let mut host = SocketHost::new(&rt, alloc);
     let mut network = SocketNetwork::new(&rt);
+    let mut folders = DiskFolders::new(&rt, alloc);
     let (status, _, _) = run(
         &rt,
         alloc,
@@ -49,6 +51,7 @@ fn main(rt: HostRuntime) -> ExitCode {
         StdFiles::new(&rt, alloc),
         &mut host,
         &mut network,
+        &mut folders,
     );
     ExitCode::from(status)
 }

@@ -1,3 +1,4 @@
 pub mod FilesInMemory
+pub mod FoldersInMemory
 pub mod HostsInMemory
 pub mod NetworksInMemory

@@ -91,6 +91,64 @@ abbrev pub control_of : List (List ℕ) → Option Control
 control_of (ctl ∷ words) = if bytes_eq ctl (codes "ctl") then timed_of words else None
 control_of words = None
 
+-- ---- a lake in a folder
+
+-- the option that names its folder, which isn't empty
+abbrev pub is_folder : (local folder : List ℕ) → Bool
+is_folder local folder = bytes_eq local (codes "--local") && nat_lt 0 (length folder)
+
+-- a batch on the lake of a folder
+pub record LocalBatch : Type 0 where
+  pub timing : Timing
+  pub folder : List ℕ
+
+-- Where the words are those of such a batch, when its requests are made, and the folder.
+abbrev pub local_batch_of : List (List ℕ) → Option LocalBatch
+local_batch_of (batch ∷ local ∷ folder ∷ []) =
+    if bytes_eq batch (codes "batch") && is_folder local folder then Some (record { timing = Clock; folder = folder }) else None
+local_batch_of (batch ∷ at ∷ number ∷ local ∷ folder ∷ []) =
+    if bytes_eq batch (codes "batch") && bytes_eq at (codes "--at") && is_number number && is_folder local folder
+    then Some (record { timing = At (number_after 0 number); folder = folder }) else None
+local_batch_of words = None
+
+-- a command on the lake of a folder
+pub record LocalCommand : Type 0 where
+  pub timing : Timing
+  pub folder : List ℕ
+  pub words : List (List ℕ)
+
+-- which command on the lake of which folder
+abbrev pub command_in : Timing → List (List ℕ) → Option LocalCommand
+command_in timing (local ∷ folder ∷ words) =
+    if is_folder local folder then Some (record { timing = timing; folder = folder; words = words }) else None
+command_in timing words = None
+
+-- the same behind the moment of its request, else by the clock
+abbrev pub timed_command_of : List (List ℕ) → Option LocalCommand
+timed_command_of (at ∷ number ∷ words) =
+    if bytes_eq at (codes "--at") && is_number number then command_in (At (number_after 0 number)) words
+    else command_in Clock (at ∷ number ∷ words)
+timed_command_of words = command_in Clock words
+
+-- Where the words are those of such a command, when its request is made, the folder, and its own words.
+abbrev pub local_command_of : List (List ℕ) → Option LocalCommand
+local_command_of (ctl ∷ words) = if bytes_eq ctl (codes "ctl") then timed_command_of words else None
+local_command_of words = None
+
+-- a server of the lake of a folder, at an address
+pub record LocalServing : Type 0 where
+  pub at : List ℕ
+  pub folder : List ℕ
+  pub service : Service
+
+-- Where the words are those of such a server, at which address, over which folder, and what it is asked to do.
+abbrev pub local_serving_of : List (List ℕ) → Option LocalServing
+local_serving_of (run ∷ listen ∷ at ∷ named ∷ folder ∷ options) =
+    if bytes_eq run (codes "run") && bytes_eq listen (codes "--listen") && nat_lt 0 (length at)
+    && bytes_eq named (codes "--folder") && nat_lt 0 (length folder)
+    then option_map (λ service. record { at = at; folder = folder; service = service }) (options_of options) else None
+local_serving_of words = None
+
 -- ---- the generator
 
 -- the number that these digits spell, where it is below 2^64
@@ -127,16 +185,30 @@ pub data Asked : Type 0 where
   Serve : Serving → Asked
   Send : Control → Asked
   Generate : Generator → Asked
+  -- the same on the lake of a folder
+  BatchIn : LocalBatch → Asked
+  ServeIn : LocalServing → Asked
+  CommandIn : LocalCommand → Asked
   -- the words are none of its own
   Nothing : Asked
 
-abbrev pub first_asked : Option Timing → Option Serving → Option Control → Option Generator → Asked
-first_asked (Some timing) serving control generator = Batch timing
-first_asked None (Some serving) control generator = Serve serving
-first_asked None None (Some control) generator = Send control
-first_asked None None None (Some generator) = Generate generator
-first_asked None None None None = Nothing
+abbrev pub first_local : Option LocalBatch → Option LocalServing → Option LocalCommand → Asked
+first_local (Some batch) serving command = BatchIn batch
+first_local None (Some serving) command = ServeIn serving
+first_local None None (Some command) = CommandIn command
+first_local None None None = Nothing
+
+abbrev pub first_asked : Option Timing → Option Serving → Option Control → Option Generator → (rest : Asked) → Asked
+first_asked (Some timing) serving control generator rest = Batch timing
+first_asked None (Some serving) control generator rest = Serve serving
+first_asked None None (Some control) generator rest = Send control
+first_asked None None None (Some generator) rest = Generate generator
+first_asked None None None None rest = rest
+
+-- what they ask for of the lake of a folder
+abbrev pub local_asked_of : List (List ℕ) → Asked
+local_asked_of words = first_local (local_batch_of words) (local_serving_of words) (local_command_of words)
 
 -- WHAT THE WORDS ASK FOR
 abbrev pub asked_of : List (List ℕ) → Asked
-asked_of words = first_asked (timing_of words) (service_of words) (control_of words) (generator_of words)
+asked_of words = first_asked (timing_of words) (service_of words) (control_of words) (generator_of words) (local_asked_of words)

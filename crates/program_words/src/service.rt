@@ -38,8 +38,8 @@ pub fn service_words(words: &[Text]) -> Option<(&Text, Service)>
     }
 }
 
-// Reads the options of a server.
-fn service_options(options: &[Text]) -> Option<Service>
+/// Reads the options of a server.
+pub(crate) fn service_options(options: &[Text]) -> Option<Service>
     ensures reads { result ≡ options_of options.now }
     ensures some { IfSome result (λ service. 0 < service.workers) }
 {

@@ -2,6 +2,7 @@
 
 use crate::patient::PatientNetwork;
 use crate::words::texts_of;
+use block_store::SureBlocks;
 use fresh_lakes::fresh_lake;
 use lake_base::{Text, Trouble};
 use lake_host::{ServerEnd, serve_listeners};
@@ -53,8 +54,9 @@ fn serve<R: Net<Stream = TcpStream, Listener = TcpListener> + Clock + Threads + 
     at: &Text,
 ) -> Option<ServerEnd> {
     let (lake, seats) = fresh_lake(alloc, 2).ok()?;
+    let stores = vec![in alloc; SureBlocks::new(alloc), SureBlocks::new(alloc)].ok()?;
     let mut host = SocketHost::new(rt, alloc);
-    let (end, _) = serve_listeners(rt, alloc, lake, seats, &mut host, at, Some(2));
+    let (end, _, _) = serve_listeners(rt, alloc, lake, seats, stores, &mut host, at, Some(2));
     Some(end)
 }
 

@@ -2,7 +2,7 @@
 
 use lake_base::{MemorySink, MemorySource, ScriptClock, Text};
 use lake_program::run::run;
-use memory_machine::{MemoryFiles, MemoryHost, MemoryNetwork};
+use memory_machine::{MemoryFiles, MemoryFolders, MemoryHost, MemoryNetwork};
 use std::alloc::Global;
 use std::sync::Wait;
 use std::test::Fail;
@@ -44,6 +44,8 @@ fn run_words<R: Threads + Wait + Sync>(
     let mut errors = sink_of(alloc, 0)?;
     let mut host = MemoryHost::new(alloc, Vec::new(alloc));
     let mut network = MemoryNetwork::new(alloc, Vec::new(alloc))?;
+    let folder = Text::of(String::from_str(alloc, "folder")?);
+    let mut folders = MemoryFolders::new(alloc, folder, Vec::new(alloc), Vec::new(alloc));
     let (status, _, _) = run(
         rt,
         alloc,
@@ -55,6 +57,7 @@ fn run_words<R: Threads + Wait + Sync>(
         MemoryFiles::new(alloc, Vec::new(alloc)),
         &mut host,
         &mut network,
+        &mut folders,
     );
     Ok(Came {
         status,

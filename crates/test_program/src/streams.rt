@@ -2,7 +2,7 @@
 
 use lake_base::{MemorySink, MemorySource, ScriptClock, Text};
 use lake_program::run::run;
-use memory_machine::{MemoryFiles, MemoryHost, MemoryNetwork};
+use memory_machine::{MemoryFiles, MemoryFolders, MemoryHost, MemoryNetwork};
 use std::alloc::Global;
 use std::process::Abort;
 use std::sync::Wait;
@@ -110,6 +110,8 @@ pub(crate) fn run_among<R: Threads + Wait + Sync>(
     let mut sink = sink_of(alloc, streams)?;
     let mut errors = sink_of(alloc, streams)?;
     let never = texts_of(alloc, &NEVER)?;
+    let folder = Text::of(String::from_str(alloc, "folder")?);
+    let mut folders = MemoryFolders::new(alloc, folder, Vec::new(alloc), Vec::new(alloc));
     let (status, _, _) = run(
         rt,
         alloc,
@@ -121,6 +123,7 @@ pub(crate) fn run_among<R: Threads + Wait + Sync>(
         MemoryFiles::new(alloc, never),
         host,
         network,
+        &mut folders,
     );
     Ok(Came {
         status,

@@ -3,7 +3,7 @@
 use crate::streams::{DEMO, DEMO_PRINTS, SURE, Streams, check_came, run_over};
 use std::test::Fail;
 
-static OTHER_WORDS: [&[&str]; 22] = [
+static OTHER_WORDS: [&[&str]; 27] = [
     &[],
     &["lakefs"],
     &["batch", "--at"],
@@ -33,7 +33,12 @@ static OTHER_WORDS: [&[&str]; 22] = [
     &["ctl", "--server"],
     &["ctl", "--server", ""],
     &["ctl", "--at", "x", "--server", "a:1", "fs"],
-    &["ctl", "--local", "x", "fs"],
+    &["ctl", "--local"],
+    &["ctl", "--local", "", "fs"],
+    &["batch", "--local"],
+    &["batch", "--local", ""],
+    &["batch", "--local", "x", "--at", "1"],
+    &["run", "--listen", "x", "--folder", ""],
 ];
 
 static USAGE: &[u8] = b"Error: usage\n";

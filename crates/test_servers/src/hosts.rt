@@ -1,5 +1,6 @@
 //! A server over a host in memory, which may refuse to listen.
 
+use block_store::SureBlocks;
 use fresh_lakes::fresh_lake;
 use lake_base::Text;
 use lake_host::{ServerEnd, serve_listeners};
@@ -21,7 +22,8 @@ fn serve<R: Threads + Wait + Sync>(
 ) -> Result<ServerEnd, Fail> {
     let at = Text::of(String::from_str(alloc, "server:80")?);
     let (lake, seats) = fresh_lake(alloc, 2)?;
-    let (end, _) = serve_listeners(rt, alloc, lake, seats, host, &at, Some(0));
+    let stores = vec![in alloc; SureBlocks::new(alloc), SureBlocks::new(alloc)]?;
+    let (end, _, _) = serve_listeners(rt, alloc, lake, seats, stores, host, &at, Some(0));
     Ok(end)
 }
 
