@@ -18,6 +18,7 @@ returns g c =
         stands =
             c.law_of_read_lakes.ensures c.args.cut pairs.items (lake_value present) whole.whole.tied loaded.ascending c.requires whole.read whole.index;
         none = λ none. absurd cc;
-        there = some_loaded pairs.items _ c.is_empty.result c.is_empty.ensures c.if-is_empty.false (ap length (sym c.as_slice.ensures.value) ∙ c.as_slice.ensures.len);
+        there = some_loaded pairs.items _ c.is_empty.result c.is_empty.ensures c.if-is_empty.false
+            (ap length (sym c.as_slice.ensures.value) ∙ c.as_slice.ensures.len);
       },
     )
