@@ -3,6 +3,7 @@ pub mod CountLemmas
 pub mod FoundingLemmas
 pub mod IndexLemmas
 pub mod NewIndexLemmas
+pub mod NewPlaceLemmas
 pub mod PlacesLemmas
 pub mod SealLemmas
 pub mod StateLemmas

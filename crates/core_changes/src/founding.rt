@@ -1,9 +1,11 @@
 //! What a new repository makes of a lake, and the room that is made for it.
-ghost use Rattle.std.specs.Prelude.{◌≡◌, ℕ, List, OnOk};
+ghost use Rattle.std.specs.Prelude.{◌≡◌, true, ℕ, List, OnOk};
 ghost use Rattle.core_state.specs.Counts.{AreFew};
+ghost use Rattle.core_state.specs.FirstStates.{first_tree};
 ghost use Rattle.core_state.specs.LakeStates.{lake_value};
 ghost use Rattle.core_changes.specs.LakeRoom.{HasRepositoryRoom};
 ghost use Rattle.core_changes.specs.LakeChanges.{after_repository_create};
+ghost use Rattle.core_changes.specs.NewPlaces.{AreNamedPlaces, HasNewPlaces, HaveSamePlaces};
 ghost use Rattle.core_changes.specs.NewRepositories.{IsNew};
 
 use crate::places::{make_place, put_in_place};
@@ -35,6 +37,7 @@ pub fn make_repository_room(
     file: &Digest,
 ) -> Result<(), NoMemory>
     ensures same { lake_value lake.new ≡ lake_value lake.old }
+    ensures places { HaveSamePlaces lake.old.names.files lake.new.names.files }
     ensures room { OnOk result (HasRepositoryRoom repo.now commit.now file.now lake.new) }
 {
     make_place(alloc, &mut lake.repositories, repo)?;
@@ -48,8 +51,11 @@ pub fn make_repository_room(
 pub fn create_repository(lake: &mut LakeState, repo: &RepoName, new: NewRepository)
     requires room { HasRepositoryRoom repo.now new.commit new.file lake.old }
     requires few { AreFew (lake_value lake.old) }
-    ensures { (branch : List ℕ) (date : ℕ) → IsNew repo.now branch date (lake_value lake.old) new
+    ensures made { (branch : List ℕ) (date : ℕ) → IsNew repo.now branch date (lake_value lake.old) new
         → lake_value lake.new ≡ after_repository_create repo.now branch date (lake_value lake.old) }
+    ensures places { (branch : List ℕ) (date : ℕ) → IsNew repo.now branch date (lake_value lake.old) new
+        → new.place.is_metarange ≡ true → AreNamedPlaces lake.old.names.files
+        → HasNewPlaces lake.old.names.files lake.new.names.files (first_tree (lake_value lake.old).cut) }
 {
     let NewRepository {
         repository,

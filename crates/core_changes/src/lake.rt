@@ -37,6 +37,7 @@ pub fn make_room_at(
     room: Room<'_>,
 ) -> Result<(), NoMemory>
     ensures same { lake_value lake.new ≡ lake_value lake.old }
+    ensures names { lake.new.names ≡ lake.old.names }
     ensures room { OnOk result (HasRoomAt room.entry repo.now lake.new) }
 {
     match lake.repositories.get_mut(repo) {
@@ -64,6 +65,7 @@ fn make_room_here(
 #[tactic(auto, unfolding(core_state::specs::LakeStates::lake_value))]
 pub fn make_ticket_room(lake: &mut LakeState) -> Result<(), NoMemory>
     ensures same { lake_value lake.new ≡ lake_value lake.old }
+    ensures names { lake.new.names ≡ lake.old.names }
     ensures room { OnOk result (HasTicketRoom lake.new) }
 {
     let number = lake.next_number;
@@ -110,7 +112,8 @@ fn change_here(place: &mut Option<RepositoryState>, change: RepositoryChange<'_>
 pub fn take_ticket(lake: &mut LakeState, seat: u32)
     requires room { HasTicketRoom lake.old }
     requires few { AreFew (lake_value lake.old) }
-    ensures { lake_value lake.new ≡ after_ticket_take seat (lake_value lake.old) }
+    ensures made { lake_value lake.new ≡ after_ticket_take seat (lake_value lake.old) }
+    ensures names { lake.new.names ≡ lake.old.names }
 {
     put_ticket(&mut lake.tickets, lake.next_number, seat);
     lake.next_number += 1;
@@ -121,7 +124,8 @@ pub fn take_ticket(lake: &mut LakeState, seat: u32)
 #[tactic(auto, unfolding(core_state::specs::LakeStates::lake_value))]
 pub fn drop_ticket(lake: &mut LakeState, number: u64)
     requires few { AreFew (lake_value lake.old) }
-    ensures { lake_value lake.new ≡ after_ticket_drop number (lake_value lake.old) }
+    ensures made { lake_value lake.new ≡ after_ticket_drop number (lake_value lake.old) }
+    ensures names { lake.new.names ≡ lake.old.names }
 {
     remove_ticket(&mut lake.tickets, number);
     lake.entries += 1;
@@ -132,7 +136,8 @@ pub fn drop_ticket(lake: &mut LakeState, number: u64)
 pub fn stage(lake: &mut LakeState, repo: &RepoName, branch: &RefName, path: Path, change: Change)
     requires room { HasRoomAt (room.Change branch) repo.now lake.old }
     requires few { AreFew (lake_value lake.old) }
-    ensures { lake_value lake.new ≡ after_stage repo.now branch.now path change (lake_value lake.old) }
+    ensures made { lake_value lake.new ≡ after_stage repo.now branch.now path change (lake_value lake.old) }
+    ensures names { lake.new.names ≡ lake.old.names }
 {
     if let Some(number) = put_number(&change) {
         remove_ticket(&mut lake.tickets, number);
@@ -154,7 +159,8 @@ pub fn stage(lake: &mut LakeState, repo: &RepoName, branch: &RefName, path: Path
 pub fn copy(lake: &mut LakeState, repo: &RepoName, branch: &RefName, path: Path, entry: Entry)
     requires room { HasRoomAt (room.Change branch) repo.now lake.old }
     requires few { AreFew (lake_value lake.old) }
-    ensures { lake_value lake.new ≡ after_copy repo.now branch.now path entry (lake_value lake.old) }
+    ensures made { lake_value lake.new ≡ after_copy repo.now branch.now path entry (lake_value lake.old) }
+    ensures names { lake.new.names ≡ lake.old.names }
 {
     let change = BranchChange::Stage {
         path,
@@ -176,7 +182,8 @@ pub fn copy(lake: &mut LakeState, repo: &RepoName, branch: &RefName, path: Path,
 pub fn reset(lake: &mut LakeState, repo: &RepoName, branch: &RefName, what: ResetWhat)
     requires room { HasRoomAt (room.Change branch) repo.now lake.old }
     requires few { AreFew (lake_value lake.old) }
-    ensures { lake_value lake.new ≡ after_reset repo.now branch.now what (lake_value lake.old) }
+    ensures made { lake_value lake.new ≡ after_reset repo.now branch.now what (lake_value lake.old) }
+    ensures names { lake.new.names ≡ lake.old.names }
 {
     let change = BranchChange::Reset {
         what,
@@ -200,7 +207,8 @@ pub fn seal(lake: &mut LakeState, repo: &RepoName, branch: &RefName)
     requires room { HasRoomAt (room.Change branch) repo.now lake.old }
     requires few { AreFew (lake_value lake.old) }
     requires tokens { AreTokensBelow (lake_value lake.old) }
-    ensures { lake_value lake.new ≡ after_seal repo.now branch.now (lake_value lake.old) }
+    ensures made { lake_value lake.new ≡ after_seal repo.now branch.now (lake_value lake.old) }
+    ensures names { lake.new.names ≡ lake.old.names }
 {
     let change = BranchChange::Seal {
         fresh: lake.next_token,
@@ -223,7 +231,8 @@ pub fn seal(lake: &mut LakeState, repo: &RepoName, branch: &RefName)
 #[tactic(auto, unfolding(core_state::specs::LakeStates::lake_value))]
 pub fn set_head(lake: &mut LakeState, repo: &RepoName, branch: &RefName, commit: CommitId)
     requires { AreFew (lake_value lake.old) }
-    ensures { lake_value lake.new ≡ after_head repo.now branch.now commit (lake_value lake.old) }
+    ensures made { lake_value lake.new ≡ after_head repo.now branch.now commit (lake_value lake.old) }
+    ensures names { lake.new.names ≡ lake.old.names }
 {
     let change = BranchChange::Head {
         commit,
@@ -253,7 +262,8 @@ pub fn create_branch(
 )
     requires room { HasRoomAt (room.Branch name) repo.now lake.old }
     requires few { AreFew (lake_value lake.old) }
-    ensures { lake_value lake.new ≡ after_branch_create repo.now name.now commit (lake_value lake.old) }
+    ensures made { lake_value lake.new ≡ after_branch_create repo.now name.now commit (lake_value lake.old) }
+    ensures names { lake.new.names ≡ lake.old.names }
 {
     let branch = branch_at(alloc, lake.next_version, commit, lake.next_token);
     change_at(
@@ -271,7 +281,8 @@ pub fn create_branch(
 #[tactic(auto, unfolding(core_state::specs::LakeStates::lake_value))]
 pub fn delete_branch(lake: &mut LakeState, repo: &RepoName, name: &RefName)
     requires few { AreFew (lake_value lake.old) }
-    ensures { lake_value lake.new ≡ after_branch_delete repo.now name.now (lake_value lake.old) }
+    ensures made { lake_value lake.new ≡ after_branch_delete repo.now name.now (lake_value lake.old) }
+    ensures names { lake.new.names ≡ lake.old.names }
 {
     change_at(
         &mut lake.repositories,
@@ -287,7 +298,8 @@ pub fn delete_branch(lake: &mut LakeState, repo: &RepoName, name: &RefName)
 pub fn create_tag(lake: &mut LakeState, repo: &RepoName, name: &RefName, commit: CommitId)
     requires room { HasRoomAt (room.Tag name) repo.now lake.old }
     requires few { AreFew (lake_value lake.old) }
-    ensures { lake_value lake.new ≡ after_tag_create repo.now name.now commit (lake_value lake.old) }
+    ensures made { lake_value lake.new ≡ after_tag_create repo.now name.now commit (lake_value lake.old) }
+    ensures names { lake.new.names ≡ lake.old.names }
 {
     change_at(
         &mut lake.repositories,
@@ -302,7 +314,8 @@ pub fn create_tag(lake: &mut LakeState, repo: &RepoName, name: &RefName, commit:
 #[tactic(auto, unfolding(core_state::specs::LakeStates::lake_value))]
 pub fn delete_tag(lake: &mut LakeState, repo: &RepoName, name: &RefName)
     requires few { AreFew (lake_value lake.old) }
-    ensures { lake_value lake.new ≡ after_tag_delete repo.now name.now (lake_value lake.old) }
+    ensures made { lake_value lake.new ≡ after_tag_delete repo.now name.now (lake_value lake.old) }
+    ensures names { lake.new.names ≡ lake.old.names }
 {
     change_at(
         &mut lake.repositories,
@@ -317,7 +330,8 @@ pub fn delete_tag(lake: &mut LakeState, repo: &RepoName, name: &RefName)
 #[tactic(auto, unfolding(core_state::specs::LakeStates::lake_value))]
 pub fn set_note(lake: &mut LakeState, repo: &RepoName, name: NoteName, note: Option<Note>)
     requires few { AreFew (lake_value lake.old) }
-    ensures { lake_value lake.new ≡ after_note_set repo.now name note (lake_value lake.old) }
+    ensures made { lake_value lake.new ≡ after_note_set repo.now name note (lake_value lake.old) }
+    ensures names { lake.new.names ≡ lake.old.names }
 {
     let change = RepositoryChange::SetNote {
         name,
@@ -334,7 +348,8 @@ pub fn set_note(lake: &mut LakeState, repo: &RepoName, name: NoteName, note: Opt
 #[tactic(auto, unfolding(core_state::specs::LakeStates::lake_value))]
 pub fn stop(lake: &mut LakeState)
     requires few { AreFew (lake_value lake.old) }
-    ensures { lake_value lake.new ≡ after_fault (lake_value lake.old) }
+    ensures made { lake_value lake.new ≡ after_fault (lake_value lake.old) }
+    ensures names { lake.new.names ≡ lake.old.names }
 {
     lake.stopped = true;
     lake.entries += 1;

@@ -5,6 +5,7 @@ pub mod HeadingLemmas
 pub mod KeepingLemmas
 pub mod NamingLemmas
 pub mod PlaceLemmas
+pub mod PlacesLeftLemmas
 pub mod ProvenanceLemmas
 pub mod StandingLemmas
 pub mod SwappingLemmas

@@ -4,10 +4,13 @@ use Rattle.std.specs.List.{AllByRecursion}
 use Rattle.std.specs.FinMap.{contains_key, insert}
 use Rattle.lake_base.specs.Maps.{ByteMap}
 use Rattle.lake_base.specs.declared.digest.Digest.{Digest}
+use Rattle.lake_format.specs.Spelling.{file_name}
 use Rattle.meta_range.specs.Files.{file_of}
+use Rattle.meta_range.specs.Ranges.{TreeValue}
 use Rattle.meta_range.specs.declared.file.File.{File}
 use Rattle.core_state.specs.declared.file_place.FilePlace.{FilePlace}
 use Rattle.core_state.specs.declared.names.NameIndex.{NameIndex}
+use Rattle.core_changes.specs.NewPlaces.{IsPlaceIn}
 use Rattle.core_commits.specs.declared.naming.NamedFile.{NamedFile}
 use Rattle.core_commits.specs.declared.naming.NewNames.{NewNames}
 
@@ -19,6 +22,14 @@ named_file file = record { name = file.name; bytes = file.place.bytes }
 pub record AreNames (repo : List ℕ) (tree_files : List (List ℕ)) (names : NewNames) : Type 0 where
   pub home : names.home ≡ repo
   pub files : map named_file names.files.items ≡ map file_of tree_files
+
+-- a file of a tree under its name, of the kind that it has there
+pub record IsFileOf (tree : TreeValue) (file : NamedFile) : Type 0 where
+  pub name : file.name ≡ file_name file.place.bytes
+  pub place : IsPlaceIn tree file.place
+
+abbrev pub AreFilesOf : TreeValue → List NamedFile → Type 0
+AreFilesOf tree files = AllByRecursion (IsFileOf tree) files
 
 -- files under their names, over those that are kept
 abbrev pub with_named : List NamedFile → ByteMap (List ℕ) → ByteMap (List ℕ)

@@ -1,5 +1,5 @@
 //! A new commit is kept.
-ghost use Rattle.std.specs.Prelude.{◌≡◌, Some, IfSome, OnOk, is_some};
+ghost use Rattle.std.specs.Prelude.{◌≡◌, Some, IfSome, is_some};
 ghost use Rattle.std.specs.FinMap.{get};
 ghost use Rattle.lake_values.specs.Ancestry.{commit_of};
 ghost use Rattle.lake_format.specs.Spelling.{commit_id};
@@ -44,7 +44,7 @@ pub fn keep_commit<K: Keeper>(
         (commit_added repo.now (record { id = id; content = commit; tree = tree.value }) operation puts.items) result
         (record { keeper = keeper.old; history = history.old.items; present = present.old })
         (record { keeper = keeper.new; history = history.new.items; present = present.new }) }
-    ensures names { OnOk result (present.new.names ≡ present.old.names) }
+    ensures names { present.new.names ≡ present.old.names }
 {
     if has_commit(present, repo, &id) {
         return keep(keeper, history, present, by, operation, puts);

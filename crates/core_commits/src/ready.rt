@@ -3,8 +3,9 @@ ghost use Rattle.std.specs.Prelude.{◌≡◌, false, IfOk};
 ghost use Rattle.lake_base.specs.Names.{is_like_id};
 ghost use Rattle.lake_model.specs.Steps.{swap_operation};
 ghost use Rattle.core_state.specs.Counts.{AreFew};
+ghost use Rattle.core_changes.specs.NewPlaces.{HaveSamePlaces};
 ghost use Rattle.core_state.specs.LakeStates.{lake_value};
-ghost use Rattle.core_commits.specs.CommitNames.{HasNamesRoom};
+ghost use Rattle.core_commits.specs.CommitNames.{AreFilesOf, HasNamesRoom};
 ghost use Rattle.core_commits.specs.ReadyHeads.{IsReadyHead};
 
 use crate::commits::NewHead;
@@ -41,9 +42,11 @@ pub fn ready_head(
     requires plain { is_like_id branch.now ≡ false }
     requires few { AreFew (lake_value lake.old) }
     ensures same { lake_value lake.new ≡ lake_value lake.old }
+    ensures places { HaveSamePlaces lake.old.names.files lake.new.names.files }
     ensures ready { IfOk result (IsReadyHead repo.now branch.now kind about new.now lake.old) }
     ensures room { IfOk result (λ ready.
         HasNamesRoom new.now.content.name ready.names.files.items lake.new.names) }
+    ensures kinds { IfOk result (λ ready. AreFilesOf new.now.tree.value ready.names.files.items) }
 {
     let puts = new_head_puts(
         alloc,

@@ -7,7 +7,8 @@ ghost use Rattle.core_state.specs.Counts.{AreCounted, HasVersions};
 ghost use Rattle.core_state.specs.Index.{HasIndex};
 ghost use Rattle.core_state.specs.LakeStates.{lake_value, state_of};
 ghost use Rattle.core_puts.specs.KeptChanges.{LeavesParts};
-ghost use Rattle.core_commits.specs.Making.{MayHaveTried, head_answer, head_making};
+ghost use Rattle.core_commits.specs.Making.{HoldsOfTried, IsWithinLimits, LeavesPlaces, MayHaveTried, head_answer};
+ghost use Rattle.core_commits.specs.Making.{head_making};
 ghost use Rattle.core_commits.specs.Testing.{HasTreeFor, drafted_in};
 
 use crate::heading::make_head;
@@ -21,7 +22,7 @@ use lake_base::{RefName, RepoName};
 use lake_laws::causes::laws_of_causes;
 use lake_model::{By, HistoryEntry, StepFault, SwapKind};
 use lake_values::{About, CommitId, CommitRecord};
-use meta_range::Tree;
+use meta_range::{Tree, law_of_limits};
 use std::alloc::Global;
 
 /// Makes a commit with this tree the head of a branch: the place of its entry, its id and what it says. Stopped,
@@ -53,12 +54,17 @@ pub fn swap<K: Keeper>(
         (record { keeper = keeper.new; history = history.new.items; present = present.new }) }
     ensures may { MayHaveTried repo.now (drafted_in repo.now branch.now kind about (lake_value present.old)) result
         (lake_value present.old) }
+    ensures limits { HoldsOfTried IsWithinLimits
+        (drafted_in repo.now branch.now kind about (lake_value present.old)) result }
+    ensures places { LeavesPlaces (drafted_in repo.now branch.now kind about (lake_value present.old)) result
+        present.old.names.files present.new.names.files }
 {
     laws_of_causes();
     law_of_versions();
 
     // Test.
     let new = test_head(alloc, present, repo, branch, guard, kind, &about, tree)?;
+    law_of_limits(&new.tree);
 
     // Take memory.
     let ready = ready_head(alloc, present, repo, branch, kind, about, &new)?;

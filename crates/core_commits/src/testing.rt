@@ -1,6 +1,7 @@
 //! What refuses a new head, in the one order.
 ghost use Rattle.std.specs.Prelude.{◌≡◌, ◌<◌, IfOk, OnOk};
 ghost use Rattle.lake_values.specs.Commit.{AboutValue};
+ghost use Rattle.lake_format.specs.Spelling.{IsSpelledCommit};
 ghost use Rattle.lake_model.specs.Soundness.{IsSound};
 ghost use Rattle.lake_model.specs.Steps.{swap_rule};
 ghost use Rattle.lake_model.specs.Versions.{VersionsGiven};
@@ -52,6 +53,7 @@ pub fn test_head(
         → AsksForHead (lake_value lake.now) given repo.now branch.now guard.version guard.settings kind
         about.now result }
     ensures found { IfOk result (IsNewHead (lake_value lake.now) repo.now branch.now kind about.now) }
+    ensures limits { IfOk result (λ new. IsSpelledCommit new.commit) }
     ensures room { OnOk result ((lake_value lake.now).entries < 4194304) }
 {
     law_of_versions();

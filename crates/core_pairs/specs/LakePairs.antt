@@ -1,7 +1,6 @@
 -- The pairs that stand for a lake in memory.
-use Rattle.std.specs.Prelude.{◌≡◌, ◌⊎◌, true, false, ℕ, List, ◌∷◌, Some, IsSomeAnd}
+use Rattle.std.specs.Prelude.{◌≡◌, ◌⊎◌, true, false, ℕ, List, Some, IsSomeAnd}
 use Rattle.std.specs.FinMap.{contains_key, empty, get}
-use Rattle.std.specs.List.{Contains}
 use Rattle.lake_base.specs.declared.digest.Digest.{Digest}
 use Rattle.lake_values.specs.Ancestry.{commit_of}
 use Rattle.lake_values.specs.declared.entry.Change.{Change}
@@ -18,6 +17,7 @@ use Rattle.core_state.specs.BranchStates.{BranchStateValue, tokens_of}
 use Rattle.core_state.specs.RepositoryStates.{RepositoryStateValue}
 use Rattle.core_state.specs.LakeStates.{LakeStateValue}
 use Rattle.core_puts.specs.Puts.{branch_at, note_text}
+pub use Rattle.core_changes.specs.NewPlaces.{IsMetaRangeOf, IsRangeOf}
 
 -- ---- what stands in a lake
 
@@ -32,14 +32,6 @@ HasBranchIn l repo branch P = IsSomeAnd (branch_at repo branch l) P
 -- the tree of some commit of the lake
 abbrev pub IsTreeIn : LakeStateValue → TreeValue → Type 0
 IsTreeIn l tree = (repo : List ℕ) × ((id : List ℕ) × HasRepositoryIn l repo (λ r. get r.trees id ≡ Some tree))
-
--- the metarange of a tree, and one of its ranges, as bytes
-abbrev pub IsMetaRangeOf : TreeValue → List ℕ → Type 0
-IsMetaRangeOf tree bytes = (ranges : List (List ℕ)) × (tree.files ≡ bytes ∷ ranges)
-
-abbrev pub IsRangeOf : TreeValue → List ℕ → Type 0
-IsRangeOf tree bytes =
-    (metarange : List ℕ) × ((ranges : List (List ℕ)) × ((tree.files ≡ metarange ∷ ranges) × Contains ranges bytes))
 
 -- some branch of the lake has this change at the path, under the token
 abbrev pub IsChangeIn : LakeStateValue → ℕ → List ℕ → Change → Type 0

@@ -1,9 +1,12 @@
 //! Branches that are reset, sealed, made and deleted.
-ghost use Rattle.std.specs.Prelude.{◌≡◌, false, IfOk};
+ghost use Rattle.std.specs.Prelude.{◌≡◌, ◌<◌, ◌^◌, false, length, IfOk, IfSome, OnOk};
 ghost use Rattle.lake_base.specs.Names.{is_like_id};
+ghost use Rattle.lake_format.specs.Spelling.{IsDigest};
+ghost use Rattle.pair_format.specs.PairSpelling.{IsRefName};
+ghost use Rattle.core_state.specs.BranchStates.{with_fresh};
 ghost use Rattle.core_state.specs.Counts.{AreFew};
 ghost use Rattle.core_state.specs.LakeStates.{lake_value};
-ghost use Rattle.core_puts.specs.Puts.{create_branch_puts, delete_branch_puts, reset_puts, seal_puts};
+ghost use Rattle.core_puts.specs.Puts.{branch_at, create_branch_puts, delete_branch_puts, reset_puts, seal_puts};
 
 use crate::parts::{BranchParts, branch_at, parts_after_seal, parts_at, push_branch};
 use crate::pushing::{push_counts, push_removed};
@@ -56,7 +59,9 @@ pub fn seal_puts(
 ) -> Result<Vec<Put>, NoMemory>
     requires plain { is_like_id name.now ≡ false }
     requires few { AreFew (lake_value lake.now) }
-    ensures { IfOk result (λ puts. puts.items ≡ seal_puts repo.now name.now (lake_value lake.now)) }
+    ensures puts { IfOk result (λ puts. puts.items ≡ seal_puts repo.now name.now (lake_value lake.now)) }
+    ensures limits { OnOk result (IfSome (branch_at repo.now name.now (lake_value lake.now))
+        (λ b. length (with_fresh (lake_value lake.now).next_token b).sealed < 2 ^ 32)) }
 {
     let mut puts = Vec::new(alloc);
     let Some(branch) = branch_at(lake, repo, name) else {
@@ -85,8 +90,9 @@ pub fn create_branch_puts(
 ) -> Result<Vec<Put>, NoMemory>
     requires plain { is_like_id name.now ≡ false }
     requires few { AreFew (lake_value lake.now) }
-    ensures { IfOk result (λ puts. puts.items
+    ensures puts { IfOk result (λ puts. puts.items
         ≡ create_branch_puts repo.now name.now commit (lake_value lake.now)) }
+    ensures limits { OnOk result (IsRefName name.now × IsDigest commit.0) }
 {
     let mut puts = Vec::new(alloc);
     let parts = BranchParts {

@@ -1,5 +1,5 @@
 //! New repositories.
-ghost use Rattle.std.specs.Prelude.{◌≡◌, IfOk, option_map};
+ghost use Rattle.std.specs.Prelude.{◌≡◌, true, IfOk, option_map};
 ghost use Rattle.std.specs.FinMap.{empty, insert};
 ghost use Rattle.lake_format.specs.Spelling.{commit_id};
 ghost use Rattle.lake_format.specs.declared.cut.Cut.{Cut as AnyCut};
@@ -35,7 +35,8 @@ pub fn new_repository(
     first: FirstCommit,
 ) -> Result<NewRepository, NoMemory>
     requires { IsFirst (lake_value lake.now).cut first.commit.date first }
-    ensures { IfOk result (IsNew repo.now branch first.commit.date (lake_value lake.now)) }
+    ensures new { IfOk result (IsNew repo.now branch first.commit.date (lake_value lake.now)) }
+    ensures kind { IfOk result (λ new. new.place.is_metarange ≡ true) }
 {
     let FirstCommit {
         commit,

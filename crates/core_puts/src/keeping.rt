@@ -26,6 +26,7 @@ pub fn keep<K: Keeper>(
         (record { keeper = keeper.old; history = history.old.items; present = present.old })
         (record { keeper = keeper.new; history = history.new.items; present = present.new }) }
     ensures room { Stays result present.old present.new }
+    ensures names { present.new.names ≡ present.old.names }
 {
     history.reserve(1)?;
     match keeper.put_all(puts.as_slice()) {

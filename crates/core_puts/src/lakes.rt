@@ -1,6 +1,8 @@
 //! The fresh lake, and the puts by which it is kept.
 ghost use Rattle.std.specs.Prelude.{◌≡◌, IfOk, codes};
-ghost use Rattle.core_state.specs.FirstStates.{fresh_lake};
+ghost use Rattle.std.specs.FinMap.{empty};
+ghost use Rattle.core_changes.specs.NewPlaces.{HasNewPlaces};
+ghost use Rattle.core_state.specs.FirstStates.{first_tree, fresh_lake};
 ghost use Rattle.core_state.specs.LakeStates.{lake_value};
 ghost use Rattle.core_puts.specs.FreshLakes.{bare_lake, fresh_puts};
 
@@ -18,7 +20,8 @@ use std::collections::BTreeMap;
 
 /// A fresh lake of a cut: the repository `quickstart`, with the branch `main` at a first commit of the date 0.
 pub fn fresh_lake(alloc: Global, cut: Cut) -> Result<LakeState, NoMemory>
-    ensures { IfOk result (λ lake. lake_value lake ≡ fresh_lake cut) }
+    ensures lake { IfOk result (λ lake. lake_value lake ≡ fresh_lake cut) }
+    ensures places { IfOk result (λ lake. HasNewPlaces empty lake.names.files (first_tree cut)) }
 {
     let mut lake = bare_lake(alloc, cut);
     let repo = first_repo(alloc)?;
@@ -73,7 +76,8 @@ fn bare_lake(alloc: Global, cut: Cut) -> LakeState
 // The history of the lake begins here.
 #[tactic(auto, unfolding(core_state::specs::LakeStates::lake_value))]
 fn begin_history(lake: &mut LakeState)
-    ensures { lake_value lake.new ≡ record (lake_value lake.old) { entries = 0; references = 0 } }
+    ensures history { lake_value lake.new ≡ record (lake_value lake.old) { entries = 0; references = 0 } }
+    ensures names { lake.new.names ≡ lake.old.names }
 {
     lake.entries = 0;
     lake.references = 0;

@@ -1,9 +1,10 @@
 //! Settings.
-ghost use Rattle.std.specs.Prelude.{◌≡◌, ◌++◌, ◌∷◌, [], false, IfOk, IfSome, OnOk, option_copied};
+ghost use Rattle.std.specs.Prelude.{◌≡◌, ◌++◌, ◌∷◌, [], false, IfOk, IfSome, IsSome, OnOk, option_copied};
 ghost use Rattle.std.specs.Option.{ForSome};
 ghost use Rattle.std.specs.FinMap.{get};
 ghost use Rattle.lake_base.specs.Names.{is_like_id};
 ghost use Rattle.lake_values.specs.NoteNames.{note_name};
+ghost use Rattle.lake_format.specs.Spelling.{AreBytes};
 ghost use Rattle.pair_format.specs.declared.stored.Stored.TheVariants as stored;
 ghost use Rattle.core_state.specs.RepositoryStates.{repository_value};
 ghost use Rattle.core_state.specs.Counts.{AreFew};
@@ -34,8 +35,10 @@ pub fn set_note_puts(
     requires plain { ForSome (get (lake_value lake.now).repositories repo.now)
         (λ r. is_like_id r.default_branch ≡ false) }
     requires few { AreFew (lake_value lake.now) }
-    ensures { IfOk result (λ puts. puts.items
+    ensures puts { IfOk result (λ puts. puts.items
         ≡ set_note_puts repo.now name (option_copied note.entry) (lake_value lake.now)) }
+    ensures limits { OnOk result (IsSome (get (lake_value lake.now).repositories repo.now)
+        → IfSome (option_copied note.entry) (λ n. AreBytes (note_text n))) }
 {
     let mut puts = Vec::new(alloc);
     let Some(repository) = lake.repository(repo) else {
@@ -62,7 +65,9 @@ fn push_note(
     note: Option<&Note>,
 ) -> Result<(), NoMemory>
     requires { IfSome (option_copied note) HasText }
-    ensures { OnOk result (puts.new.items ≡ puts.old.items ++ note_put repo.now name (option_copied note.entry) ∷ []) }
+    ensures puts { OnOk result (puts.new.items
+        ≡ puts.old.items ++ note_put repo.now name (option_copied note.entry) ∷ []) }
+    ensures limits { OnOk result (IfSome (option_copied note.entry) (λ n. AreBytes (note_text n))) }
 {
     match note {
         None => push_removed(alloc, puts, &StoredKey::Note { repo, name }),

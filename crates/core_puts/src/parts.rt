@@ -3,6 +3,7 @@ ghost use Rattle.std.specs.Prelude.{◌≡◌, ◌++◌, ◌∷◌, [], false, I
 ghost use Rattle.lake_base.specs.Names.{is_like_id};
 ghost use Rattle.core_state.specs.BranchStates.{branch_value, tokens_of, with_fresh};
 ghost use Rattle.core_state.specs.LakeStates.{lake_value};
+ghost use Rattle.pair_format.specs.PairSpelling.{IsSpelledStored};
 ghost use Rattle.pair_format.specs.declared.stored.Stored.TheVariants as stored;
 ghost use Rattle.core_puts.specs.Puts.{branch_at, spelled_put};
 ghost use Rattle.core_puts.specs.BranchParts.{parts_of};
@@ -95,8 +96,10 @@ pub(crate) fn push_branch(
     parts: BranchParts,
 ) -> Result<(), NoMemory>
     requires { is_like_id name.now ≡ false }
-    ensures { OnOk result (puts.new.items ≡ puts.old.items
+    ensures puts { OnOk result (puts.new.items ≡ puts.old.items
         ++ spelled_put (stored.Branch repo.now name.now parts.version parts.head parts.staging parts.sealed) ∷ []) }
+    ensures limits { OnOk result (IsSpelledStored
+        (stored.Branch repo.now name.now parts.version parts.head parts.staging parts.sealed)) }
 {
     if parts.sealed.as_slice().len() >= 4294967296 {
         return Err(NoMemory);

@@ -1,10 +1,13 @@
 //! Numbers of uploads, and changes that are staged.
-ghost use Rattle.std.specs.Prelude.{◌≡◌, ◌∷◌, [], IfOk};
+ghost use Rattle.std.specs.Prelude.{◌≡◌, ◌∷◌, [], None, IfOk, IsSome, OnOk};
+ghost use Rattle.lake_base.specs.Names.{path_fault};
 ghost use Rattle.lake_values.specs.declared.entry.Change.TheVariants.{Put as put};
+ghost use Rattle.lake_format.specs.Spelling.{IsEntry};
+ghost use Rattle.pair_format.specs.PairSpelling.{IsSpelledChange};
 ghost use Rattle.pair_format.specs.declared.stored.Stored.TheVariants as stored;
 ghost use Rattle.core_state.specs.Counts.{AreFew};
 ghost use Rattle.core_state.specs.LakeStates.{lake_value};
-ghost use Rattle.core_puts.specs.Puts.{spelled_put, stage_puts, ticket_puts};
+ghost use Rattle.core_puts.specs.Puts.{branch_at, spelled_put, stage_puts, ticket_puts};
 
 use crate::parts::branch_at;
 use crate::pushing::{only_put, push_counts};
@@ -41,8 +44,10 @@ pub fn stage_puts(
     path: &Path,
     change: &Change,
 ) -> Result<Vec<Put>, NoMemory>
-    ensures { IfOk result (λ puts. puts.items
+    ensures puts { IfOk result (λ puts. puts.items
         ≡ stage_puts repo.now name.now path.now change.now (lake_value lake.now)) }
+    ensures limits { OnOk result (IsSome (branch_at repo.now name.now (lake_value lake.now))
+        → (path_fault path.now ≡ None) × IsSpelledChange change.now) }
 {
     let Some(branch) = branch_at(lake, repo, name) else {
         return Ok(Vec::new(alloc));
@@ -60,8 +65,10 @@ pub fn copy_puts(
     path: &Path,
     entry: &Entry,
 ) -> Result<Vec<Put>, NoMemory>
-    ensures { IfOk result (λ puts. puts.items
+    ensures puts { IfOk result (λ puts. puts.items
         ≡ stage_puts repo.now name.now path.now (put entry.now) (lake_value lake.now)) }
+    ensures limits { OnOk result (IsSome (branch_at repo.now name.now (lake_value lake.now))
+        → (path_fault path.now ≡ None) × IsEntry entry.now) }
 {
     let Some(branch) = branch_at(lake, repo, name) else {
         return Ok(Vec::new(alloc));
@@ -72,7 +79,8 @@ pub fn copy_puts(
 
 // The put of a change under a token.
 fn staged_puts(alloc: Global, token: u64, path: &Path, change: Change) -> Result<Vec<Put>, NoMemory>
-    ensures { IfOk result (λ puts. puts.items ≡ spelled_put (stored.Staged token path.now change) ∷ []) }
+    ensures puts { IfOk result (λ puts. puts.items ≡ spelled_put (stored.Staged token path.now change) ∷ []) }
+    ensures limits { OnOk result ((path_fault path.now ≡ None) × IsSpelledChange change) }
 {
     let path = path.copy(alloc)?;
     only_put(

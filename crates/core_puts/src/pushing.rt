@@ -1,7 +1,7 @@
 //! Puts that are appended to others.
 ghost use Rattle.std.specs.Prelude.{◌≡◌, ◌++◌, ◌∷◌, [], IfOk, OnOk};
 ghost use Rattle.pair_format.specs.Keys.{key_value};
-ghost use Rattle.pair_format.specs.PairSpelling.{pair_spelling, IsStored, IsStoredKey};
+ghost use Rattle.pair_format.specs.PairSpelling.{pair_spelling, IsSpelledKey, IsSpelledStored, IsStored, IsStoredKey};
 ghost use Rattle.pair_format.specs.declared.stored.Stored.TheVariants as stored;
 ghost use Rattle.core_puts.specs.Puts.{removed_put, spelled_put};
 
@@ -13,7 +13,8 @@ use std::alloc::Global;
 // The one put by which something is stored.
 pub(crate) fn only_put(alloc: Global, stored: Stored) -> Result<Vec<Put>, NoMemory>
     requires { IsStored stored }
-    ensures { IfOk result (λ puts. puts.items ≡ spelled_put stored ∷ []) }
+    ensures puts { IfOk result (λ puts. puts.items ≡ spelled_put stored ∷ []) }
+    ensures limits { OnOk result (IsSpelledStored stored) }
 {
     let mut puts = Vec::new(alloc);
     push_spelled(alloc, &mut puts, stored)?;
@@ -28,7 +29,8 @@ pub(crate) fn push_spelled(
     stored: Stored,
 ) -> Result<(), NoMemory>
     requires { IsStored stored }
-    ensures { OnOk result (puts.new.items ≡ puts.old.items ++ spelled_put stored ∷ []) }
+    ensures puts { OnOk result (puts.new.items ≡ puts.old.items ++ spelled_put stored ∷ []) }
+    ensures limits { OnOk result (IsSpelledStored stored) }
 {
     let Pair { key, value } = pair_of(alloc, stored)?;
     puts.push(Put {
@@ -41,7 +43,8 @@ pub(crate) fn push_spelled(
 // The pair of what is stored, which is let go: in this one place, since a proof that lets it go is long.
 fn pair_of(alloc: Global, stored: Stored) -> Result<Pair, NoMemory>
     requires { IsStored stored }
-    ensures { IfOk result (λ pair. pair ≡ pair_spelling stored) }
+    ensures spelled { IfOk result (λ pair. pair ≡ pair_spelling stored) }
+    ensures limits { OnOk result (IsSpelledStored stored) }
 {
     encode_pair(alloc, &stored)
 }
@@ -54,7 +57,8 @@ pub(crate) fn push_removed(
     key: &StoredKey<'_>,
 ) -> Result<(), NoMemory>
     requires { IsStoredKey (key_value key.now) }
-    ensures { OnOk result (puts.new.items ≡ puts.old.items ++ removed_put (key_value key.now) ∷ []) }
+    ensures puts { OnOk result (puts.new.items ≡ puts.old.items ++ removed_put (key_value key.now) ∷ []) }
+    ensures limits { OnOk result (IsSpelledKey (key_value key.now)) }
 {
     let key = encode_key(alloc, key)?;
     puts.push(Put { key, value: None })?;

@@ -1,6 +1,7 @@
 //! Repositories that are made.
-ghost use Rattle.std.specs.Prelude.{◌≡◌, ◌++◌, ◌∷◌, [], false, IfOk, OnOk};
-ghost use Rattle.lake_base.specs.Names.{is_like_id};
+ghost use Rattle.std.specs.Prelude.{◌≡◌, ◌<◌, ◌^◌, ◌++◌, ◌∷◌, [], None, false, IfOk, OnOk};
+ghost use Rattle.lake_base.specs.Names.{is_like_id, repo_fault};
+ghost use Rattle.pair_format.specs.PairSpelling.{IsRefName};
 ghost use Rattle.pair_format.specs.declared.stored.Stored.TheVariants as stored;
 ghost use Rattle.core_state.specs.Counts.{AreFew};
 ghost use Rattle.core_state.specs.LakeStates.{lake_value};
@@ -33,8 +34,9 @@ pub fn create_repository_puts(
     requires plain { is_like_id branch.now ≡ false }
     requires few { AreFew (lake_value lake.now) }
     requires first { IsFirstCommit (lake_value lake.now).cut commit.now id tree.now }
-    ensures { IfOk result (λ puts. puts.items
+    ensures puts { IfOk result (λ puts. puts.items
         ≡ create_repository_puts repo.now branch.now commit.now.date (lake_value lake.now)) }
+    ensures limits { OnOk result ((repo_fault repo.now ≡ None) × (IsRefName branch.now × (commit.now.date < 2 ^ 64))) }
 {
     let mut puts = Vec::new(alloc);
     push_repository(alloc, &mut puts, repo, branch, commit.date)?;
@@ -66,8 +68,9 @@ fn push_repository(
     date: u64,
 ) -> Result<(), NoMemory>
     requires { is_like_id branch.now ≡ false }
-    ensures { OnOk result (puts.new.items ≡ puts.old.items
+    ensures puts { OnOk result (puts.new.items ≡ puts.old.items
         ++ spelled_put (stored.Repository repo.now date branch.now 0) ∷ []) }
+    ensures limits { OnOk result ((repo_fault repo.now ≡ None) × (IsRefName branch.now × (date < 2 ^ 64))) }
 {
     let stored = Stored::Repository {
         repo: repo.copy(alloc)?,

@@ -1,6 +1,8 @@
 //! Tags that are made and deleted.
-ghost use Rattle.std.specs.Prelude.{◌≡◌, false, IfOk};
+ghost use Rattle.std.specs.Prelude.{◌≡◌, false, IfOk, OnOk};
 ghost use Rattle.lake_base.specs.Names.{is_like_id};
+ghost use Rattle.lake_format.specs.Spelling.{IsDigest};
+ghost use Rattle.pair_format.specs.PairSpelling.{IsRefName};
 ghost use Rattle.core_puts.specs.Puts.{create_tag_puts, delete_tag_puts};
 
 use crate::pushing::{only_put, push_removed};
@@ -18,7 +20,8 @@ pub fn create_tag_puts(
     commit: CommitId,
 ) -> Result<Vec<Put>, NoMemory>
     requires { is_like_id name.now ≡ false }
-    ensures { IfOk result (λ puts. puts.items ≡ create_tag_puts repo.now name.now commit) }
+    ensures puts { IfOk result (λ puts. puts.items ≡ create_tag_puts repo.now name.now commit) }
+    ensures limits { OnOk result (IsRefName name.now × IsDigest commit.0) }
 {
     let repo = repo.copy(alloc)?;
     let tag = name.copy(alloc)?;
@@ -28,7 +31,8 @@ pub fn create_tag_puts(
 /// The puts of a tag that goes.
 pub fn delete_tag_puts(alloc: Global, repo: &RepoName, name: &RefName) -> Result<Vec<Put>, NoMemory>
     requires { is_like_id name.now ≡ false }
-    ensures { IfOk result (λ puts. puts.items ≡ delete_tag_puts repo.now name.now) }
+    ensures puts { IfOk result (λ puts. puts.items ≡ delete_tag_puts repo.now name.now) }
+    ensures limits { OnOk result (IsRefName name.now) }
 {
     let mut puts = Vec::new(alloc);
     push_removed(alloc, &mut puts, &StoredKey::Tag { repo, tag: name })?;

@@ -11,6 +11,9 @@ pub returns-in_err-make_place-clause-same : goal.returns-in_err-make_place-claus
 returns-in_err-make_place-clause-same c =
     same_values {X = FilePlaceValue} (λ place. place.bytes) c.loop-file.places c.make_place.new.places c.make_place.ensures.same ∙ c.loop-file.invariant.same
 
+pub returns-in_err-make_place-clause-places : goal.returns-in_err-make_place-clause-places
+returns-in_err-make_place-clause-places c = c.make_place.ensures.same ∙ c.loop-file.invariant.places
+
 pub loop-file-preserved : goal.loop-file-preserved
 loop-file-preserved c =
     let places = c.make_place.new.places in
@@ -21,6 +24,7 @@ loop-file-preserved c =
     each_weaker (HasPlace c.loop-file.places) (HasPlace places) (take at files) (λ other. c.make_place.ensures.kept other.name.0) c.loop-file.invariant.room in
     record {
       same = same_values {X = FilePlaceValue} (λ place. place.bytes) c.loop-file.places places c.make_place.ensures.same ∙ c.loop-file.invariant.same;
+      places = c.make_place.ensures.same ∙ c.loop-file.invariant.places;
       room =
           subst (AllByRecursion (HasPlace places))
           (sym (take_more files at file c.loop-file-test.true ∙ ap (λ one. take at files ++ one ∷ []) (sym c.file-item.is)))

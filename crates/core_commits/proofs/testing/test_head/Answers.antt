@@ -134,3 +134,6 @@ returns-clause-room c =
     room_found l c.requires.sound c.requires.index c.args.repo.now c.args.branch.now c.args.kind c.args.about.now c.args.guard.version c.args.guard.settings
     c.args.tree c.requires.tree c.asks_protection.result (c.asks_protection.ensures c.args.about.now) r b c.in_ok-repository.ensures
     (c.law_of_versions.ensures l)
+
+pub returns-clause-limits : goal.returns-clause-limits
+returns-clause-limits c = (c.in_ok-new.ensures (lake_value c.args.lake.now).cut).limits

@@ -12,9 +12,9 @@ pub of-place-requires : goal.of-place-requires
 of-place-requires c =
     subst (λ (t : TreeValue). 0 < length t.files) (sym (c.in_ok-clone.ensures.cases ∙ c.requires.tree)) (has_file (lake_value c.args.lake.now).cut)
 
-pub returns : goal.returns
+pub returns-clause-new : goal.returns-clause-new
 unfolding lake_value
-returns c =
+returns-clause-new c =
     let cut = (lake_value c.args.lake.now).cut in
     let is = is_first_commit cut c.args.first.commit.date c.args.first c.requires in
     record {
@@ -26,3 +26,6 @@ returns c =
           ap (λ (p : FilePlaceValue). p.bytes) c.of-place.ensures ∙ ap (λ (t : TreeValue). file_at t.files 0) (c.in_ok-clone.ensures.cases ∙ c.requires.tree)
           ∙ ap (λ all. file_at all 0) (one_file cut);
     }
+
+pub returns-clause-kind : goal.returns-clause-kind
+returns-clause-kind c = ap (λ (p : FilePlaceValue). p.is_metarange) c.of-place.ensures

@@ -19,4 +19,4 @@ returns c =
     let date = dated cut 0 c.in_ok-first.first (c.in_ok-first.ensures cut) in
     subst (λ (made : List Put). IfOk c.create_repository_puts.result (λ puts. puts.items ≡ made))
     (λ i. create_repository_puts (c.in_ok-repo.ensures i) (c.in_ok-branch.ensures i) (date i) (c.bare_lake-lake.ensures i))
-    c.create_repository_puts.ensures
+    c.create_repository_puts.ensures.puts

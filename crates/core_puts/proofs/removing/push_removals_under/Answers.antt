@@ -37,7 +37,7 @@ loop-path-preserved c =
       removals =
           removals_next c.args.what.now c.args.token c.loop-path.puts.items c.push_removed.new.puts.items _ row.0 row.1 c.loop-path.changes c.next.new.self
           c.in-Some.ensures
-          (c.in_ok-push_removed.ensures ∙ ap (λ puts. c.loop-path.puts.items ++ puts) (sym (removals_dropped c.args.what.now c.args.token row.0 drops)))
+          (c.in_ok-push_removed.ensures.puts ∙ ap (λ puts. c.loop-path.puts.items ++ puts) (sym (removals_dropped c.args.what.now c.args.token row.0 drops)))
           c.loop-path.invariant.removals;
       ascend = tail_ascends row c.next.new.self (subst HasAscendingKeys c.in-Some.ensures c.loop-path.invariant.ascend);
       from = (subst (AllByRecursion (λ row. is_lt (byte_order row.0 start) ≡ false)) c.in-Some.ensures c.loop-path.invariant.from).1;

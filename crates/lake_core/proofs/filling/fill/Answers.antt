@@ -5,7 +5,7 @@ use Rattle.lake_core.proofs.filling.fill.Goals as goal
 
 pub returns : goal.returns
 returns g c = (
-  c.in_ok-lake.ensures,
+  c.in_ok-lake.ensures.lake,
   record {
     kept = kept_after _ _ _ _ (c.as_slice.ensures.value ∙ c.in_ok-puts.ensures) c.in_ok-put_all.ensures.kept;
     once = c.in_ok-put_all.ensures.called;

@@ -13,5 +13,5 @@ returns-clause-room c =
     let is = subst (λ (l : LakeStateValue). IsFirst l.cut first.commit.date first) (sym c.in_ok-make_repository_room.ensures.same) c.requires.first in
     room_again c.args.repo first.content.name first.metarange.name c.in_ok-new.new.commit c.in_ok-new.new.file c.make_repository_room.new.lake
     c.in_ok-make_repository_room.ensures.room
-    (c.in_ok-new.ensures.commit ∙ sym (is_first_commit l.cut first.commit.date first is).name)
-    (c.in_ok-new.ensures.file ∙ sym (ap (λ file. file.name) is.metarange ∙ file_named l.cut))
+    (c.in_ok-new.ensures.new.commit ∙ sym (is_first_commit l.cut first.commit.date first is).name)
+    (c.in_ok-new.ensures.new.file ∙ sym (ap (λ file. file.name) is.metarange ∙ file_named l.cut))

@@ -104,7 +104,7 @@ invariant_of-self-2 g c =
     c.in_ok-ready.ready.entry found.1.tested.commit c.self.invariant.stands found.0 found.1.tested.finds in
     record {
       stands = made_stands may _ _ _ found.1.tested.operation c.in_ok-keep.ensures.kept.history
-          (c.copy.ensures ∙ ap (after_copy c.args.repo.now c.args.branch.now c.args.path c.in_ok-ready.ready.entry)
+          (c.copy.ensures.made ∙ ap (after_copy c.args.repo.now c.args.branch.now c.args.path c.in_ok-ready.ready.entry)
           (c.in_ok-keep.ensures.kept.present ∙ c.in_ok-ready.ensures.same));
       keeper = kept_made _ _ _ _ _ c.self.invariant.keeper _ c.in_ok-keep.ensures.kept;
     }
@@ -117,7 +117,7 @@ returns-clause-reply g c =
     (Ok (c.place.result, c.in_ok-ready.ready.answer))) c.self.view_is c.self.invariant.stands.replayed (
       found.0,
       (
-        c.place.ensures ∙ ap (λ l. l.entries) (c.copy.ensures ∙ ap (after_copy c.args.repo.now c.args.branch.now c.args.path c.in_ok-ready.ready.entry)
+        c.place.ensures ∙ ap (λ l. l.entries) (c.copy.ensures.made ∙ ap (after_copy c.args.repo.now c.args.branch.now c.args.path c.in_ok-ready.ready.entry)
             (c.in_ok-keep.ensures.kept.present ∙ c.in_ok-ready.ensures.same)),
         found.1.tested.finds.found ∙ ap Some (sym found.1.tested.answer),
       ),
@@ -136,5 +136,5 @@ returns-clause-leaves g c =
     (copied_entry (state_of (lake_value c.self.inside.present)) c.args.repo.now c.args.e.now c.args.from.now))) found.1.tested.finds.source
     ∙ ap (option_map (λ x. copy_making c.args.repo.now c.args.branch.now c.args.path (source_of c.args.e.now.name found.1.tested.commit) c.args.from.now x
     (lake_value c.self.inside.present))) found.1.tested.finds.found) _ c.self.view_is _ c.in_ok-keep.ensures.kept
-    (c.copy.ensures ∙ ap (after_copy c.args.repo.now c.args.branch.now c.args.path c.in_ok-ready.ready.entry)
+    (c.copy.ensures.made ∙ ap (after_copy c.args.repo.now c.args.branch.now c.args.path c.in_ok-ready.ready.entry)
     (c.in_ok-keep.ensures.kept.present ∙ c.in_ok-ready.ensures.same))

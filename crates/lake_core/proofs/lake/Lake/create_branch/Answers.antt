@@ -66,7 +66,7 @@ invariant_of-self-2 g c =
     none c.in_ok-commit.ensures.1 in
     record {
       stands = made_stands may _ _ _ c.in_ok-operation.ensures.ready.operation c.in_ok-keep.ensures.kept.history
-          (c.create_branch.ensures
+          (c.create_branch.ensures.made
           ∙ ap (after_branch_create c.args.repo.now c.args.name c.in_ok-commit.commit) (c.in_ok-keep.ensures.kept.present ∙ c.in_ok-operation.ensures.same));
       keeper = kept_made _ _ _ _ _ c.self.invariant.keeper _ c.in_ok-keep.ensures.kept;
     }
@@ -77,7 +77,7 @@ returns-clause-reply g c =
     c.self.invariant.stands.replayed (
       c.in_ok-commit.ensures.0,
       (
-        c.place.ensures ∙ ap (λ l. l.entries) (c.create_branch.ensures ∙ ap (after_branch_create c.args.repo.now c.args.name
+        c.place.ensures ∙ ap (λ l. l.entries) (c.create_branch.ensures.made ∙ ap (after_branch_create c.args.repo.now c.args.name
             c.in_ok-commit.commit) (c.in_ok-keep.ensures.kept.present ∙ c.in_ok-operation.ensures.same)),
         c.in_ok-commit.ensures.1,
       ),
@@ -91,7 +91,7 @@ returns-clause-leaves g c =
     _ _ _ _ _ (record { keeper = c.keep.new.keeper; history = c.keep.new.history.items; present = c.keep.new.present }) c.in_ok-operation.ensures.same
     (ap (option_map (λ id. branch_making c.args.repo.now c.args.name id (lake_value c.self.inside.present))) c.in_ok-commit.ensures.1) _ c.self.view_is _
     c.in_ok-keep.ensures.kept
-    (c.create_branch.ensures
+    (c.create_branch.ensures.made
     ∙ ap (after_branch_create c.args.repo.now c.args.name c.in_ok-commit.commit) (c.in_ok-keep.ensures.kept.present ∙ c.in_ok-operation.ensures.same))
 
 pub ready_create-requires : goal.ready_create-requires

@@ -99,7 +99,7 @@ invariant_of-self-2 g c =
     c.requires in
     let ready = c.in_ok-ready.ensures.ready in
     let now = c.in_ok-keep.ensures.kept.present ∙ c.in_ok-ready.ensures.same in
-    let changed = repository_made c.args.repo c.args.branch c.args.date l _ _ c.in_ok-ready.ready now c.in_ok-ready.ensures.ready c.create_repository.ensures in
+    let changed = repository_made c.args.repo c.args.branch c.args.date l _ _ c.in_ok-ready.ready now c.in_ok-ready.ensures.ready c.create_repository.ensures.made in
     record {
       stands = made_stands may _ _ _ ready.operation c.in_ok-keep.ensures.kept.history changed;
       keeper = kept_made _ _ _ _ _ c.self.invariant.keeper _ c.in_ok-keep.ensures.kept;
@@ -110,7 +110,7 @@ returns-clause-reply g c =
     let l = lake_value c.self.inside.present in
     let asks = c.in_ok-ready.ensures.asks in
     let now = c.in_ok-keep.ensures.kept.present ∙ c.in_ok-ready.ensures.same in
-    let changed = repository_made c.args.repo c.args.branch c.args.date l _ _ c.in_ok-ready.ready now c.in_ok-ready.ensures.ready c.create_repository.ensures in
+    let changed = repository_made c.args.repo c.args.branch c.args.date l _ _ c.in_ok-ready.ready now c.in_ok-ready.ensures.ready c.create_repository.ensures.made in
     holds_now (λ s given. IsCreateRepositoryReply s c.args.repo c.args.branch c.args.date (Ok c.place.result)) c.self.view_is c.self.invariant.stands.replayed
     (made_creation (state_of l) c.args.repo c.args.branch c.args.date c.in_ok-ready.ready asks c.place.result (c.place.ensures ∙ ap (λ m. m.entries) changed))
 
@@ -119,7 +119,7 @@ returns-clause-leaves g c =
     let l = lake_value c.self.inside.present in
     let ready = c.in_ok-ready.ensures.ready in
     let now = c.in_ok-keep.ensures.kept.present ∙ c.in_ok-ready.ensures.same in
-    let changed = repository_made c.args.repo c.args.branch c.args.date l _ _ c.in_ok-ready.ready now c.in_ok-ready.ensures.ready c.create_repository.ensures in
+    let changed = repository_made c.args.repo c.args.branch c.args.date l _ _ c.in_ok-ready.ready now c.in_ok-ready.ensures.ready c.create_repository.ensures.made in
     made_leaves _ _ (λ p. Some (create_repo c.args.repo c.args.branch c.args.date (lake_value p)))
     (create_repo c.args.repo c.args.branch c.args.date l) _ _ ready.operation ready.puts
     _ _ _ _ _ (record { keeper = c.keep.new.keeper; history = c.keep.new.history.items; present = c.keep.new.present }) c.in_ok-ready.ensures.same refl _

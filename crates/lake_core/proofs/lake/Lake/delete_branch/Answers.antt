@@ -58,14 +58,14 @@ invariant_of-self-2 g c =
     let may = c.laws_of_names.ensures.delete_branch _ _ _ c.args.by c.args.repo.now c.args.name.now c.self.invariant.stands none in
     record {
       stands = made_stands may _ _ _ c.in_ok-operation.ensures.operation c.in_ok-keep.ensures.kept.history
-          (c.delete_branch.ensures ∙ ap (after_branch_delete c.args.repo.now c.args.name.now) (c.in_ok-keep.ensures.kept.present));
+          (c.delete_branch.ensures.made ∙ ap (after_branch_delete c.args.repo.now c.args.name.now) (c.in_ok-keep.ensures.kept.present));
       keeper = kept_made _ _ _ _ _ c.self.invariant.keeper _ c.in_ok-keep.ensures.kept;
     }
 
 pub returns-clause-reply : goal.returns-clause-reply
 returns-clause-reply g c =
     accepted {X = ℕ} (c.in_ok-test_delete_branch.ensures) (c.place.ensures
-    ∙ ap (λ l. l.entries) (c.delete_branch.ensures ∙ ap (after_branch_delete c.args.repo.now c.args.name.now) (c.in_ok-keep.ensures.kept.present)))
+    ∙ ap (λ l. l.entries) (c.delete_branch.ensures.made ∙ ap (after_branch_delete c.args.repo.now c.args.name.now) (c.in_ok-keep.ensures.kept.present)))
     ∙ at_present (λ s given. delete_branch_reply s c.args.repo.now c.args.name.now) c.self.view_is c.self.invariant.stands.replayed
 
 pub returns-clause-leaves : goal.returns-clause-leaves
@@ -74,7 +74,7 @@ returns-clause-leaves g c =
     ((delete_branch c.args.repo.now c.args.name.now (lake_value c.self.inside.present))) _ _ c.in_ok-operation.ensures.operation c.in_ok-operation.ensures.puts
     _ _ _ _ _ (record { keeper = c.keep.new.keeper; history = c.keep.new.history.items; present = c.keep.new.present }) refl (refl) _ c.self.view_is _
     c.in_ok-keep.ensures.kept
-    (c.delete_branch.ensures ∙ ap (after_branch_delete c.args.repo.now c.args.name.now) (c.in_ok-keep.ensures.kept.present))
+    (c.delete_branch.ensures.made ∙ ap (after_branch_delete c.args.repo.now c.args.name.now) (c.in_ok-keep.ensures.kept.present))
 
 pub ready_delete-requires : goal.ready_delete-requires
 ready_delete-requires g c =

@@ -56,14 +56,14 @@ invariant_of-self-2 g c =
     let may = c.laws_of_tickets.ensures.drop _ _ _ c.args.by c.args.number c.self.invariant.stands none ticket in
     record {
       stands = made_stands may _ _ _ c.ready_drop-operation.ensures.operation c.in_ok-keep.ensures.kept.history
-          (c.drop_ticket.ensures ∙ ap (after_ticket_drop c.args.number) (c.in_ok-keep.ensures.kept.present));
+          (c.drop_ticket.ensures.made ∙ ap (after_ticket_drop c.args.number) (c.in_ok-keep.ensures.kept.present));
       keeper = kept_made _ _ _ _ _ c.self.invariant.keeper _ c.in_ok-keep.ensures.kept;
     }
 
 pub returns-clause-reply : goal.returns-clause-reply
 returns-clause-reply g c =
     accepted {X = ℕ} (c.in_ok-test_change.ensures)
-    (c.place.ensures ∙ ap (λ l. l.entries) (c.drop_ticket.ensures ∙ ap (after_ticket_drop c.args.number) (c.in_ok-keep.ensures.kept.present)))
+    (c.place.ensures ∙ ap (λ l. l.entries) (c.drop_ticket.ensures.made ∙ ap (after_ticket_drop c.args.number) (c.in_ok-keep.ensures.kept.present)))
     ∙ at_present (λ s given. drop_ticket_reply s) c.self.view_is c.self.invariant.stands.replayed
 
 pub returns-clause-leaves : goal.returns-clause-leaves
@@ -72,7 +72,7 @@ returns-clause-leaves g c =
     ((drop_ticket c.args.number)) _ _ c.ready_drop-operation.ensures.operation c.ready_drop-operation.ensures.puts
     _ _ _ _ _ (record { keeper = c.keep.new.keeper; history = c.keep.new.history.items; present = c.keep.new.present }) refl (refl) _ c.self.view_is _
     c.in_ok-keep.ensures.kept
-    (c.drop_ticket.ensures ∙ ap (after_ticket_drop c.args.number) (c.in_ok-keep.ensures.kept.present))
+    (c.drop_ticket.ensures.made ∙ ap (after_ticket_drop c.args.number) (c.in_ok-keep.ensures.kept.present))
 
 pub drop_ticket-requires : goal.drop_ticket-requires
 drop_ticket-requires g c =

@@ -58,7 +58,7 @@ invariant_of-self-2 g c =
     let may = c.laws_of_writes.ensures.reset _ _ _ c.args.by c.args.repo.now c.args.branch.now c.args.what c.self.invariant.stands none in
     record {
       stands = made_stands may _ _ _ c.in_ok-operation.ensures.ready.operation c.in_ok-keep.ensures.kept.history
-          (c.reset.ensures ∙ ap (after_reset c.args.repo.now c.args.branch.now c.args.what)
+          (c.reset.ensures.made ∙ ap (after_reset c.args.repo.now c.args.branch.now c.args.what)
           (c.in_ok-keep.ensures.kept.present ∙ c.in_ok-operation.ensures.same));
       keeper = kept_made _ _ _ _ _ c.self.invariant.keeper _ c.in_ok-keep.ensures.kept;
     }
@@ -66,7 +66,7 @@ invariant_of-self-2 g c =
 pub returns-clause-reply : goal.returns-clause-reply
 returns-clause-reply g c =
     accepted {X = ℕ} (c.in_ok-test_write.ensures) (c.place.ensures ∙ ap (λ l. l.entries)
-    (c.reset.ensures ∙ ap (after_reset c.args.repo.now c.args.branch.now c.args.what) (c.in_ok-keep.ensures.kept.present ∙ c.in_ok-operation.ensures.same)))
+    (c.reset.ensures.made ∙ ap (after_reset c.args.repo.now c.args.branch.now c.args.what) (c.in_ok-keep.ensures.kept.present ∙ c.in_ok-operation.ensures.same)))
     ∙ at_present (λ s given. reset_reply s c.args.repo.now c.args.branch.now) c.self.view_is c.self.invariant.stands.replayed
 
 pub returns-clause-leaves : goal.returns-clause-leaves
@@ -76,7 +76,7 @@ returns-clause-leaves g c =
     c.in_ok-operation.ensures.ready.puts
     _ _ _ _ _ (record { keeper = c.keep.new.keeper; history = c.keep.new.history.items; present = c.keep.new.present }) c.in_ok-operation.ensures.same (refl) _
     c.self.view_is _ c.in_ok-keep.ensures.kept
-    (c.reset.ensures ∙ ap (after_reset c.args.repo.now c.args.branch.now c.args.what) (c.in_ok-keep.ensures.kept.present ∙ c.in_ok-operation.ensures.same))
+    (c.reset.ensures.made ∙ ap (after_reset c.args.repo.now c.args.branch.now c.args.what) (c.in_ok-keep.ensures.kept.present ∙ c.in_ok-operation.ensures.same))
 
 pub ready_reset-requires : goal.ready_reset-requires
 ready_reset-requires g c =

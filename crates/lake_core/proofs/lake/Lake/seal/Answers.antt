@@ -72,7 +72,7 @@ invariant_of-self-2 g c =
     let may = c.laws_of_writes.ensures.seal _ _ _ c.args.by c.args.repo.now c.args.branch.now c.args.why c.self.invariant.stands none in
     record {
       stands = made_stands may _ _ _ c.in_ok-operation.ensures.ready.operation c.in_ok-keep.ensures.kept.history
-          (c.seal.ensures ∙ ap (after_seal c.args.repo.now c.args.branch.now) (c.in_ok-keep.ensures.kept.present ∙ c.in_ok-operation.ensures.same));
+          (c.seal.ensures.made ∙ ap (after_seal c.args.repo.now c.args.branch.now) (c.in_ok-keep.ensures.kept.present ∙ c.in_ok-operation.ensures.same));
       keeper = kept_made _ _ _ _ _ c.self.invariant.keeper _ c.in_ok-keep.ensures.kept;
     }
 
@@ -81,7 +81,7 @@ unfolding lake_value
 returns-clause-reply g c =
     accepted {X = Versions} (c.in_ok-test_seal.ensures)
     (ap (λ at. record { at = at; version = (lake_value c.self.inside.present).next_version; settings = c.settings_of-settings.result }) (c.place-at.ensures ∙ ap
-    (λ l. l.entries) (c.seal.ensures ∙ ap (after_seal c.args.repo.now c.args.branch.now) (c.in_ok-keep.ensures.kept.present ∙ c.in_ok-operation.ensures.same)))
+    (λ l. l.entries) (c.seal.ensures.made ∙ ap (after_seal c.args.repo.now c.args.branch.now) (c.in_ok-keep.ensures.kept.present ∙ c.in_ok-operation.ensures.same)))
     ∙ ap (λ v. record { at = (lake_value c.self.inside.present).entries + 1; version = v; settings = c.settings_of-settings.result })
     (sym c.self.invariant.stands.versions.next)
     ∙ ap (λ w. record {
@@ -99,7 +99,7 @@ returns-clause-leaves g c =
     c.in_ok-operation.ensures.ready.puts
     _ _ _ _ _ (record { keeper = c.keep.new.keeper; history = c.keep.new.history.items; present = c.keep.new.present }) c.in_ok-operation.ensures.same (refl) _
     c.self.view_is _ c.in_ok-keep.ensures.kept
-    (c.seal.ensures ∙ ap (after_seal c.args.repo.now c.args.branch.now) (c.in_ok-keep.ensures.kept.present ∙ c.in_ok-operation.ensures.same))
+    (c.seal.ensures.made ∙ ap (after_seal c.args.repo.now c.args.branch.now) (c.in_ok-keep.ensures.kept.present ∙ c.in_ok-operation.ensures.same))
 
 pub ready_seal-requires : goal.ready_seal-requires
 ready_seal-requires g c =

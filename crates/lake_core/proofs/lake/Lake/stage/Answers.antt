@@ -112,14 +112,14 @@ invariant_of-self-2 g c =
     (c.in_ok-operation.ensures.tells (versions_since (lake_value c.self.inside.opened.value) c.self.inside.history.items) c.self.invariant.stands.versions).1 in
     record {
       stands = made_stands may _ _ _ ready.operation c.in_ok-keep.ensures.kept.history
-          (c.stage.ensures
+          (c.stage.ensures.made
           ∙ ap (after_stage c.args.repo.now c.args.branch.now c.args.path c.args.change) (c.in_ok-keep.ensures.kept.present ∙ c.in_ok-operation.ensures.same));
       keeper = kept_made _ _ _ _ _ c.self.invariant.keeper _ c.in_ok-keep.ensures.kept;
     }
 
 pub returns-clause-reply : goal.returns-clause-reply
 returns-clause-reply g c =
-    let made = c.stage.ensures
+    let made = c.stage.ensures.made
     ∙ ap (after_stage c.args.repo.now c.args.branch.now c.args.path c.args.change) (c.in_ok-keep.ensures.kept.present ∙ c.in_ok-operation.ensures.same) in
     accepted {X = ℕ}
     ((c.in_ok-operation.ensures.tells (versions_since (lake_value c.self.inside.opened.value) c.self.inside.history.items) c.self.invariant.stands.versions).0)
@@ -134,5 +134,5 @@ returns-clause-leaves g c =
     (stage c.args.repo.now c.args.branch.now c.args.path c.args.change (lake_value c.self.inside.present)) _ _ ready.operation ready.puts
     _ _ _ _ _ (record { keeper = c.keep.new.keeper; history = c.keep.new.history.items; present = c.keep.new.present }) c.in_ok-operation.ensures.same refl _
     c.self.view_is _ c.in_ok-keep.ensures.kept
-    (c.stage.ensures
+    (c.stage.ensures.made
     ∙ ap (after_stage c.args.repo.now c.args.branch.now c.args.path c.args.change) (c.in_ok-keep.ensures.kept.present ∙ c.in_ok-operation.ensures.same))

@@ -60,7 +60,7 @@ invariant_of-self-2 g c =
     let may = c.laws_of_tickets.ensures.take _ _ _ c.args.by c.args.repo.now c.args.branch.now c.self.invariant.stands none in
     record {
       stands = made_stands may _ _ _ c.in_ok-operation.ensures.ready.operation c.in_ok-keep.ensures.kept.history
-          (c.take_ticket.ensures ∙ ap (after_ticket_take c.args.by.seat) (c.in_ok-keep.ensures.kept.present ∙ c.in_ok-operation.ensures.same));
+          (c.take_ticket.ensures.made ∙ ap (after_ticket_take c.args.by.seat) (c.in_ok-keep.ensures.kept.present ∙ c.in_ok-operation.ensures.same));
       keeper = kept_made _ _ _ _ _ c.self.invariant.keeper _ c.in_ok-keep.ensures.kept;
     }
 
@@ -68,7 +68,7 @@ pub returns-clause-reply : goal.returns-clause-reply
 unfolding lake_value
 returns-clause-reply g c =
     accepted {X = (ℕ × ℕ)} (c.in_ok-test_write.ensures) (ap (λ at. (at, c.self.inside.present.next_number)) (c.place.ensures
-    ∙ ap (λ l. l.entries) (c.take_ticket.ensures ∙ ap (after_ticket_take c.args.by.seat) (c.in_ok-keep.ensures.kept.present ∙ c.in_ok-operation.ensures.same))))
+    ∙ ap (λ l. l.entries) (c.take_ticket.ensures.made ∙ ap (after_ticket_take c.args.by.seat) (c.in_ok-keep.ensures.kept.present ∙ c.in_ok-operation.ensures.same))))
     ∙ at_present (λ s given. take_ticket_reply s c.args.repo.now c.args.branch.now) c.self.view_is c.self.invariant.stands.replayed
 
 pub returns-clause-leaves : goal.returns-clause-leaves
@@ -78,7 +78,7 @@ returns-clause-leaves g c =
     c.in_ok-operation.ensures.ready.puts
     _ _ _ _ _ (record { keeper = c.keep.new.keeper; history = c.keep.new.history.items; present = c.keep.new.present }) c.in_ok-operation.ensures.same (refl) _
     c.self.view_is _ c.in_ok-keep.ensures.kept
-    (c.take_ticket.ensures ∙ ap (after_ticket_take c.args.by.seat) (c.in_ok-keep.ensures.kept.present ∙ c.in_ok-operation.ensures.same))
+    (c.take_ticket.ensures.made ∙ ap (after_ticket_take c.args.by.seat) (c.in_ok-keep.ensures.kept.present ∙ c.in_ok-operation.ensures.same))
 
 pub ready_ticket-requires : goal.ready_ticket-requires
 ready_ticket-requires g c =
