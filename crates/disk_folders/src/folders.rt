@@ -3,8 +3,8 @@
 ghost use Rattle.std.specs.Prelude.{◌≡◌, Err};
 ghost use Rattle.block_store.specs.Blocks.{FailsByFault};
 
-use folder_blocks::FolderBlocks;
-use kv_sqlite::KvSqlite;
+use crate::objects::FolderObjects;
+use crate::pairs::FolderPairs;
 use lake_base::{Text, Trouble};
 use lake_folders::Folders;
 use std::alloc::Global;
@@ -45,9 +45,9 @@ impl<'a> DiskFolders<'a> {
 impl<'a> Folders for DiskFolders<'a> {
     ghost use Rattle.std.specs.Prelude.{None};
 
-    type Pairs = KvSqlite;
+    type Pairs = FolderPairs;
 
-    type Objects = FolderBlocks<HostRuntime>;
+    type Objects = FolderObjects;
 
     ghost pairs = { λ _ _. None };
 
@@ -59,25 +59,25 @@ impl<'a> Folders for DiskFolders<'a> {
 
     ghost faults = { λ folders. folders.faults };
 
-    fn keeper(&mut self, folder: &Text) -> Result<KvSqlite, Trouble> {
-        match KvSqlite::at(self.rt, self.alloc, folder) {
+    fn keeper(&mut self, folder: &Text) -> Result<FolderPairs, Trouble> {
+        match FolderPairs::at(self.rt, self.alloc, folder) {
             Ok(keeper) => Ok(keeper),
             Err(trouble) => self.refused(trouble),
         }
     }
 
-    fn blocks(&mut self, folder: &Text) -> Result<FolderBlocks<HostRuntime>, Trouble> {
-        match FolderBlocks::at(*self.rt, self.alloc, folder) {
+    fn blocks(&mut self, folder: &Text) -> Result<FolderObjects, Trouble> {
+        match FolderObjects::at(self.rt, self.alloc, folder) {
             Ok(blocks) => Ok(blocks),
             Err(trouble) => self.refused(trouble),
         }
     }
 
-    fn back(&mut self, keeper: KvSqlite) {
+    fn back(&mut self, keeper: FolderPairs) {
         let _ended = keeper;
     }
 
-    fn back_blocks(&mut self, blocks: FolderBlocks<HostRuntime>) {
+    fn back_blocks(&mut self, blocks: FolderObjects) {
         let _ended = blocks;
     }
 }

@@ -1,5 +1,6 @@
 //! The folders of the machine.
 //!
+//! - `pairs`, `objects`: the keeper and the store of a folder, each a type without parameters.
 //! - `folders`: `DiskFolders`, which opens a folder's keeper of pairs and its stores of objects, and counts failures.
 //!
 //! The promise to the layer above: it opens folders. Failed is answered only with a count that rose. No contract can
@@ -7,5 +8,9 @@
 #![tactic(auto)]
 
 pub mod folders;
+pub mod objects;
+pub mod pairs;
 
 pub use folders::DiskFolders;
+pub use objects::FolderObjects;
+pub use pairs::FolderPairs;

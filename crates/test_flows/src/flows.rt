@@ -4,10 +4,9 @@ ghost use Rattle.std.specs.Prelude.{◌≡◌, IfOk};
 use crate::desk::Desk;
 use crate::sealer::{Beside, Sealer};
 use block_store::{BlockFail, MemoryBlocks};
+use fresh_lakes::fresh_lake;
 use keeper::SureKeeper;
 use lake_base::{RefName, RepoName};
-use lake_core::Lake;
-use lake_format::USUAL_CUT;
 use shared_lake::{LakeSeat, Shared};
 use std::alloc::Global;
 use std::sync::Wait;
@@ -17,9 +16,7 @@ use std::test::Fail;
 fn open(alloc: Global) -> Result<(Shared<SureKeeper>, LakeSeat, LakeSeat), Fail>
     ensures { IfOk result (λ r. (r.1.turn ≡ r.0) × (r.2.turn ≡ r.0)) }
 {
-    let keeper = SureKeeper::holding(alloc, Vec::new(alloc));
-    let lake = Lake::opened(alloc, keeper, USUAL_CUT).ok().ok_or("a lake")?;
-    let (shared, mut seats) = Shared::new(alloc, lake, 2).ok().ok_or("memory")?;
+    let (shared, mut seats) = fresh_lake(alloc, 2).ok().ok_or("memory")?;
     let one = seats.remove(1);
     Ok((shared, seats.remove(0), one))
 }

@@ -1,4 +1,6 @@
 //! A seat's calls that make new heads, answered in words.
+ghost use Rattle.std.specs.Prelude.{◌≡◌, IfOk};
+
 use crate::desk::Desk;
 use crate::sealer::Sealer;
 use commit_flow::{CommitFault, FlowAnswer, cherry_pick, commit, merge, revert};
@@ -17,7 +19,9 @@ use std::test::Fail;
 type Answer = FlowAnswer<(u64, CommitId, CommitRecord), CommitFault>;
 
 // What is said of a commit: by `me`, at 7.
-fn said(alloc: Global) -> Result<About, Fail> {
+fn said(alloc: Global) -> Result<About, Fail>
+    ensures { IfOk result (λ about. about.date ≡ 7) }
+{
     let committer = Text::read(alloc, b"me", 128)?;
     let message = Text::read(alloc, b"m", 128)?;
     if !CommitCall::fits(&committer, &message) {

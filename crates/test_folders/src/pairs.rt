@@ -4,7 +4,6 @@ ghost use Rattle.lake_base.specs.Maps.{HasAscendingKeys};
 ghost use Rattle.keeper.specs.Keepers.{entries_of};
 
 use keeper::{Keeper, MemoryKeeper, are_ascending};
-use lake_base::Sequence;
 use lake_format::USUAL_CUT;
 use lake_opening::{OpenFault, open_lake};
 use pair_format::Pair;
@@ -63,36 +62,5 @@ fn without_the_counts_the_first_pair_is_broken(rt: HostRuntime) -> Result<(), Fa
     }
     assert!(rt; gone);
     assert_eq!(rt; broken_pair(alloc, left)?, Some(0));
-    Ok(())
-}
-
-// The same bytes, but for the last one.
-fn changed(bytes: Sequence<u8>) -> Sequence<u8> {
-    let mut bytes = bytes.into_vec();
-    if let Some(last) = bytes.pop() {
-        // (There is room for it.)
-        if bytes.push(last ^ 1).is_err() {
-            bytes.clear();
-        }
-    }
-    Sequence::of(bytes)
-}
-
-#[test]
-fn a_commit_of_another_byte_is_broken_behind_the_branch(rt: HostRuntime) -> Result<(), Fail> {
-    let alloc = rt.alloc();
-    let mut pairs = Vec::new(alloc);
-    for pair in fresh_pairs(alloc)? {
-        if letter(&pair) == Some(b'C') {
-            let Pair { key, value } = pair;
-            pairs.push(Pair {
-                key,
-                value: changed(value),
-            })?;
-        } else {
-            pairs.push(pair)?;
-        }
-    }
-    assert_eq!(rt; broken_pair(alloc, pairs)?, Some(1));
     Ok(())
 }

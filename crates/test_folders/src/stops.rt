@@ -23,8 +23,7 @@ static CATS: &str = "fs cat lakefs://quickstart/main/a\nfs cat lakefs://quicksta
 fs cat lakefs://quickstart/main~1/a\nfs cat lakefs://quickstart/main/a\n";
 
 // What a lake has, whose objects aren't at hand.
-static LISTS: &str =
-    "fs ls lakefs://quickstart/main/\ndiff lakefs://quickstart/main\nlog lakefs://quickstart/main\n";
+static LISTS: &str = "fs ls lakefs://quickstart/main/\nlog lakefs://quickstart/main\n";
 
 // What a batch on the lake of the folder comes to, whose keeper fails at these calls, and has no pairs.
 fn run_fresh<R: Threads + Wait + Sync>(
