@@ -1,6 +1,7 @@
 //! Clocks that give fixed moments, for tests and for runs without a system's clock.
-ghost use Rattle.std.specs.Prelude.{◌≡◌, ◌++◌, ◌∷◌, [], IfSome, IsSome};
+ghost use Rattle.std.specs.Prelude.{◌≡◌, ◌<◌, ◌+◌, ◌++◌, ◌∷◌, [], length, IfSome, IsSome};
 ghost use Rattle.lake_base.specs.Memory.{next_count};
+ghost use Rattle.lake_base.specs.Outside.{last_count};
 ghost use Rattle.lake_base.specs.Clocks.{fixed_readings, script_readings, moment_after};
 
 use crate::outside::Clock;
@@ -37,6 +38,8 @@ impl Clock for FixedClock {
         ensures reading { IfSome (fixed_readings self.new) (λ now. IfSome (fixed_readings self.old)
             (λ before. now ≡ before ++ result ∷ [])) }
         ensures told { IfSome (fixed_readings self.new) (λ _. IsSome (fixed_readings self.old)) }
+        ensures kept { IfSome (fixed_readings self.old)
+            (λ before. length before + 1 < last_count → IsSome (fixed_readings self.new)) }
 
         // It gives its moment, also where the readings are no longer told.
         ensures moment { result ≡ self.old.at }
@@ -93,6 +96,8 @@ impl Clock for ScriptClock {
         ensures reading { IfSome (script_readings self.new) (λ now. IfSome (script_readings self.old)
             (λ before. now ≡ before ++ result ∷ [])) }
         ensures told { IfSome (script_readings self.new) (λ _. IsSome (script_readings self.old)) }
+        ensures kept { IfSome (script_readings self.old)
+            (λ before. length before + 1 < last_count → IsSome (script_readings self.new)) }
 
         // It goes on in turn, also where the readings are no longer told.
         ensures moment { result ≡ moment_after self.old.moments self.old.given }

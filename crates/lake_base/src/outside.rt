@@ -1,7 +1,7 @@
 //! What stands outside the lake: sources, sinks and clocks.
-ghost use Rattle.std.specs.Prelude.{◌≡◌, ◌≤◌, ◌++◌, ◌∷◌, [], ℕ, List, Option, length, take, IfOk, IfSome, OnErr};
-ghost use Rattle.std.specs.Prelude.{IsSome};
-ghost use Rattle.lake_base.specs.Outside.{HasCause, Reads, Takes};
+ghost use Rattle.std.specs.Prelude.{◌≡◌, ◌≤◌, ◌<◌, ◌+◌, ◌++◌, ◌∷◌, [], ℕ, List, Option, length, take};
+ghost use Rattle.std.specs.Prelude.{IfOk, IfSome, IsSome, OnErr};
+ghost use Rattle.lake_base.specs.Outside.{HasCause, Reads, Takes, last_count};
 ghost use Rattle.lake_base.specs.declared.outside.Trouble.TheVariants.{NoMemory as trouble_no_memory};
 
 use std::alloc::{AllocError, AllocFailed};
@@ -102,5 +102,9 @@ pub trait Clock: Drop {
     fn now(&mut self) -> u64
         ensures reading { IfSome (readings self.new)
             (λ now. IfSome (readings self.old) (λ before. now ≡ before ++ result ∷ [])) }
-        ensures told { IfSome (readings self.new) (λ _. IsSome (readings self.old)) };
+        ensures told { IfSome (readings self.new) (λ _. IsSome (readings self.old)) }
+
+        // A clock that tells its readings goes on telling them, as long as their count isn't at its end.
+        ensures kept { IfSome (readings self.old)
+            (λ before. length before + 1 < last_count → IsSome (readings self.new)) };
 }

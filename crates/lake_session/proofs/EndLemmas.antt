@@ -14,7 +14,7 @@ use Rattle.lake_session.specs.declared.report.End.{End}
 use Rattle.lake_session.specs.declared.report.End.TheVariants as end
 use Rattle.lake_session.specs.declared.report.Placed.{Placed}
 use Rattle.lake_session.specs.declared.report.SessionReport.{SessionReport}
-use Rattle.lake_session.specs.SessionItems.{AreFirst, SessionItem, call_item, item_text, placed_item, placed_items, texts}
+use Rattle.lake_session.specs.SessionItems.{AreFirst, KeepsTelling, SessionItem, call_item, item_text, placed_item, placed_items, texts}
 use Rattle.lake_session.specs.SessionTexts.{last_reply}
 use Rattle.lake_session.specs.SessionTurns.{EndsSo, IsLeft, IsTurn, ServesInPart, ServesWhole, Tally, TurnEnds}
 use Rattle.lake_session.specs.SessionViews.{SessionView}
@@ -25,6 +25,7 @@ use Rattle.lake_session.proofs.SoFarLemmas.{AreAllServed, Behind, HasRead, HasTo
 -- what is said of items, however the session ended behind them
 pub record Items (old next : SessionView) (items : List SessionItem) (edge : ℕ) : Type 0 where
   pub told : HasTold old.readings next.readings items
+  pub kept : KeepsTelling (length items) old.readings next.readings
   pub goes : GoesThrough old.seat next.seat
   pub served : AreAllServed old.seat next.seat items edge
   pub counted : AreCounted next.seat old.store items next.store
@@ -89,6 +90,7 @@ session_of old next items rest edge report of_items ending from to = record {
   read_faults = of_items.rose.0;
   write_faults = of_items.rose.1;
   moment = of_items.told;
+  kept = of_items.kept;
   goes = of_items.goes;
   edge = edge;
   history = λ origin is. record {
@@ -120,6 +122,7 @@ unserved_items : (old now next : SessionView) (tally tally_next : Tally) (items 
     → EndsSo now next tally tally_next ended → Rises now next → Items old next items tally.edge
 unserved_items old now next tally tally_next items ended so ends rise = record {
   told = subst (λ r. HasTold old.readings r items) (sym ends.nothing.readings) so.told;
+  kept = subst (KeepsTelling (length items) old.readings) (sym ends.nothing.readings) so.kept;
   goes = subst (GoesThrough old.seat) (sym ends.nothing.seat) so.goes;
   served = subst (λ s. AreAllServed old.seat s items tally.edge) (sym ends.nothing.seat) so.served;
   counted = subst (λ s. AreCounted s old.store items next.store) (sym ends.nothing.seat)
@@ -224,6 +227,7 @@ behind_items : (number : ℕ) (old next : SessionView) (tally : Tally) (items : 
     → Behind number old next tally items item → Rises old next → Items old next (items ++ item ∷ []) tally.edge
 behind_items number old next tally items item behind rise = record {
   told = behind.told;
+  kept = behind.kept;
   goes = behind.goes;
   served = behind.served;
   counted = behind.counted;
@@ -331,6 +335,7 @@ ends_at_limit old now tally items report all so is placed from to =
     session_of old now items (Some tally.held) tally.edge report
     (record {
       told = so.told;
+      kept = so.kept;
       goes = so.goes;
       served = so.served;
       counted = so.counted;

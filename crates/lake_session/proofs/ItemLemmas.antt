@@ -40,6 +40,10 @@ pub moments_more : (items : List SessionItem) (item : SessionItem) → moments (
 moments_more [] item = refl
 moments_more (one ∷ items) item = ap (λ later. one.moment ∷ later) (moments_more items item)
 
+pub moments_long : (items : List SessionItem) → length items ≡ length (moments items)
+moments_long [] = refl
+moments_long (one ∷ items) = ap suc (moments_long items)
+
 pub texts_more : (number : ℕ) (items : List SessionItem) (item : SessionItem)
     → texts number (items ++ item ∷ []) ≡ texts number items ++ item_text (number + length items) item
 texts_more number [] item = append-nil (item_text number item) ∙ ap (λ n. item_text n item) (omega arith)

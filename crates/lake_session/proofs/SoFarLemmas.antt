@@ -1,6 +1,6 @@
 -- A session so far: requests were served, each reply was written, and no client asked for the connection to close.
 use Rattle.std.proofs.Common.{◌≡◌, ◌+◌, ◌≤◌, ℕ, true, false, List, [], ◌∷◌, ◌++◌, All, map, length, max, Option, Some, None, IfSome, Ok}
-use Rattle.std.proofs.Common.{refl, sym, ap, subst, ◌∙◌, append_assoc, append-nil, arith}
+use Rattle.std.proofs.Common.{refl, sym, ap, subst, ◌∙◌, append_assoc, append-nil, length-append, arith}
 use Rattle.std.proofs.lemmas.List.Elements.{All-append, All-cons, All-head, All-nil, All-tail}
 use Rattle.block_store.specs.Blocks.{HeldObjects}
 use Rattle.http_wire.specs.Filling.{Gave}
@@ -15,11 +15,13 @@ use Rattle.call_placement.proofs.ServedLemmas.{one_more}
 use Rattle.lake_calls.specs.LakeRules.{lake_rules}
 use Rattle.lake_calls.specs.Requests.{form_of}
 use Rattle.api_forms.specs.CallForms.{asked}
-use Rattle.lake_session.specs.SessionItems.{AreFirst, NoneCloses, SessionItem, call_item, item_text, moments, placed_item, placed_items, texts}
+use Rattle.lake_session.specs.SessionItems.{AreFirst, KeepsTelling, NoneCloses, SessionItem, call_item, item_text, moments, placed_item, placed_items}
+use Rattle.lake_session.specs.SessionItems.{texts}
 use Rattle.lake_session.specs.SessionTurns.{ServesWhole, Tally}
 use Rattle.lake_session.specs.SessionViews.{HasCounted, ServesItem, SessionView, StoreView, TakesRequest}
 use Rattle.lake_session.specs.WholeSessions.{AllTellHeld, AreCounted, GoesThrough, TellsGivenTo, TellsHeld}
-use Rattle.lake_session.proofs.ItemLemmas.{calls_long, calls_more, first_longer, first_more, moments_more, placed_more, texts_more}
+use Rattle.lake_session.proofs.ClockLemmas.{keeps_more, keeps_none}
+use Rattle.lake_session.proofs.ItemLemmas.{calls_long, calls_more, first_longer, first_more, moments_long, moments_more, placed_more, texts_more}
 use Rattle.lake_session.proofs.SeatLemmas.{fits_at_first, fits_further, goes_further, moved_origin, seen_more, stays}
 
 -- the calls of items were served, from one seat to the other
@@ -38,6 +40,7 @@ HasTold readings readings_now items = IfSome readings_now (λ now. (before : Lis
 pub record SoFar (old now : SessionView) (tally : Tally) (items : List SessionItem) : Type 0 where
   pub read : HasRead old.unread now.unread tally.held items
   pub told : HasTold old.readings now.readings items
+  pub kept : KeepsTelling (length items) old.readings now.readings
   pub goes : GoesThrough old.seat now.seat
   pub served : AreAllServed old.seat now.seat items tally.edge
   pub counted : AreCounted now.seat old.store items now.store
@@ -169,6 +172,7 @@ pub begins : (at : SessionView) → SoFar at at (record { placed = []; edge = le
 begins at = record {
   read = read_none at.unread;
   told = told_none at.readings;
+  kept = keeps_none at.readings;
   goes = stays at.seat;
   served = λ origin from. (refl, refl);
   counted = refl;
@@ -184,6 +188,7 @@ begins at = record {
 pub record Behind (number : ℕ) (old next : SessionView) (tally_next : Tally) (items : List SessionItem) (item : SessionItem) : Type 0 where
   pub read : HasRead old.unread next.unread tally_next.held (items ++ item ∷ [])
   pub told : HasTold old.readings next.readings (items ++ item ∷ [])
+  pub kept : KeepsTelling (length (items ++ item ∷ [])) old.readings next.readings
   pub goes : GoesThrough old.seat next.seat
   pub served : AreAllServed old.seat next.seat (items ++ item ∷ []) tally_next.edge
   pub counted : AreCounted next.seat old.store (items ++ item ∷ []) next.store
@@ -198,9 +203,12 @@ goes_behind number old now next tally tally_next items item at so serves =
     let origin_is = ap (λ (s : LakeSeat). s.origin) so.goes.seat in
     let alone_is = ap (λ (s : LakeSeat). s.alone) so.goes.seat in
     let more = seen_more number now.seat next.seat serves.moves in
+    let long : length items + 1 ≡ length (items ++ item ∷ []) = omega (arith, length-append items (item ∷ [])) in
     record {
       read = read_more old.unread now.unread next.unread tally.held tally_next.held items item so.read serves.request;
       told = told_more old.readings now.readings next.readings items item so.told serves.moment serves.clock_told;
+      kept = subst (λ (n : ℕ). KeepsTelling n old.readings next.readings) long
+          (keeps_more old.readings now.readings next.readings (moments items) (length items) (moments_long items) so.told so.kept serves.clock_kept);
       goes = goes_further number old.seat now.seat next.seat so.goes serves.moves;
       served = served_more number old.seat now.seat next.seat items item tally.edge serves.call_edge tally_next.edge at number_is origin_is
           serves.edge_is so.served serves.served;
@@ -236,6 +244,7 @@ one_further number old now next tally tally_next items item at so serves stays_o
     record {
       read = behind.read;
       told = behind.told;
+      kept = behind.kept;
       goes = behind.goes;
       served = behind.served;
       counted = behind.counted;

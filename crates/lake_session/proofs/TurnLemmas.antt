@@ -21,7 +21,7 @@ use Rattle.lake_session.specs.declared.report.End.{End}
 use Rattle.lake_session.specs.declared.report.End.TheVariants as end
 use Rattle.lake_session.specs.FaultEnds.{EndsBehind, EndsByFault}
 use Rattle.lake_session.specs.PrintedAnswers.{IsPrinted, Starved, StarvedForm, Whole, sent_by, tells_form, told_by}
-use Rattle.lake_session.specs.SessionItems.{SessionItem, item_text, placed_item}
+use Rattle.lake_session.specs.SessionItems.{KeepsTelling, SessionItem, item_text, placed_item}
 use Rattle.lake_session.specs.SessionTexts.{Writes, last_reply, reply_to_fault, told_text}
 use Rattle.lake_session.specs.SessionTurns.{EndsSo, EndsUnserved, IsLeft, NothingServed, ServesWhole, Tally, TurnEnds, end_behind}
 use Rattle.lake_session.specs.SessionViews.{IsRequestAnswered, ServesItem, SessionView, TakesRequest}
@@ -151,11 +151,13 @@ module _ (number edge moment : ℕ) (request : Request) (old now : SessionView) 
   pub serves : (next_edge : ℕ) (held held_now : List ℕ) → IsPrinted now.seat answer printed → next_edge ≡ max edge printed.edge
       → TakesRequest held held_now old.unread now.unread (Ok request)
       → IfSome now.readings (λ readings. IfSome old.readings (λ before. readings ≡ before ++ moment ∷ []))
-      → IfSome now.readings (λ readings. (before : List ℕ) × (old.readings ≡ Some before)) → ServesItem number edge next_edge held held_now old now item
-  serves next_edge held held_now is_printed edge_is reads clock clock_told = record {
+      → IfSome now.readings (λ readings. (before : List ℕ) × (old.readings ≡ Some before)) → KeepsTelling 1 old.readings now.readings
+      → ServesItem number edge next_edge held held_now old now item
+  serves next_edge held held_now is_printed edge_is reads clock clock_told clock_kept = record {
     request = reads;
     moment = clock;
     clock_told = clock_told;
+    clock_kept = clock_kept;
     call_edge = printed.edge;
     served = is_placed is_printed;
     edge_is = edge_is;

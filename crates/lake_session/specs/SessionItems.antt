@@ -1,5 +1,6 @@
 -- The requests of a session, and what became of them.
-use Rattle.std.specs.Prelude.{◌≡◌, ◌+◌, ℕ, Bool, true, false, List, [], ◌∷◌, ◌++◌, All, Ok}
+use Rattle.std.specs.Prelude.{◌≡◌, ◌<◌, ◌+◌, ℕ, Bool, true, false, List, [], ◌∷◌, ◌++◌, All, length, Option, IfSome, IsSome, Ok}
+use Rattle.lake_base.specs.Outside.{last_count}
 use Rattle.http_wire.specs.declared.message.Request.{Request}
 use Rattle.http_wire.specs.Messages.{ReadsRequestAt}
 use Rattle.call_placement.specs.Sessions.{Item}
@@ -37,6 +38,10 @@ AreFirst (item ∷ items) bytes rest = (behind : List ℕ) × ReadsRequestAt byt
 abbrev pub moments : List SessionItem → List ℕ
 moments [] = []
 moments (item ∷ items) = item.moment ∷ moments items
+
+-- a clock that told its readings before tells them now, as long as their number, with so many more, is below the last value of a count
+abbrev pub KeepsTelling : (more : ℕ) → (before now : Option (List ℕ)) → Type 0
+KeepsTelling more before now = IfSome before (λ readings. length readings + more < last_count → IsSome now)
 
 -- what is written of the item of a number
 abbrev pub item_text : (number : ℕ) → SessionItem → List ℕ

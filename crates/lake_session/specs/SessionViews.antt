@@ -12,7 +12,7 @@ use Rattle.lake_calls.specs.LakeRules.{lake_rules}
 use Rattle.lake_calls.specs.Requests.{Asks, form_of}
 use Rattle.lake_calls.specs.declared.call.Call.{Call}
 use Rattle.api_forms.specs.CallForms.{asked}
-use Rattle.lake_session.specs.SessionItems.{SessionItem, call_item}
+use Rattle.lake_session.specs.SessionItems.{KeepsTelling, SessionItem, call_item}
 
 -- what a store of objects shows: what it holds, where it tells that; its faults, its misses, and the number missed last
 pub record StoreView : Type 0 where
@@ -70,6 +70,7 @@ pub record ServesItem (number edge next_edge : ℕ) (held held_now : List ℕ) (
   pub request : TakesRequest held held_now old.unread now.unread (Ok item.request)
   pub moment : IfSome now.readings (λ readings. IfSome old.readings (λ before. readings ≡ before ++ item.moment ∷ []))
   pub clock_told : IfSome now.readings (λ readings. (before : List ℕ) × (old.readings ≡ Some before))
+  pub clock_kept : KeepsTelling 1 old.readings now.readings
   pub call_edge : ℕ
   pub served : (origin : LakeOrigin) → old.seat.origin ≡ Some origin
       → IsItemServed lake_rules (opened_state origin) (caller old.seat.number number) edge old.seat.seen now.seat.seen (call_item item)

@@ -26,7 +26,8 @@ use Rattle.lake_session.specs.declared.report.End.{End}
 use Rattle.lake_session.specs.declared.report.End.TheVariants as end
 use Rattle.lake_session.specs.declared.report.Placed.{Placed}
 use Rattle.lake_session.specs.declared.report.SessionReport.{SessionReport}
-use Rattle.lake_session.specs.SessionItems.{AreFirst, NoneCloses, SessionItem, call_item, item_text, moments, placed_item, placed_items, texts}
+use Rattle.lake_session.specs.SessionItems.{AreFirst, KeepsTelling, NoneCloses, SessionItem, call_item, item_text, moments, placed_item, placed_items}
+use Rattle.lake_session.specs.SessionItems.{texts}
 use Rattle.lake_session.specs.SessionTexts.{last_reply, reply_to_fault}
 use Rattle.lake_session.specs.SessionTurns.{IsLastReply, IsLeft}
 use Rattle.lake_session.specs.SessionViews.{HasCounted, SessionView, StoreView}
@@ -144,9 +145,9 @@ HasCause old now ended = ⊤
 -- answered, and what its client was told.
 --
 -- The requests are the first messages of the bytes that the source gave, and all of them unless the session ended before. The moments
--- are the clock's next readings. The calls are placed in one legal history, in which each accepted change of theirs stands once, and
--- none lies before anything that their client had seen. What was written is the printed replies, in order, and the report tells of
--- each whether it was.
+-- are the clock's next readings, and it goes on telling them, as long as it can count them. The calls are placed in one legal history,
+-- in which each accepted change of theirs stands once, and none lies before anything that their client had seen. What was written is
+-- the printed replies, in order, and the report tells of each whether it was.
 pub record IsSession (old now : SessionView) (report : SessionReport) : Type 0 where
   pub items : List SessionItem
   pub rest : Option (List ℕ)
@@ -154,6 +155,7 @@ pub record IsSession (old now : SessionView) (report : SessionReport) : Type 0 w
   pub read_faults : old.read_faults ≤ now.read_faults
   pub write_faults : old.write_faults ≤ now.write_faults
   pub moment : IfSome now.readings (λ readings. (before : List ℕ) × (old.readings ≡ Some before) × (readings ≡ before ++ moments items))
+  pub kept : KeepsTelling (length items) old.readings now.readings
   pub goes : GoesThrough old.seat now.seat
   pub edge : ℕ
   pub history : (origin : LakeOrigin) → old.seat.origin ≡ Some origin → ServesAll origin old.seat now.seat items edge

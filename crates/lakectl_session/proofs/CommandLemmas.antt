@@ -16,6 +16,7 @@ use Rattle.lakectl_commands.specs.SavedReplies.{MayHaveSaved, Saves, reply_shown
 use Rattle.lakectl_commands.specs.Sendings.{IsSending}
 use Rattle.lakectl_commands.specs.ShownTexts.{bad_line_shown, nothing_shown}
 use Rattle.lakectl_commands.specs.declared.sending.Sending.{Sending}
+pub use Rattle.lake_session.proofs.ItemLemmas.{moments_long}
 pub use Rattle.lake_session.proofs.SeatLemmas.{fits_at_first, fits_further, goes_twice, stays}
 pub use Rattle.lake_session.proofs.TextLemmas.{starved_text}
 use Rattle.lakectl_session.specs.Exchanges.{LakeView}

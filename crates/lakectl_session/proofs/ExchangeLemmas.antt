@@ -245,6 +245,7 @@ module _ (request : Request) (text : List ℕ) (closing : IsClosingText request 
         quiet = never_read_fault s.left s.out s.faults s.report.end session.cause;
         serves = record {
           moment = session.moment;
+          kept = session.kept;
           goes = session.goes;
           edge = session.edge;
           history = session.history;

@@ -1,5 +1,5 @@
 -- What comes of a request that a session of its own serves.
-use Rattle.std.specs.Prelude.{◌≡◌, ◌++◌, ℕ, List, [], ◌∷◌, Option, Some, None, IfSome, Ok, Err}
+use Rattle.std.specs.Prelude.{◌≡◌, ◌++◌, ℕ, List, [], ◌∷◌, length, Option, Some, None, IfSome, Ok, Err}
 use Rattle.http_wire.specs.ReplyText.{reply_text}
 use Rattle.http_wire.specs.declared.fault.WireFault.{WireFault}
 use Rattle.http_wire.specs.declared.message.Reply.{Reply}
@@ -8,7 +8,7 @@ use Rattle.lakectl_requests.specs.SentReadings.{read_back}
 use Rattle.lake_core.specs.declared.standing.LakeOrigin.{LakeOrigin}
 use Rattle.shared_lake.specs.SeatSteps.{LakeSeat}
 use Rattle.lake_session.specs.AnswerWords.{KeepsFitting}
-pub use Rattle.lake_session.specs.SessionItems.{SessionItem, call_item, item_text, moments}
+pub use Rattle.lake_session.specs.SessionItems.{KeepsTelling, SessionItem, call_item, item_text, moments}
 pub use Rattle.lake_session.specs.SessionTexts.{closes_behind, last_reply, reply_to_fault, told_text}
 pub use Rattle.lake_session.specs.SessionViews.{StoreView}
 use Rattle.lake_session.specs.WholeSessions.{AllTellHeld, ServesAll}
@@ -20,10 +20,11 @@ pub record LakeView : Type 0 where
   pub store : StoreView
   pub seat : LakeSeat
 
--- THE ITEMS OF A SESSION WERE SERVED, all of them, and nothing else was done: at the clock's next readings, and placed in one legal
--- history behind what the seat had seen.
+-- THE ITEMS OF A SESSION WERE SERVED, all of them, and nothing else was done: at the clock's next readings, which it goes on telling as
+-- long as it can count them, and placed in one legal history behind what the seat had seen.
 pub record ServesItems (old now : LakeView) (items : List SessionItem) : Type 0 where
   pub moment : IfSome now.readings (λ readings. (before : List ℕ) × (old.readings ≡ Some before) × (readings ≡ before ++ moments items))
+  pub kept : KeepsTelling (length items) old.readings now.readings
   pub goes : GoesThrough old.seat now.seat
   pub edge : ℕ
   pub history : (origin : LakeOrigin) → old.seat.origin ≡ Some origin → ServesAll origin old.seat now.seat items edge

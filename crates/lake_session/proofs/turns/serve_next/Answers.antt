@@ -90,7 +90,8 @@ returns g c =
     let one : SessionItem = item c.args.number edge c.now-moment.result request old now c.answer_request-answered.result answers printed in
     let serves_one = serves c.args.number edge c.now-moment.result request old now c.answer_request-answered.result answers printed c.later.result
     held held_now is_printed c.later.ensures c.in-Ok.ensures.takes c.now-moment.ensures.reading
-    (clock_told (g.C.Clock.readings c.now-moment.new.self) (g.C.Clock.readings c.args.clock.now) c.now-moment.ensures.told) in
+    (clock_told (g.C.Clock.readings c.now-moment.new.self) (g.C.Clock.readings c.args.clock.now) c.now-moment.ensures.told)
+    c.now-moment.ensures.kept in
     let text : reply_text (sent_by c.closes_behind.result printed.reply) ≡ item_text c.args.number one =
     sends c.args.number edge c.now-moment.result request old now c.answer_request-answered.result answers printed is_printed c.closes_behind.result
     ∙ ap (λ close. told_text close one.told) c.closes_behind.ensures in
