@@ -2,14 +2,13 @@
 use Rattle.std.proofs.Common.{◌≡◌, ◌↔◌, ℕ, zero, suc, ◌+◌, ◌<◌, Bool, true, false, cond, eqb, ltb, ◌||◌, List, [], ◌∷◌, length, get_or, Option, Some, None}
 use Rattle.std.proofs.Common.{Result, Ok, Err}
 use Rattle.std.proofs.Common.{IfOk, IsTrue, IsSomeAnd, MatchOption, refl, sym, ap, subst, ◌∙◌, inl, inr, arith}
-use Rattle.std.specs.List.{list_any, slice_get}
+use Rattle.std.specs.List.{AllByRecursion, list_any, slice_get}
 use Rattle.std.specs.Option.{option_and_then}
 use Rattle.std.specs.Result.{result_ok}
 use Rattle.std.proofs.lemmas.Bool.{cases_Bool, ltb-true, ltb-false}
 use Rattle.std.proofs.lemmas.List.{length-map}
 use Rattle.std.proofs.lemmas.Option.{slice_get-get_or, slice_get_read}
 use Rattle.std.proofs.lemmas.Slice.Eq.{bytes_eq-Decides}
-use Rattle.lake_base.specs.Names.{is_like_id}
 use Rattle.lake_format.specs.Reading.{◌>>=◌}
 use Rattle.lake_format.specs.declared.cut.Cut.{Cut}
 use Rattle.lake_format.specs.declared.fields.FieldFault.{FieldFault}
@@ -21,8 +20,11 @@ use Rattle.pair_format.specs.declared.pair.Pair.{Pair}
 use Rattle.pair_format.specs.declared.stored.Stored.{Stored}
 use Rattle.pair_format.specs.declared.stored.Stored.TheVariants as stored
 use Rattle.pair_format.specs.PairReading.{alone, both, pair_from, read_key, read_u64, read_value, value_fields, with_place, key_fields}
-use Rattle.pair_format.specs.PairSpelling.{IsSpelledStored, key_of}
-use Rattle.pair_ties.specs.PairTies.{AreTied, AreTiedBefore, IsFirstBroken, IsTied, IsTiedAt}
+use Rattle.pair_format.specs.PairSpelling.{key_of}
+use Rattle.pair_ties.specs.BrokenPairs.{AreBlamelessBefore, HasPair, IsBlameless, IsBlamelessAt, IsFirstBroken, IsRight, keys_named}
+use Rattle.pair_ties.specs.PairTies.{AreTied}
+use Rattle.pair_ties.proofs.BlameLemmas.{all_are_tied}
+use Rattle.pair_trees.specs.Spelled.{AreSpelled}
 use Rattle.pair_trees.specs.Things.{HasCountsPair, Things, is_counts_pair, thing_at, thing_of, things_of}
 use Rattle.pair_trees.proofs.FoundLemmas.{at_none, at_some}
 use Rattle.pair_trees.proofs.ThingsLemmas.{spells_there}
@@ -95,55 +97,57 @@ some_and None P h = absurd h
 some_and (Some s) P h = (s, refl, h)
 
 -- what is told of what a pair spells
-module _ (cut : Cut) (things : Things) (at : ℕ) where
-  pub tied_as : {E : Type 0} (s t : Stored) → s ≡ t → (r : Result Bool E) → IfOk r (λ tied. IsTrue tied ↔ IsTied cut things at t)
-      → IfOk r (λ tied. IsTrue tied ↔ IsTied cut things at s)
-  tied_as s t is r told = subst (λ x. IfOk r (λ tied. IsTrue tied ↔ IsTied cut things at x)) (sym is) told
+module _ (cut : Cut) (pairs : List Pair) (things : Things) (at : ℕ) where
+  pub right_as : {E : Type 0} (s t : Stored) → s ≡ t → (r : Result Bool E) → IfOk r (λ right. IsTrue right ↔ IsRight cut pairs things at t)
+      → IfOk r (λ right. IsTrue right ↔ IsRight cut pairs things at s)
+  right_as s t is r told = subst (λ x. IfOk r (λ right. IsTrue right ↔ IsRight cut pairs things at x)) (sym is) told
 
-  pub told_as : (s t : Stored) → s ≡ t → (b : Bool) → IsTrue b ↔ IsTied cut things at t → IsTrue b ↔ IsTied cut things at s
-  told_as s t is b told = subst (λ x. IsTrue b ↔ IsTied cut things at x) (sym is) told
+  pub told_as : (s t : Stored) → s ≡ t → (b : Bool) → IsTrue b ↔ IsRight cut pairs things at t → IsTrue b ↔ IsRight cut pairs things at s
+  told_as s t is b told = subst (λ x. IsTrue b ↔ IsRight cut pairs things at x) (sym is) told
 
-  pub tied_at : {E : Type 0} (s : Stored) → thing_at things at ≡ Some s → (r : Result Bool E) → IfOk r (λ tied. IsTrue tied ↔ IsTied cut things at s)
-      → IfOk r (λ tied. IsTrue tied ↔ IsTiedAt cut things at)
-  tied_at s is r told = subst (λ o. IfOk r (λ tied. IsTrue tied ↔ IsSomeAnd o (IsTied cut things at))) (sym is) told
+  pub blameless_at : {E : Type 0} (s : Stored) → thing_at things at ≡ Some s → (r : Result Bool E)
+      → IfOk r (λ blameless. IsTrue blameless ↔ IsBlameless cut pairs things at s) → IfOk r (λ blameless. IsTrue blameless ↔ IsBlamelessAt cut pairs things at)
+  blameless_at s is r told = subst (λ o. IfOk r (λ blameless. IsTrue blameless ↔ IsSomeAnd o (IsBlameless cut pairs things at))) (sym is) told
 
--- the default branch of a repository isn't like an id
-pub plain_default : (s : Stored) (repo : List ℕ) (created : ℕ) (branch : List ℕ) (settings : ℕ) → s ≡ stored.Repository repo created branch settings
-    → IsSpelledStored s → is_like_id branch ≡ false
-plain_default s repo created branch settings is spelled = (subst IsSpelledStored is spelled).valued.1.0.unlike
+  -- where what it names is there, it is blameless if it is right
+  pub named_right : {E : Type 0} (s : Stored) → AllByRecursion (HasPair pairs) (keys_named s) → (r : Result Bool E)
+      → IfOk r (λ right. IsTrue right ↔ IsRight cut pairs things at s) → IfOk r (λ blameless. IsTrue blameless ↔ IsBlameless cut pairs things at s)
+  named_right s named (Ok b) told = (λ e. record { there = named; right = told.0 e }, λ blameless. told.1 blameless.right)
+  named_right s named (Err fault) told = tt
 
 pub at_place : (things : Things) (i : ℕ) (thing : Option Stored) → i < length things → thing ≡ get_or things i thing → thing_at things i ≡ thing
 at_place things i thing lt is = ap (option_and_then (λ thing. thing)) (slice_get_read things (length things) i thing refl lt is)
 
--- one more is tied
-pub tied_more : (cut : Cut) (things : Things) (i : ℕ) → AreTiedBefore cut things i → IsTiedAt cut things i → AreTiedBefore cut things (i + 1)
-tied_more cut things i before here k lt =
+-- one more is blameless
+pub blameless_more : (cut : Cut) (pairs : List Pair) (things : Things) (i : ℕ) → AreBlamelessBefore cut pairs things i → IsBlamelessAt cut pairs things i
+    → AreBlamelessBefore cut pairs things (i + 1)
+blameless_more cut pairs things i before here k lt =
     elim (cases_Bool (ltb k i)) [
       | inl less ↦ before k (ltb-true k i less)
-      | inr more ↦ let same : i ≡ k = omega (arith, lt, ltb-false k i more) in subst (IsTiedAt cut things) same here
+      | inr more ↦ let same : i ≡ k = omega (arith, lt, ltb-false k i more) in subst (IsBlamelessAt cut pairs things) same here
     ]
 
 -- ---- all pairs
 
-module _ (cut : Cut) (pairs : List Pair) (things : Things) (are : things ≡ things_of pairs) (has : HasCountsPair pairs) where
+module _ (cut : Cut) (pairs : List Pair) (things : Things) (are : AreSpelled pairs things) (has : HasCountsPair pairs) where
   long : length things ≡ length pairs
-  long = ap length are ∙ length-map pairs thing_of
+  long = ap length are.same ∙ length-map pairs thing_of
 
-  -- where all are tied, the counts are there
-  pub all_tied : AreTiedBefore cut things (length things) → AreTied cut things
+  -- where none is to blame, the counts are there
+  all_tied : AreBlamelessBefore cut pairs things (length things) → AreTied cut things
   all_tied all =
       let k = has.1.0 in
       let pair : Pair = record { key = 90 ∷ []; value = has.0 } in
-      let tied = some_and (thing_at things k) (IsTied cut things k) (all k (omega (arith, has.1.1, long))) in
+      let spelled = some_and (thing_at things k) (IsBlameless cut pairs things k) (all k (omega (arith, has.1.1, long))) in
       let here : slice_get pairs k ≡ Some pair = slice_get-get_or pairs k pair has.1.1 ∙ ap (λ p. Some p) has.1.2 in
-      let is : thing_at things k ≡ thing_of pair = ap (λ l. thing_at l k) are ∙ placed pairs k pair here in
+      let is : thing_at things k ≡ thing_of pair = ap (λ l. thing_at l k) are.same ∙ placed pairs k pair here in
       record {
         counts = record {
-          thing = tied.0;
-          there = spells_there things k tied.0 tied.1;
-          under = counts_read has.0 tied.0 (sym is ∙ tied.1);
+          thing = spelled.0;
+          there = spells_there things k spelled.0 spelled.1;
+          under = counts_read has.0 spelled.0 (sym is ∙ spelled.1);
         };
-        each = all;
+        each = all_are_tied cut pairs things are all;
       }
     where
       placed : (pairs : List Pair) (k : ℕ) (pair : Pair) → slice_get pairs k ≡ Some pair → thing_at (things_of pairs) k ≡ thing_of pair
@@ -154,22 +158,23 @@ module _ (cut : Cut) (pairs : List Pair) (things : Things) (are : things ≡ thi
           inside h = cc
       placed (p ∷ pairs) (suc k) pair h = placed pairs k pair h
 
-  -- the first that isn't tied is the broken one
-  pub first_is_broken : (at : ℕ) → (at < length things) × AreTiedBefore cut things at × (IsTiedAt cut things at → ⊥) → IsFirstBroken cut pairs at
+  -- the first that is to blame is the broken one
+  first_is_broken : (at : ℕ) → (at < length things) × AreBlamelessBefore cut pairs things at × (IsBlamelessAt cut pairs things at → ⊥)
+      → IsFirstBroken cut pairs at
   first_is_broken at first = inr (record {
     counts = has;
     within = omega (arith, first.0, long);
-    before = subst (λ l. AreTiedBefore cut l at) are first.1;
-    broken = subst (λ l. IsTiedAt cut l at → ⊥) are first.2;
+    before = subst (λ l. AreBlamelessBefore cut pairs l at) are.same first.1;
+    broken = subst (λ l. IsBlamelessAt cut pairs l at → ⊥) are.same first.2;
   })
 
   -- what is told of the first, by tables of the same cut
   module _ (other : Cut) (same : other ≡ cut) (o : Option ℕ)
-      (told : MatchOption o (AreTiedBefore other things (length things))
-      (λ at. (at < length things) × AreTiedBefore other things at × (IsTiedAt other things at → ⊥))) where
+      (told : MatchOption o (AreBlamelessBefore other pairs things (length things))
+      (λ at. (at < length things) × AreBlamelessBefore other pairs things at × (IsBlamelessAt other pairs things at → ⊥))) where
     pub some_broken : (at : ℕ) → o ≡ Some at → IsFirstBroken cut pairs at
-    some_broken at is =
-        first_is_broken at (subst (λ k. (at < length things) × AreTiedBefore k things at × (IsTiedAt k things at → ⊥)) same (at_some _ _ o at told is))
+    some_broken at is = first_is_broken at
+        (subst (λ k. (at < length things) × AreBlamelessBefore k pairs things at × (IsBlamelessAt k pairs things at → ⊥)) same (at_some _ _ o at told is))
 
     pub none_broken : o ≡ None → AreTied cut things
-    none_broken is = all_tied (subst (λ k. AreTiedBefore k things (length things)) same (at_none _ _ o told is))
+    none_broken is = all_tied (subst (λ k. AreBlamelessBefore k pairs things (length things)) same (at_none _ _ o told is))

@@ -16,13 +16,14 @@ use Rattle.lake_model.specs.Uncommitted.{put_number}
 use Rattle.lake_format.specs.declared.cut.Cut.{Cut}
 use Rattle.branch_record.specs.Record.{AreDistinct, is_among}
 use Rattle.pair_format.specs.declared.key.OwnedKey.TheVariants as key
+use Rattle.pair_format.specs.declared.pair.Pair.{Pair}
 use Rattle.pair_format.specs.declared.stored.Stored.{Stored}
 use Rattle.pair_format.specs.declared.stored.Stored.TheVariants as stored
 use Rattle.pair_trees.specs.declared.tables.Tables.{Tables}
 use Rattle.pair_ties.specs.Hidden.{IsHiddenIn, sealed_in}
-use Rattle.pair_ties.specs.PairTies.{AreTiedBefore, IsHidden, IsTied, IsTiedBranch, IsTiedStaged}
+use Rattle.pair_ties.specs.BrokenPairs.{AreBlamelessBefore, HasPair, IsBlameless, IsRightBranch, IsRightStaged, IsSealedOver}
 use Rattle.pair_trees.specs.Tables.{AreTablesOf, first_place, names}
-use Rattle.pair_trees.specs.Things.{HasKey, IsGivenNumber, IsGone, Spells, Things, is_branch, is_staged, thing_at, tokens_named}
+use Rattle.pair_trees.specs.Things.{IsGivenNumber, IsGone, Spells, Things, is_branch, is_staged, thing_at, tokens_named}
 use Rattle.pair_trees.proofs.ThingsLemmas.{spells_there, there_spells, thing_here}
 use Rattle.pair_ties.proofs.TokensLemmas.{first_is, first_none, first_passes, named_any}
 
@@ -75,17 +76,17 @@ first_split (t ∷ newer) (u ∷ some) older others token one two e =
 
 -- ---- one list
 
--- some of these tokens has a change of the path
-abbrev pub HasChange : Things → List ℕ → List ℕ → Type 0
-HasChange things tokens path = (over : ℕ) × Contains tokens over × HasKey things (key.Staged over path)
+-- a pair has the key of a change of the path under one of these tokens
+abbrev pub HasChange : List Pair → List ℕ → List ℕ → Type 0
+HasChange pairs tokens path = (over : ℕ) × Contains tokens over × HasPair pairs (key.Staged over path)
 
 -- the tokens so far aren't this one, and whether one of them has a change is told
-pub record IsLookedAt (things : Things) (tokens : List ℕ) (token : ℕ) (path : List ℕ) (found : Bool) : Type 0 where
+pub record IsLookedAt (pairs : List Pair) (tokens : List ℕ) (token : ℕ) (path : List ℕ) (found : Bool) : Type 0 where
   pub fresh : is_among tokens token ≡ false
-  pub told : (found ≡ true) ↔ HasChange things tokens path
+  pub told : (found ≡ true) ↔ HasChange pairs tokens path
 
-pub none_looked : (things : Things) (token : ℕ) (path : List ℕ) → IsLookedAt things [] token path false
-none_looked things token path = record { fresh = refl; told = (λ e. absurd (no e), λ has. absurd (omega (arith, has.1.1))) }
+pub none_looked : (pairs : List Pair) (token : ℕ) (path : List ℕ) → IsLookedAt pairs [] token path false
+none_looked pairs token path = record { fresh = refl; told = (λ e. absurd (no e), λ has. absurd (omega (arith, has.1.1))) }
   where
     no : false ≡ true → ⊥
     no e = cc
@@ -101,13 +102,13 @@ split_next (t ∷ sealed) (suc i) token lt is = ap (λ l. t ∷ l) (split_next s
 split_at : (sealed : List ℕ) (i token : ℕ) → i < length sealed → token ≡ get_or sealed i token → sealed ≡ take i sealed ++ token ∷ drop (i + 1) sealed
 split_at sealed i token lt is = split_next sealed i token lt is ∙ ap (λ n. take i sealed ++ token ∷ drop n sealed) (sym (add-one i))
 
-module _ (things : Things) (sealed : List ℕ) (token : ℕ) (path : List ℕ) (i : ℕ) (newer : ℕ) (lt : i < length sealed) (is : newer ≡ get_or sealed i newer)
+module _ (pairs : List Pair) (sealed : List ℕ) (token : ℕ) (path : List ℕ) (i : ℕ) (newer : ℕ) (lt : i < length sealed) (is : newer ≡ get_or sealed i newer)
     (found : Bool)
-    (looked : IsLookedAt things (take i sealed) token path found) where
-  pub looked_more : (there : Bool) → (eqb newer token ≡ false) → (there ≡ true) ↔ HasKey things (key.Staged newer path)
-      → IsLookedAt things (take (i + 1) sealed) token path (there || found)
+    (looked : IsLookedAt pairs (take i sealed) token path found) where
+  pub looked_more : (there : Bool) → (eqb newer token ≡ false) → (there ≡ true) ↔ HasPair pairs (key.Staged newer path)
+      → IsLookedAt pairs (take (i + 1) sealed) token path (there || found)
   looked_more there apart told =
-      subst (λ l. IsLookedAt things l token path (there || found)) (sym (whole sealed i newer lt is)) (record {
+      subst (λ l. IsLookedAt pairs l token path (there || found)) (sym (whole sealed i newer lt is)) (record {
         fresh = list_any-append (λ named. eqb named token) (take i sealed) (newer ∷ [])
             ∙ neither (is_among (take i sealed) token) (eqb newer token) looked.fresh apart;
         told = (λ e. forth there found e told.0 looked.told.0, λ has. back has);
@@ -118,8 +119,8 @@ module _ (things : Things) (sealed : List ℕ) (token : ℕ) (path : List ℕ) (
       neither true b e f = absurd cc
       neither false true e f = absurd cc
 
-      forth : (a b : Bool) → (a || b) ≡ true → (a ≡ true → HasKey things (key.Staged newer path)) → (b ≡ true → HasChange things (take i sealed) path)
-          → HasChange things (take i sealed ++ newer ∷ []) path
+      forth : (a b : Bool) → (a || b) ≡ true → (a ≡ true → HasPair pairs (key.Staged newer path)) → (b ≡ true → HasChange pairs (take i sealed) path)
+          → HasChange pairs (take i sealed ++ newer ∷ []) path
       forth true b e one two = (newer, Contains-push (take i sealed) newer, one refl)
       forth false b e one two = let has = two e in (has.0, Contains-append_left (take i sealed) (newer ∷ []) has.0 has.1, has.2)
 
@@ -127,14 +128,14 @@ module _ (things : Things) (sealed : List ℕ) (token : ℕ) (path : List ℕ) (
       or_true true = refl
       or_true false = refl
 
-      back : HasChange things (take i sealed ++ newer ∷ []) path → (there || found) ≡ true
+      back : HasChange pairs (take i sealed ++ newer ∷ []) path → (there || found) ≡ true
       back has = elim (Contains-push_cases (take i sealed) newer has.0 has.1) [
         | inl before ↦ ap (λ b. there || b) (looked.told.1 (has.0, before, has.2)) ∙ or_true there
-        | inr last ↦ ap (λ b. b || found) (told.1 (subst (λ t. HasKey things (key.Staged t path)) (sym last) has.2))
+        | inr last ↦ ap (λ b. b || found) (told.1 (subst (λ t. HasPair pairs (key.Staged t path)) (sym last) has.2))
       ]
 
   -- at the token it is told
-  pub looked_here : newer ≡ token → (found ≡ true) ↔ IsHiddenIn things sealed token path
+  pub looked_here : newer ≡ token → (found ≡ true) ↔ IsHiddenIn pairs sealed token path
   looked_here same = (
     λ e.
         let has = looked.told.0 e in
@@ -151,17 +152,17 @@ module _ (things : Things) (sealed : List ℕ) (token : ℕ) (path : List ℕ) (
       split = split_at sealed i newer lt is ∙ ap (λ t. take i sealed ++ t ∷ drop (i + 1) sealed) same
 
 -- where the token isn't among them, nothing is hidden
-pub looked_all : (things : Things) (sealed : List ℕ) (token : ℕ) (path : List ℕ) (i : ℕ) (found : Bool) → length sealed ≤ i
-    → IsLookedAt things (take i sealed) token path found → IsHiddenIn things sealed token path → ⊥
-looked_all things sealed token path i found le looked hidden =
+pub looked_all : (pairs : List Pair) (sealed : List ℕ) (token : ℕ) (path : List ℕ) (i : ℕ) (found : Bool) → length sealed ≤ i
+    → IsLookedAt pairs (take i sealed) token path found → IsHiddenIn pairs sealed token path → ⊥
+looked_all pairs sealed token path i found le looked hidden =
     no (sym (ap (λ l. is_among l token) hidden.is ∙ among_split hidden.newer hidden.older token)
     ∙ ap (λ l. is_among l token) (sym (take_all i sealed le)) ∙ looked.fresh)
   where
     no : true ≡ false → ⊥
     no e = cc
 
-pub none_hidden : (things : Things) (token : ℕ) (path : List ℕ) → IsHiddenIn things [] token path → ⊥
-none_hidden things token path hidden = no (ap (λ l. is_among l token) hidden.is ∙ among_split hidden.newer hidden.older token)
+pub none_hidden : (pairs : List Pair) (token : ℕ) (path : List ℕ) → IsHiddenIn pairs [] token path → ⊥
+none_hidden pairs token path hidden = no (ap (λ l. is_among l token) hidden.is ∙ among_split hidden.newer hidden.older token)
   where
     no : false ≡ true → ⊥
     no e = cc
@@ -195,48 +196,54 @@ distinct_before (t ∷ newer) older token h =
     apart [] all = all.0
     apart (x ∷ xs) all = apart xs all.1
 
+-- a pair has the key of a change of the path under a token that a branch sealed later
+abbrev pub IsHiddenThere : List Pair → Things → ℕ → List ℕ → Type 0
+IsHiddenThere pairs things token path = (over : ℕ) × IsSealedOver things over token × HasPair pairs (key.Staged over path)
+
 rest_distinct : (staging : ℕ) (sealed : List ℕ) → AreDistinct (staging ∷ sealed) → AreDistinct sealed
 unfolding IsDistinct
 rest_distinct staging sealed h = h.1
 
-module _ (cut : Cut) (things : Things) (order : (n m : ℕ) (s t : Stored) → Spells things n s → Spells things m t → is_branch s ≡ true → is_staged t ≡ true
-    → n < m)
-    (at : ℕ) (before : AreTiedBefore cut things at) (s : Stored) (here : Spells things at s) (staged : is_staged s ≡ true) (token : ℕ) (path : List ℕ)
-    (first : ℕ) (named : first_place (names token) 0 things ≡ Some first) where
-  pub hidden_forth : IsHiddenIn things (sealed_in (thing_at things first)) token path → IsHidden things token path
+module _ (cut : Cut) (pairs : List Pair) (things : Things)
+    (order : (n m : ℕ) (s t : Stored) → Spells things n s → Spells things m t → is_branch s ≡ true → is_staged t ≡ true → n < m)
+    (at : ℕ) (before : AreBlamelessBefore cut pairs things at) (s : Stored) (here : Spells things at s) (staged : is_staged s ≡ true)
+    (token : ℕ) (path : List ℕ) (first : ℕ) (named : first_place (names token) 0 things ≡ Some first) where
+  pub hidden_forth : IsHiddenIn pairs (sealed_in (thing_at things first)) token path → IsHiddenThere pairs things token path
   hidden_forth hidden =
       let passes = first_passes (names token) 0 things first named in
       let b = names_branch token passes.1 passes.4 in
       let place : passes.0 ≡ first = omega (arith, passes.2) in
       let spells : Spells things first (stored.Branch b.0 b.1 b.2 b.3 b.4 b.5) =
       ap (thing_at things) (sym place) ∙ ap (option_and_then (λ thing. thing)) (passes.3 ∙ ap (λ x. Some x) b.6) in
-      let sealed : b.5 ≡ hidden.newer ++ token ∷ hidden.older = sym (ap sealed_in spells) ∙ hidden.is in
-      record {
-        repo = b.0;
-        branch = b.1;
-        version = b.2;
-        head = b.3;
-        staging = b.4;
-        newer = hidden.newer;
-        older = hidden.older;
-        there = spells_there things first (stored.Branch b.0 b.1 b.2 b.3 b.4 (hidden.newer ++ token ∷ hidden.older))
-            (spells ∙ ap (λ l. Some (stored.Branch b.0 b.1 b.2 b.3 b.4 l)) sealed);
-        over = hidden.over;
-        among = hidden.among;
-        changed = hidden.changed;
-      }
+      let sealed : b.5 ≡ hidden.newer ++ token ∷ hidden.older = sym (ap sealed_in spells) ∙ hidden.is in (
+        hidden.over,
+        record {
+          repo = b.0;
+          branch = b.1;
+          version = b.2;
+          head = b.3;
+          staging = b.4;
+          newer = hidden.newer;
+          older = hidden.older;
+          there = spells_there things first (stored.Branch b.0 b.1 b.2 b.3 b.4 (hidden.newer ++ token ∷ hidden.older))
+              (spells ∙ ap (λ l. Some (stored.Branch b.0 b.1 b.2 b.3 b.4 l)) sealed);
+          among = hidden.among;
+        },
+        hidden.changed,
+      )
 
-  pub hidden_back : IsHidden things token path → IsHiddenIn things (sealed_in (thing_at things first)) token path
-  hidden_back hidden =
+  pub hidden_back : IsHiddenThere pairs things token path → IsHiddenIn pairs (sealed_in (thing_at things first)) token path
+  hidden_back (over, hidden, changed) =
       let sealed = hidden.newer ++ token ∷ hidden.older in
       let branch = stored.Branch hidden.repo hidden.branch hidden.version hidden.head hidden.staging sealed in
       let place = there_spells things branch hidden.there in
       let lt = order place.0 at branch s place.1 here refl staged in
-      let tied : IsTiedBranch things place.0 hidden.repo hidden.version hidden.head (hidden.staging ∷ sealed) =
-      subst (λ o. IsSomeAnd o (IsTied cut things place.0)) place.1 (before place.0 lt) in
+      let blameless : IsBlameless cut pairs things place.0 branch =
+      subst (λ o. IsSomeAnd o (IsBlameless cut pairs things place.0)) place.1 (before place.0 lt) in
+      let right : IsRightBranch things place.0 hidden.repo hidden.version hidden.head (hidden.staging ∷ sealed) = blameless.right in
       let among : is_among (hidden.staging ∷ sealed) token ≡ true = ap (λ b. eqb hidden.staging token || b) (among_split hidden.newer hidden.older token)
       ∙ or_true (eqb hidden.staging token) in
-      let free = sym (named_any (take place.0 things) token) ∙ tied.fresh token among in
+      let free = sym (named_any (take place.0 things) token) ∙ right.fresh token among in
       let same : first ≡ 0 + place.0 = some_is (sym named ∙ first_is (names token) 0 things place.0 (Some branch)
       (thing_here things place.0 branch place.1) among free) in
       let at_first : place.0 ≡ first = omega (arith, same) in
@@ -244,20 +251,20 @@ module _ (cut : Cut) (things : Things) (order : (n m : ℕ) (s t : Stored) → S
         newer = hidden.newer;
         older = hidden.older;
         is = ap sealed_in (ap (thing_at things) (sym at_first) ∙ place.1);
-        fresh = distinct_before hidden.newer hidden.older token (rest_distinct hidden.staging sealed tied.distinct);
-        over = hidden.over;
+        fresh = distinct_before hidden.newer hidden.older token (rest_distinct hidden.staging sealed right.distinct);
+        over = over;
         among = hidden.among;
-        changed = hidden.changed;
+        changed = changed;
       }
     where
       or_true : (b : Bool) → (b || true) ≡ true
       or_true true = refl
       or_true false = refl
 
-  pub hidden_same : IsHiddenIn things (sealed_in (thing_at things first)) token path ↔ IsHidden things token path
+  pub hidden_same : IsHiddenIn pairs (sealed_in (thing_at things first)) token path ↔ IsHiddenThere pairs things token path
   hidden_same = (hidden_forth, hidden_back)
 
--- ---- a change is tied
+-- ---- a change is right
 
 any_true : (test : Option Stored → Bool) (things : Things) (k : ℕ) (thing : Option Stored) → slice_get things k ≡ Some thing → test thing ≡ true
     → list_any test things ≡ true
@@ -269,12 +276,12 @@ any_true test (x ∷ things) (suc k) thing h e = ap (λ b. test x || b) (any_tru
     or_true true = refl
     or_true false = refl
 
-module _ (things : Things) (tables : Tables) (are : AreTablesOf things tables) (token : ℕ) (path : List ℕ) (change : Change) where
+module _ (pairs : List Pair) (things : Things) (tables : Tables) (are : AreTablesOf things tables) (token : ℕ) (path : List ℕ) (change : Change) where
   -- where no branch names the token, it isn't
-  pub not_held : get nat_cmp tables.tokens token ≡ None → IsTrue false ↔ IsTiedStaged things token path change
+  pub not_held : get nat_cmp tables.tokens token ≡ None → IsTrue false ↔ IsRightStaged pairs things token path change
   not_held none = (
     λ e. absurd cc,
-    λ tied. absurd (no (sym tied.held ∙ named_any things token ∙ first_none (names token) 0 things (sym (are.tokens token) ∙ none))),
+    λ right. absurd (no (sym right.held ∙ named_any things token ∙ first_none (names token) 0 things (sym (are.tokens token) ∙ none))),
   )
     where
       no : true ≡ false → ⊥
@@ -289,31 +296,31 @@ module _ (things : Things) (tables : Tables) (are : AreTablesOf things tables) (
         named_any things token ∙ any_true (names token) things passes.0 passes.1 passes.3 passes.4
 
     -- a change that puts no number
-    pub no_number : put_number change ≡ None → IsTrue true ↔ IsTiedStaged things token path change
+    pub no_number : put_number change ≡ None → IsTrue true ↔ IsRightStaged pairs things token path change
     no_number none = (
       λ e. record {
         held = held;
         given = subst (λ o. IfSome o (λ number. IsGivenNumber things number)) (sym none) tt;
-        apart = subst (λ o. IfSome o (λ number. IsGone things number → IsHidden things token path)) (sym none) tt;
+        apart = subst (λ o. IfSome o (λ number. IsGone things number → IsHiddenThere pairs things token path)) (sym none) tt;
       },
-      λ tied. refl,
+      λ right. refl,
     )
 
     module _ (number : ℕ) (puts : put_number change ≡ Some number) (given : IsGivenNumber things number) where
-      tied_with : (IsGone things number → IsHidden things token path) → IsTiedStaged things token path change
-      tied_with hides = record {
+      right_with : (IsGone things number → IsHiddenThere pairs things token path) → IsRightStaged pairs things token path change
+      right_with hides = record {
         held = held;
         given = subst (λ o. IfSome o (λ n. IsGivenNumber things n)) (sym puts) given;
-        apart = subst (λ o. IfSome o (λ n. IsGone things n → IsHidden things token path)) (sym puts) hides;
+        apart = subst (λ o. IfSome o (λ n. IsGone things n → IsHiddenThere pairs things token path)) (sym puts) hides;
       }
 
-      pub not_gone : (IsGone things number → ⊥) → IsTrue true ↔ IsTiedStaged things token path change
-      not_gone never = (λ e. tied_with (λ gone. absurd (never gone)), λ tied. refl)
+      pub not_gone : (IsGone things number → ⊥) → IsTrue true ↔ IsRightStaged pairs things token path change
+      not_gone never = (λ e. right_with (λ gone. absurd (never gone)), λ right. refl)
 
-      pub gone_hidden : {E : Type 0} (Q : Type 0) → IsGone things number → Q ↔ IsHidden things token path → (r : Result Bool E)
-          → IfOk r (λ hidden. IsTrue hidden ↔ Q) → IfOk r (λ tied. IsTrue tied ↔ IsTiedStaged things token path change)
+      pub gone_hidden : {E : Type 0} (Q : Type 0) → IsGone things number → Q ↔ IsHiddenThere pairs things token path → (r : Result Bool E)
+          → IfOk r (λ hidden. IsTrue hidden ↔ Q) → IfOk r (λ right. IsTrue right ↔ IsRightStaged pairs things token path change)
       gone_hidden Q gone same (Ok b) h = (
-        λ e. tied_with (λ _. same.0 (h.0 e)),
-        λ tied. h.1 (same.1 (subst (λ o. IfSome o (λ n. IsGone things n → IsHidden things token path)) puts tied.apart gone)),
+        λ e. right_with (λ _. same.0 (h.0 e)),
+        λ right. h.1 (same.1 (subst (λ o. IfSome o (λ n. IsGone things n → IsHiddenThere pairs things token path)) puts right.apart gone)),
       )
       gone_hidden Q gone same (Err fault) h = tt

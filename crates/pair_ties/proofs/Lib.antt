@@ -1,6 +1,10 @@
+pub mod BlameLemmas
 pub mod BreakingLemmas
 pub mod CommitsLemmas
+pub mod DueLemmas
 pub mod FilesLemmas
 pub mod HiddenLemmas
+pub mod KeyLemmas
+pub mod NamedLemmas
 pub mod NamesLemmas
 pub mod TokensLemmas

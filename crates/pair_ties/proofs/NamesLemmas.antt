@@ -1,4 +1,4 @@
--- The ties of repositories, branches, tags and settings.
+-- What is right of branches and tags.
 use Rattle.std.proofs.Common.{◌≡◌, ◌↔◌, ◌<◌, ℕ, nat_lt, nat_eq, not, Bool, true, false, List, ◌∷◌, Option, Some, IfOk, IsTrue, MatchOption, Result, Ok, Err}
 use Rattle.std.proofs.Common.{refl, sym, ap, subst, ◌∙◌}
 use Rattle.std.specs.BTreeMap.{get}
@@ -12,10 +12,10 @@ use Rattle.pair_format.specs.declared.key.OwnedKey.TheVariants as key
 use Rattle.pair_format.specs.declared.stored.Stored.TheVariants as stored
 use Rattle.pair_trees.specs.declared.tables.Tables.{Tables}
 use Rattle.pair_trees.specs.Found.{AreCounts, IsOnlyCommit}
-use Rattle.pair_ties.specs.PairTies.{IsTiedBranch, IsTiedRepository}
+use Rattle.pair_ties.specs.BrokenPairs.{IsExpired, IsRightBranch}
 use Rattle.pair_trees.specs.Tables.{AreTablesOf}
 use Rattle.pair_ties.specs.Tested.{IsFreshToken}
-use Rattle.pair_trees.specs.Things.{HasKey, HasLiveCommit, IsGivenNumber, IsGivenToken, IsGivenVersion, IsThere, Spells, Things}
+use Rattle.pair_trees.specs.Things.{HasKey, IsGivenNumber, IsGivenToken, IsGivenVersion, Spells, Things}
 use Rattle.pair_trees.proofs.FoundLemmas.{at_some}
 use Rattle.pair_ties.proofs.TokensLemmas.{all_among, among_all, first_fresh, fresh_first}
 
@@ -59,21 +59,24 @@ module _ (things : Things) (none : HasKey things key.Counts → ⊥) (given : �
   pub all_token : IsGivenToken things given
   all_token number version token there = absurd (none (record { thing = stored.Counts number version token; there = there; under = refl }))
 
--- ---- live commits
+-- ---- expired commits
 
 pub live_found : (things : Things) (repo : List ℕ) (id : Digest) (expired : Bool) (commit : CommitRecordValue) → IsOnlyCommit things repo id expired commit
-    → IsTrue (not expired) ↔ HasLiveCommit things repo id
-live_found things repo id expired commit found = (
-  λ live. record { commit = commit; there = subst (λ e. IsThere things (stored.Commit repo id e commit)) (off expired live) found.there },
-  λ has. ap not (sym (found.only false has.commit has.there).0),
-)
+    → IsTrue (not expired) ↔ (IsExpired things repo id → ⊥)
+live_found things repo id true commit found =
+    (λ e. absurd cc, λ live. absurd (live (record { commit = commit; there = found.there })))
+live_found things repo id false commit found =
+    (λ e old. absurd (no (found.only true old.commit old.there).0), λ live. refl)
   where
-    off : (b : Bool) → not b ≡ true → b ≡ false
-    off true e = absurd cc
-    off false e = refl
+    no : true ≡ false → ⊥
+    no e = cc
 
-pub live_absent : (things : Things) (repo : List ℕ) (id : Digest) → (HasKey things (key.Commit repo id) → ⊥) → HasLiveCommit things repo id → ⊥
-live_absent things repo id absent has = absent (record { thing = stored.Commit repo id false has.commit; there = has.there; under = refl })
+pub live_absent : (things : Things) (repo : List ℕ) (id : Digest) → (HasKey things (key.Commit repo id) → ⊥)
+    → IsTrue true ↔ (IsExpired things repo id → ⊥)
+live_absent things repo id absent = (
+  λ e old. absent (record { thing = stored.Commit repo id true old.commit; there = old.there; under = refl }),
+  λ live. refl,
+)
 
 -- ---- tokens
 
@@ -92,10 +95,9 @@ first_here things tables at token first given is = (
 
 module _ (things : Things) (tables : Tables) (are : AreTablesOf things tables) (at : ℕ) (repo branch : List ℕ) (version : ℕ) (head : Digest) (staging : ℕ)
     (sealed : List ℕ) (here : Spells things at (stored.Branch repo branch version head staging sealed)) where
-  pub is_branch : IsGivenVersion things version → AllByRecursion (IsFreshToken things tables at) (staging ∷ sealed) → AreDistinct (staging ∷ sealed)
-      → HasKey things (key.Repository repo) → HasLiveCommit things repo head → IsTiedBranch things at repo version head (staging ∷ sealed)
-  is_branch given fresh distinct repository live = record {
-    repository = repository;
+  is_branch : IsGivenVersion things version → AllByRecursion (IsFreshToken things tables at) (staging ∷ sealed) → AreDistinct (staging ∷ sealed)
+      → (IsExpired things repo head → ⊥) → IsRightBranch things at repo version head (staging ∷ sealed)
+  is_branch given fresh distinct live = record {
     live = live;
     given = given;
     tokens_given = λ token among. (all_among (IsFreshToken things tables at) (staging ∷ sealed) fresh token among).given;
@@ -104,34 +106,27 @@ module _ (things : Things) (tables : Tables) (are : AreTablesOf things tables) (
         (all_among (IsFreshToken things tables at) (staging ∷ sealed) fresh token among).first;
   }
 
-  pub tokens_fresh : IsTiedBranch things at repo version head (staging ∷ sealed) → AllByRecursion (IsFreshToken things tables at) (staging ∷ sealed)
-  tokens_fresh tied = among_all (IsFreshToken things tables at) (staging ∷ sealed) (λ token among. record {
-    given = tied.tokens_given token among;
-    first = fresh_first things tables are at (stored.Branch repo branch version head staging sealed) here token among (tied.fresh token among);
+  tokens_fresh : IsRightBranch things at repo version head (staging ∷ sealed) → AllByRecursion (IsFreshToken things tables at) (staging ∷ sealed)
+  tokens_fresh right = among_all (IsFreshToken things tables at) (staging ∷ sealed) (λ token among. record {
+    given = right.tokens_given token among;
+    first = fresh_first things tables are at (stored.Branch repo branch version head staging sealed) here token among (right.fresh token among);
   })
 
--- ---- repositories
+-- ---- branches whose head isn't expired
 
-pub tied_repository : {E : Type 0} (things : Things) (repo branch : List ℕ) (settings : ℕ) → IsGivenVersion things settings → (r : Result Bool E)
-    → IfOk r (λ there. IsTrue there ↔ HasKey things (key.Branch repo branch)) → IfOk r (λ tied. IsTrue tied ↔ IsTiedRepository things repo branch settings)
-tied_repository things repo branch settings given (Ok there) h = (λ e. record { default = h.0 e; given = given }, λ tied. h.1 tied.default)
-tied_repository things repo branch settings given (Err fault) h = tt
-
--- ---- branches that stand on what is there
-
-pub tied_branch : {E : Type 0} (things : Things) (tables : Tables) (told : AreTablesOf things tables) (at : ℕ) (repo : List ℕ) (version : ℕ) (head : Digest)
+pub right_branch : {E : Type 0} (things : Things) (tables : Tables) (told : AreTablesOf things tables) (at : ℕ) (repo : List ℕ) (version : ℕ) (head : Digest)
     (staging : ℕ) (sealed : List ℕ) → (branch : List ℕ) × Spells things at (stored.Branch repo branch version head staging sealed)
     → IsGivenVersion things version → AllByRecursion (IsFreshToken things tables at) (staging ∷ sealed) → AreDistinct (staging ∷ sealed) → (r : Result Bool E)
-    → IfOk r (λ there. IsTrue there ↔ (HasKey things (key.Repository repo) × HasLiveCommit things repo head))
-    → IfOk r (λ tied. IsTrue tied ↔ IsTiedBranch things at repo version head (staging ∷ sealed))
-tied_branch things tables told at repo version head staging sealed here given fresh distinct (Ok there) h = (
-  λ e. let on = h.0 e in is_branch things tables told at repo here.0 version head staging sealed here.1 given fresh distinct on.0 on.1,
-  λ tied. h.1 (tied.repository, tied.live),
+    → IfOk r (λ live. IsTrue live ↔ (IsExpired things repo head → ⊥))
+    → IfOk r (λ right. IsTrue right ↔ IsRightBranch things at repo version head (staging ∷ sealed))
+right_branch things tables told at repo version head staging sealed here given fresh distinct (Ok live) h = (
+  λ e. is_branch things tables told at repo here.0 version head staging sealed here.1 given fresh distinct (h.0 e),
+  λ right. h.1 right.live,
 )
-tied_branch things tables told at repo version head staging sealed here given fresh distinct (Err fault) h = tt
+right_branch things tables told at repo version head staging sealed here given fresh distinct (Err fault) h = tt
 
 pub stale_branch : (things : Things) (tables : Tables) (told : AreTablesOf things tables) (at : ℕ) (repo : List ℕ) (version : ℕ) (head : Digest) (staging : ℕ)
     (sealed : List ℕ) → (branch : List ℕ) × Spells things at (stored.Branch repo branch version head staging sealed)
-    → (AllByRecursion (IsFreshToken things tables at) (staging ∷ sealed) → ⊥) → IsTiedBranch things at repo version head (staging ∷ sealed) → ⊥
-stale_branch things tables told at repo version head staging sealed here stale tied =
-    stale (tokens_fresh things tables told at repo here.0 version head staging sealed here.1 tied)
+    → (AllByRecursion (IsFreshToken things tables at) (staging ∷ sealed) → ⊥) → IsRightBranch things at repo version head (staging ∷ sealed) → ⊥
+stale_branch things tables told at repo version head staging sealed here stale right =
+    stale (tokens_fresh things tables told at repo here.0 version head staging sealed here.1 right)

@@ -1,3 +1,4 @@
+pub mod BrokenPairs
 pub mod Hidden
 pub mod OneCommit
 pub mod PairTies

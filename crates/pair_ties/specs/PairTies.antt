@@ -1,5 +1,5 @@
--- The ties of pairs. What follows has to be so of pair n, beside that it is of a form: where it isn't, pair n is the broken one.
-use Rattle.std.specs.Prelude.{◌≡◌, ◌<◌, ◌^◌, ◌⊎◌, ◌++◌, true, false, ℕ, Bool, List, ◌∷◌, length, take, IfSome, IsSomeAnd}
+-- The ties of pairs. What follows has to be so of pair n, beside that it is of a form.
+use Rattle.std.specs.Prelude.{◌≡◌, ◌<◌, ◌^◌, ◌++◌, true, false, ℕ, Bool, List, ◌∷◌, length, take, IfSome, IsSomeAnd}
 use Rattle.std.specs.List.{Contains}
 use Rattle.lake_base.specs.declared.digest.Digest.{Digest}
 use Rattle.lake_values.specs.Ancestry.{IsDue}
@@ -11,11 +11,10 @@ use Rattle.lake_format.specs.declared.cut.Cut.{Cut}
 use Rattle.branch_record.specs.Record.{AreDistinct, is_among}
 use Rattle.lake_model.specs.Uncommitted.{put_number}
 use Rattle.pair_format.specs.declared.key.OwnedKey.TheVariants as key
-use Rattle.pair_format.specs.declared.pair.Pair.{Pair}
 use Rattle.pair_format.specs.declared.stored.Stored.{Stored}
 use Rattle.pair_format.specs.declared.stored.Stored.TheVariants as stored
 use Rattle.pair_trees.specs.Things.{Things, Spells, IsThere, HasKey, HasLiveCommit, IsGivenNumber, IsGivenVersion, IsGivenToken, IsGone, commits_in}
-use Rattle.pair_trees.specs.Things.{HasCountsPair, thing_at, things_of, tokens_named}
+use Rattle.pair_trees.specs.Things.{thing_at, tokens_named}
 use Rattle.pair_trees.specs.PairTrees.{IsReadMetaRange, IsReadRange, numbers_in}
 use Rattle.pair_trees.specs.SettingTexts.{IsSettingText}
 
@@ -118,23 +117,7 @@ IsTied cut things n (stored.Counts number version token) = IsTiedCounts number v
 abbrev pub IsTiedAt : Cut → Things → ℕ → Type 0
 IsTiedAt cut things n = IsSomeAnd (thing_at things n) (IsTied cut things n)
 
--- so is each pair before pair n
-abbrev pub AreTiedBefore : Cut → Things → ℕ → Type 0
-AreTiedBefore cut things n = (k : ℕ) → k < n → IsTiedAt cut things k
-
 -- the counts are there, and each pair is of a form and tied
 pub record AreTied (cut : Cut) (things : Things) : Type 0 where
   pub counts : HasKey things key.Counts
   pub each : (n : ℕ) → n < length things → IsTiedAt cut things n
-
--- pair n isn't of a form, or not tied, and each pair before it is both
-pub record IsFirstUntied (cut : Cut) (pairs : List Pair) (n : ℕ) : Type 0 where
-  pub counts : HasCountsPair pairs
-  pub within : n < length pairs
-  pub before : AreTiedBefore cut (things_of pairs) n
-  pub broken : IsTiedAt cut (things_of pairs) n → ⊥
-
--- The first broken pair: the first that isn't of a form or not tied; and number 0 where no pair has the key of the counts.
--- A pair of that key that isn't of its form is broken itself, and nothing is below what it would tell.
-abbrev pub IsFirstBroken : Cut → List Pair → ℕ → Type 0
-IsFirstBroken cut pairs n = ((HasCountsPair pairs → ⊥) × (n ≡ 0)) ⊎ IsFirstUntied cut pairs n

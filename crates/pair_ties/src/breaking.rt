@@ -1,25 +1,31 @@
 //! The first broken pair.
 ghost use Rattle.std.specs.Prelude.{◌≡◌, ◌↔◌, ◌<◌, length, IfOk, IsTrue, MatchOption};
 ghost use Rattle.std.specs.List.{list_any};
-ghost use Rattle.pair_ties.specs.PairTies.{AreTied, AreTiedBefore, IsFirstBroken, IsTied, IsTiedAt, IsTiedCounts};
+ghost use Rattle.lake_base.specs.Maps.{HasAscendingKeys};
+ghost use Rattle.keeper.specs.Keepers.{entries_of};
+ghost use Rattle.pair_ties.specs.BrokenPairs.{AreBlamelessBefore, IsBlameless, IsBlamelessAt, IsFirstBroken, IsRight};
+ghost use Rattle.pair_ties.specs.PairTies.{AreTied, IsTiedCounts};
 ghost use Rattle.pair_trees.specs.PairTrees.{trees_of};
+ghost use Rattle.pair_trees.specs.Spelled.{AreSpelled};
 ghost use Rattle.pair_trees.specs.Tables.{AreTablesOf};
-ghost use Rattle.pair_trees.specs.Things.{HasCountsPair, Spells, is_counts_pair, thing_at, things_of};
+ghost use Rattle.pair_trees.specs.Things.{HasCountsPair, Spells, is_counts_pair, thing_at};
 
-use crate::changes::is_tied_staged;
-use crate::commits::is_tied_commit;
+use crate::changes::is_right_staged;
+use crate::commits::is_right_commit;
 use crate::files::{is_tied_metarange, is_tied_range};
-use crate::given::is_given_number;
-use crate::names::{is_tied_branch, is_tied_note, is_tied_repository, is_tied_tag};
+use crate::given::{is_given_number, is_given_version};
+use crate::named::are_named_there;
+use crate::names::{is_right_branch, is_right_note, isnt_expired};
 use lake_base::NoMemory;
 use lake_format::Cut;
 use pair_format::{Pair, Stored};
 use pair_trees::{ReadTree, SpelledPairs, Tables};
 use std::alloc::Global;
 
-/// The number of the first broken pair of these, which spell this, from 0: the first that isn't of a form or breaks a
-/// tie, and 0 where no pair has the key of the counts. Where none is broken, each pair is of a form and tied. It takes
-/// some searches for each pair, and for each number of an object.
+/// The number of the first broken pair of these, which spell this, from 0: the first that isn't of a form or is to
+/// blame for a tie that it breaks, and 0 where no pair has the key of the counts. No pair is to blame for another that
+/// isn't of a form. Where none is broken, each pair is of a form and tied. It takes some searches for each pair, and
+/// for each number of an object.
 pub fn first_broken(
     alloc: Global,
     pairs: &[Pair],
@@ -27,7 +33,7 @@ pub fn first_broken(
     trees: &[Option<ReadTree>],
     cut: &Cut,
 ) -> Result<Option<u64>, NoMemory>
-    requires spelled { spelled.now ≡ things_of pairs.now }
+    requires spelled { AreSpelled pairs.now spelled.now }
     requires trees { trees.now ≡ trees_of cut.now spelled.now }
     ensures { IfOk result (λ found. MatchOption found
         (AreTied cut.now spelled.now) (IsFirstBroken cut.now pairs.now)) }
@@ -36,7 +42,7 @@ pub fn first_broken(
         return Ok(Some(0));
     }
     let tables = Tables::of(alloc, spelled, trees, cut)?;
-    match first_untied(alloc, spelled, &tables)? {
+    match first_blamed(alloc, pairs, spelled, &tables)? {
         Some(at) => Ok(Some(at as u64)),
         None => Ok(None),
     }
@@ -63,66 +69,89 @@ fn is_counts_pair(pair: &Pair) -> bool
     pair.key.as_slice() == b"Z".as_slice()
 }
 
-// The first pair that isn't of a form or breaks a tie.
-fn first_untied(
+// The first pair that isn't of a form or is to blame.
+fn first_blamed(
     alloc: Global,
+    raw: &[Pair],
     pairs: &SpelledPairs,
     tables: &Tables,
 ) -> Result<Option<usize>, NoMemory>
-    requires { AreTablesOf pairs.now tables.now }
+    requires ascend { HasAscendingKeys (entries_of raw.now) }
+    requires tables { AreTablesOf pairs.now tables.now }
     ensures { IfOk result (λ found. MatchOption found
-        (AreTiedBefore tables.now.cut pairs.now (length pairs.now))
-        (λ at. (at < length pairs.now) × AreTiedBefore tables.now.cut pairs.now at
-        × (IsTiedAt tables.now.cut pairs.now at → ⊥))) }
+        (AreBlamelessBefore tables.now.cut raw.now pairs.now (length pairs.now))
+        (λ at. (at < length pairs.now) × AreBlamelessBefore tables.now.cut raw.now pairs.now at
+        × (IsBlamelessAt tables.now.cut raw.now pairs.now at → ⊥))) }
 {
     for (at, thing) in pairs.as_slice().iter().enumerate() {
-        if !is_tied_thing(alloc, pairs, tables, at, thing)? {
+        if !is_blameless_thing(alloc, raw, pairs, tables, at, thing)? {
             return Ok(Some(at));
         }
     }
     Ok(None)
 }
 
-// Whether the pair at a place is of a form and tied, where those before it are.
-fn is_tied_thing(
+// Whether the pair at a place is of a form and isn't to blame, where those before it are and aren't.
+fn is_blameless_thing(
     alloc: Global,
+    raw: &[Pair],
     pairs: &SpelledPairs,
     tables: &Tables,
     at: usize,
     thing: &Option<Stored>,
 ) -> Result<bool, NoMemory>
+    requires ascend { HasAscendingKeys (entries_of raw.now) }
     requires here { thing_at pairs.now at ≡ thing.now }
     requires tables { AreTablesOf pairs.now tables.now }
-    requires before { AreTiedBefore tables.now.cut pairs.now at }
-    ensures { IfOk result (λ tied. IsTrue tied ↔ IsTiedAt tables.now.cut pairs.now at) }
+    requires before { AreBlamelessBefore tables.now.cut raw.now pairs.now at }
+    ensures { IfOk result (λ blameless. IsTrue blameless ↔ IsBlamelessAt tables.now.cut raw.now pairs.now at) }
 {
     match thing {
-        Some(stored) => is_tied(alloc, pairs, tables, at, stored),
+        Some(stored) => is_blameless(alloc, raw, pairs, tables, at, stored),
         None => Ok(false),
     }
 }
 
-// Whether the pair at a place, which spells this, is tied, where those before it are.
-fn is_tied(
+// Whether the pair at a place, which spells this, isn't to blame, where those before it aren't.
+fn is_blameless(
     alloc: Global,
+    raw: &[Pair],
     pairs: &SpelledPairs,
     tables: &Tables,
     at: usize,
     stored: &Stored,
 ) -> Result<bool, NoMemory>
+    requires ascend { HasAscendingKeys (entries_of raw.now) }
     requires here { Spells pairs.now at stored.now }
     requires tables { AreTablesOf pairs.now tables.now }
-    requires before { AreTiedBefore tables.now.cut pairs.now at }
-    ensures { IfOk result (λ tied. IsTrue tied ↔ IsTied tables.now.cut pairs.now at stored.now) }
+    requires before { AreBlamelessBefore tables.now.cut raw.now pairs.now at }
+    ensures { IfOk result (λ blameless. IsTrue blameless
+        ↔ IsBlameless tables.now.cut raw.now pairs.now at stored.now) }
 {
     let _ = pairs.as_slice();
+    if !are_named_there(alloc, raw, stored)? {
+        return Ok(false);
+    }
+    is_right(alloc, raw, pairs, tables, at, stored)
+}
+
+// Whether what the pair at a place spells is right, where no pair before it is to blame.
+fn is_right(
+    alloc: Global,
+    raw: &[Pair],
+    pairs: &SpelledPairs,
+    tables: &Tables,
+    at: usize,
+    stored: &Stored,
+) -> Result<bool, NoMemory>
+    requires ascend { HasAscendingKeys (entries_of raw.now) }
+    requires here { Spells pairs.now at stored.now }
+    requires tables { AreTablesOf pairs.now tables.now }
+    requires before { AreBlamelessBefore tables.now.cut raw.now pairs.now at }
+    ensures { IfOk result (λ right. IsTrue right ↔ IsRight tables.now.cut raw.now pairs.now at stored.now) }
+{
     match stored {
-        Stored::Repository {
-            repo,
-            default_branch,
-            settings,
-            ..
-        } => is_tied_repository(alloc, pairs, tables, repo, default_branch, *settings),
+        Stored::Repository { settings, .. } => Ok(is_given_version(pairs, tables, *settings)),
         Stored::Branch {
             repo,
             version,
@@ -130,7 +159,7 @@ fn is_tied(
             staging,
             sealed,
             ..
-        } => is_tied_branch(
+        } => is_right_branch(
             alloc,
             pairs,
             tables,
@@ -141,13 +170,13 @@ fn is_tied(
             *staging,
             sealed.as_slice(),
         ),
-        Stored::Tag { repo, commit, .. } => is_tied_tag(alloc, pairs, repo, commit),
+        Stored::Tag { repo, commit, .. } => isnt_expired(alloc, pairs, repo, commit),
         Stored::Commit {
             repo,
             id,
             commit,
             ..
-        } => is_tied_commit(alloc, pairs, tables, at, repo, id, commit),
+        } => is_right_commit(alloc, raw, pairs, tables, at, repo, id, commit),
         Stored::MetaRange { name, bytes } => {
             is_tied_metarange(alloc, pairs, tables, at, name, bytes.as_slice())
         }
@@ -163,10 +192,8 @@ fn is_tied(
             token,
             path,
             change,
-        } => is_tied_staged(alloc, pairs, tables, at, *token, path, change),
-        Stored::Note { repo, name, text } => {
-            is_tied_note(alloc, pairs, repo, *name, text.as_slice())
-        }
+        } => is_right_staged(alloc, raw, pairs, tables, at, *token, path, change),
+        Stored::Note { name, text, .. } => is_right_note(alloc, *name, text.as_slice()),
         Stored::Gone { number } => Ok(is_given_number(pairs, tables, *number)),
         Stored::Counts {
             number,

@@ -1,10 +1,10 @@
-//! The ties of commits.
-ghost use Rattle.std.specs.Prelude.{◌≡◌, ◌↔◌, ◌⊎◌, ℕ, List, Bool, IfOk, IsSome, IsTrue, option_copied, option_map};
+//! What is right of commits.
+ghost use Rattle.std.specs.Prelude.{◌≡◌, ◌↔◌, ◌⊎◌, ◌+◌, ℕ, List, Bool, IfOk, IsSome, IsTrue, option_copied, option_map};
 ghost use Rattle.lake_format.specs.Spelling.{commit_id};
 ghost use Rattle.std.specs.List.{AllByRecursion};
 ghost use Rattle.lake_values.specs.Ancestry.{commit_of, due_generation};
 ghost use Rattle.pair_format.specs.declared.stored.Stored.TheVariants as stored;
-ghost use Rattle.pair_ties.specs.PairTies.{AreTiedBefore, IsTiedCommit};
+ghost use Rattle.pair_ties.specs.BrokenPairs.{AreBlamelessBefore, IsRightCommit};
 ghost use Rattle.pair_ties.specs.OneCommit.{HasBytesAt, IsOneCommit, commit_at};
 ghost use Rattle.pair_trees.specs.Tables.{AreTablesOf};
 ghost use Rattle.pair_trees.specs.Things.{commits_in, Spells, thing_at};
@@ -12,13 +12,14 @@ ghost use Rattle.pair_trees.specs.Things.{commits_in, Spells, thing_at};
 use commit_graph::commit_bytes;
 use lake_base::{Digest, NoMemory, RepoName};
 use lake_values::{CommitId, CommitRecord};
-use pair_format::{Stored, StoredKey};
+use pair_format::{Pair, Stored};
 use pair_trees::{SpelledPairs, Tables, commit_of as found_commit};
 use std::alloc::Global;
 
-// Whether the commit at a place is tied, where those before it are.
-pub(crate) fn is_tied_commit(
+// Whether the commit at a place is right, where no pair before it is to blame.
+pub(crate) fn is_right_commit(
     alloc: Global,
+    raw: &[Pair],
     pairs: &SpelledPairs,
     tables: &Tables,
     at: usize,
@@ -28,12 +29,9 @@ pub(crate) fn is_tied_commit(
 ) -> Result<bool, NoMemory>
     requires here { (expired : Bool) × Spells pairs.now at (stored.Commit repo.now id.now expired commit.now) }
     requires tables { AreTablesOf pairs.now tables.now }
-    requires before { AreTiedBefore tables.now.cut pairs.now at }
-    ensures { IfOk result (λ tied. IsTrue tied ↔ IsTiedCommit pairs.now at repo.now id.now commit.now) }
+    requires before { AreBlamelessBefore tables.now.cut raw.now pairs.now at }
+    ensures { IfOk result (λ right. IsTrue right ↔ IsRightCommit pairs.now at repo.now id.now commit.now) }
 {
-    if !pairs.has(alloc, &StoredKey::Repository { repo })? {
-        return Ok(false);
-    }
     let _ = pairs.as_slice();
     if !is_due(
         alloc,
@@ -44,10 +42,10 @@ pub(crate) fn is_tied_commit(
     )? {
         return Ok(false);
     }
-    is_named(alloc, pairs, tables, at, id, commit)
+    is_named(alloc, raw, pairs, tables, at, id, commit)
 }
 
-// Whether parents are there, and a generation is the one due after them.
+// Whether a generation is the one due after parents; it can't be told where one of these isn't read.
 fn is_due(
     alloc: Global,
     pairs: &SpelledPairs,
@@ -57,19 +55,23 @@ fn is_due(
 ) -> Result<bool, NoMemory>
     ensures { IfOk result (λ due. IsTrue due
         ↔ (AllByRecursion (λ parent. IsSome (commit_of (commits_in repo.now pairs.now) parent)) parents.now
-        × (generation ≡ due_generation (commits_in repo.now pairs.now) parents.now))) }
+        → generation ≡ due_generation (commits_in repo.now pairs.now) parents.now)) }
 {
-    let mut due = 1u64;
+    let mut most = 0u64;
     for parent in parents {
         let Some(own) = generation_of(alloc, pairs, repo, parent)? else {
-            return Ok(false);
+            return Ok(true);
         };
-        if own >= generation {
-            return Ok(false);
-        }
-        due = due.max(own + 1);
+        most = most.max(own);
     }
-    Ok(generation == due)
+    Ok(is_next(generation, most))
+}
+
+// Whether a number is the next one after another.
+fn is_next(number: u64, last: u64) -> bool
+    ensures { IsTrue result ↔ (number ≡ last + 1) }
+{
+    number > last && number - 1 == last
 }
 
 // The generation of a commit that is there.
@@ -91,6 +93,7 @@ fn generation_of(
 // Whether the id of the commit at a place is the SHA-256 of its bytes, and each earlier commit of this id is the same.
 fn is_named(
     alloc: Global,
+    raw: &[Pair],
     pairs: &SpelledPairs,
     tables: &Tables,
     at: usize,
@@ -100,10 +103,11 @@ fn is_named(
     requires here { (repo : List ℕ) × (expired : Bool)
         × Spells pairs.now at (stored.Commit repo id.now expired commit.now) }
     requires tables { AreTablesOf pairs.now tables.now }
-    requires before { AreTiedBefore tables.now.cut pairs.now at }
+    requires before { AreBlamelessBefore tables.now.cut raw.now pairs.now at }
     ensures { IfOk result (λ named. IsTrue named
         ↔ ((commit_id commit.now ≡ id.now) × IsOneCommit pairs.now at id.now commit.now)) }
 {
+    let _ = raw;
     let _ = pairs.as_slice();
     let bytes = commit_bytes(alloc, commit)?;
     if Digest::of(bytes.as_slice()) != *id {

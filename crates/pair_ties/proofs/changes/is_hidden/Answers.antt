@@ -17,7 +17,7 @@ returns-then-newer-token c =
     let sealed = c.args.sealed.now in
     let i = c.loop-newer.newer-index in
     let lt = c.loop-newer-test.true in
-    looked_here c.args.pairs.now sealed c.args.token c.args.path.now i (get_or sealed i 0) lt (own_item sealed i 0 lt) c.loop-newer.found c.loop-newer.invariant
+    looked_here c.args.raw.now sealed c.args.token c.args.path.now i (get_or sealed i 0) lt (own_item sealed i 0 lt) c.loop-newer.found c.loop-newer.invariant
     c.if-newer-token.true
 
 pub loop-newer-preserved : goal.loop-newer-preserved
@@ -26,13 +26,13 @@ loop-newer-preserved c =
     let i = c.loop-newer.newer-index in
     let lt = c.loop-newer-test.true in
     let there = c.in_ok-found.found in
-    let more = looked_more c.args.pairs.now sealed c.args.token c.args.path.now i (get_or sealed i 0) lt (own_item sealed i 0 lt) c.loop-newer.found
+    let more = looked_more c.args.raw.now sealed c.args.token c.args.path.now i (get_or sealed i 0) lt (own_item sealed i 0 lt) c.loop-newer.found
     c.loop-newer.invariant there (differ (get_or sealed i 0) c.args.token c.if-newer-token.false) c.in_ok-found.ensures in
     elim c.if-branch.branch [
       | then-branch w ↦
-          subst (IsLookedAt c.args.pairs.now (take (i + 1) sealed) c.args.token c.args.path.now)
+          subst (IsLookedAt c.args.raw.now (take (i + 1) sealed) c.args.token c.args.path.now)
           (ap (λ b. b || c.loop-newer.found) w.if-branch.true ∙ sym w.if-branch.true ∙ sym w.found-is) more
       | else-branch w ↦
-          subst (IsLookedAt c.args.pairs.now (take (i + 1) sealed) c.args.token c.args.path.now)
+          subst (IsLookedAt c.args.raw.now (take (i + 1) sealed) c.args.token c.args.path.now)
           (ap (λ b. b || c.loop-newer.found) w.if-branch.false ∙ sym w.found-is) more
     ]

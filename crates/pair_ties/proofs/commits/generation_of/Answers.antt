@@ -1,6 +1,6 @@
 use Rattle.std.proofs.Common.{Some, option_map, ap, sym, ◌∙◌}
 use Rattle.lake_values.specs.Commit.{CommitRecordValue}
-use Rattle.pair_ties.proofs.CommitsLemmas.{graph_absent, graph_found}
+use Rattle.pair_ties.proofs.DueLemmas.{graph_absent, graph_found}
 use Rattle.pair_trees.proofs.FoundLemmas.{at_none, at_some}
 use Rattle.pair_ties.proofs.commits.generation_of.Goals as goal
 

@@ -11,12 +11,12 @@ returns-in-Some c =
     let spelled = c.in_ok-bytes.ensures.spelled in
     let named = id_is_own c.in_ok-bytes.bytes.items c.args.commit.now spelled c.of.result c.args.id.now (c.of.ensures ∙ ap sha256 c.as_slice-2.ensures.value)
     c.ne.result c.ne.ensures c.if-ne.false in
-    iff_ok _ _ (named_like c.args.tables.now.cut c.args.pairs.now c.as_slice.ensures.limits c.args.at c.requires.before c.args.id.now c.args.commit.now
-    here.0 here.1 here.2 c.in-Some.first.now is c.as_slice-in-Some.result.now (c.as_slice-in-Some.ensures.value ∙ spelled) named)
+    iff_ok _ _ (named_like c.args.tables.now.cut c.args.raw.now c.args.pairs.now c.as_slice.ensures.limits c.args.at c.requires.before c.args.id.now
+    c.args.commit.now here.0 here.1 here.2 c.in-Some.first.now is c.as_slice-in-Some.result.now (c.as_slice-in-Some.ensures.value ∙ spelled) named)
     c.is_like_first.result c.is_like_first.ensures
 
 pub returns : goal.returns
 returns c =
     let here = c.requires.here in
-    absurd (some_first c.args.tables.now.cut c.args.pairs.now c.as_slice.ensures.limits c.args.at c.requires.before c.args.id.now c.args.commit.now
-    here.0 here.1 here.2 (sym (c.requires.tables.commits c.args.id.now) ∙ sym c.in-None.ensures.value))
+    absurd (some_first c.args.tables.now.cut c.args.raw.now c.args.pairs.now c.as_slice.ensures.limits c.args.at c.requires.before c.args.id.now
+    c.args.commit.now here.0 here.1 here.2 (sym (c.requires.tables.commits c.args.id.now) ∙ sym c.in-None.ensures.value))
