@@ -29,8 +29,8 @@ use Rattle.core_state.specs.declared.file_place.FilePlace.{FilePlace}
 use Rattle.core_state.specs.LakeStates.{LakeStateValue, state_of}
 use Rattle.core_changes.specs.LakeChanges.{after_new_head, after_repository_create}
 use Rattle.core_changes.proofs.FoundingLemmas.{one_file}
-use Rattle.core_puts.specs.FreshLakes.{bare_lake}
-use Rattle.core_puts.specs.Puts.{create_repository_puts, new_head_puts}
+use Rattle.core_pairs.specs.PutWords.{bare_lake}
+use Rattle.core_pairs.specs.PutWords.{create_repository_puts, new_head_puts}
 use Rattle.core_pairs.specs.KeptPlaces.{HasNewPlaces, HasPlaces}
 use Rattle.core_pairs.specs.LakePairs.{AreTokensApart, StandFor}
 use Rattle.core_pairs.proofs.CountsLemmas.{changed_is, things, wide}

@@ -14,7 +14,7 @@ use Rattle.pair_format.specs.PairSpelling.{IsSpelledStored, key_of}
 use Rattle.keeper.specs.declared.put.Put.{Put}
 use Rattle.keeper.specs.Keepers.{KeptPairs, pairs_after, pairs_with}
 use Rattle.core_state.specs.declared.file_place.FilePlace.{FilePlace}
-use Rattle.core_puts.specs.Puts.{file_puts, is_kept_metarange, is_kept_range, metarange_put, new_file_puts, range_put, spelled_put}
+use Rattle.core_pairs.specs.PutWords.{file_puts, is_kept_metarange, is_kept_range, metarange_put, new_file_puts, range_put, spelled_put}
 use Rattle.core_pairs.proofs.PlaceLemmas.{decide}
 use Rattle.core_pairs.proofs.StandLemmas.{Stand, after_both, after_first, after_none, stand_as, turned}
 

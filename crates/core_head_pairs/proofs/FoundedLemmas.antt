@@ -22,7 +22,7 @@ use Rattle.core_state.specs.RepositoryStates.{RepositoryStateValue}
 use Rattle.core_state.specs.LakeStates.{LakeStateValue}
 use Rattle.core_changes.specs.LakeChanges.{after_repository_create}
 use Rattle.core_changes.proofs.FoundingLemmas.{one_file}
-use Rattle.core_puts.specs.Puts.{branch_put, commit_put, counts_put, create_repository_puts, file_puts, repository_put, spelled_put}
+use Rattle.core_pairs.specs.PutWords.{branch_put, commit_put, counts_put, create_repository_puts, file_puts, repository_put, spelled_put}
 use Rattle.core_pairs.specs.LakePairs.{StandFor, StandsIn}
 use Rattle.core_pairs.proofs.BranchPutLemmas.{branch_thing, makes_branch, with_branch}
 use Rattle.core_pairs.proofs.ChangeLemmas.{finished, first_then, no_changes, some_then}

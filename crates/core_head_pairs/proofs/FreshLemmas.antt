@@ -22,8 +22,8 @@ use Rattle.core_state.specs.BranchStates.{BranchStateValue, new_branch}
 use Rattle.core_state.specs.LakeStates.{LakeStateValue}
 use Rattle.core_changes.specs.FreshTokens.{AreTokensBelow}
 use Rattle.core_changes.specs.LakeChanges.{after_repository_create}
-use Rattle.core_puts.specs.FreshLakes.{bare_lake, fresh_puts}
-use Rattle.core_puts.specs.Puts.{branch_put, commit_put, counts_put, file_puts, repository_put, spelled_put}
+use Rattle.core_pairs.specs.PutWords.{bare_lake, fresh_puts}
+use Rattle.core_pairs.specs.PutWords.{branch_put, commit_put, counts_put, file_puts, repository_put, spelled_put}
 use Rattle.core_pairs.specs.LakePairs.{AreTokensApart, HasBranchIn, StandFor, StandsIn}
 use Rattle.core_pairs.proofs.ApartLemmas.{lake_apart}
 use Rattle.core_pairs.proofs.CountsLemmas.{alike, counts_stand, standing, things}

@@ -29,7 +29,7 @@ use Rattle.core_state.specs.RepositoryStates.{RepositoryStateValue}
 use Rattle.core_state.specs.declared.file_place.FilePlace.{FilePlace}
 use Rattle.core_state.specs.LakeStates.{LakeStateValue, state_of}
 use Rattle.core_changes.specs.LakeChanges.{after_new_head}
-use Rattle.core_puts.specs.Puts.{branch_at, commit_put, is_kept_metarange, is_kept_range, new_file_puts, new_head_puts, sealed_removals, spelled_put}
+use Rattle.core_pairs.specs.PutWords.{branch_at, commit_put, is_kept_metarange, is_kept_range, new_file_puts, new_head_puts, sealed_removals, spelled_put}
 use Rattle.core_pairs.specs.KeptPlaces.{HasPlaces}
 use Rattle.core_pairs.specs.LakePairs.{AreTokensApart, StandFor, StandsIn}
 use Rattle.core_pairs.proofs.ApartLemmas.{repository_apart}

@@ -26,7 +26,7 @@ use Rattle.core_state.specs.RepositoryStates.{RepositoryStateValue, repository_o
 use Rattle.core_state.specs.declared.file_place.FilePlace.{FilePlace}
 use Rattle.core_state.specs.LakeStates.{LakeStateValue, state_of}
 use Rattle.core_changes.proofs.IndexLemmas.{in_state}
-use Rattle.core_puts.specs.Puts.{is_kept_metarange, is_kept_range}
+use Rattle.core_pairs.specs.PutWords.{is_kept_metarange, is_kept_range}
 use Rattle.core_pairs.specs.KeptPlaces.{HasPlaces, IsFileAs}
 use Rattle.core_pairs.specs.LakePairs.{IsTreeIn, StandsIn}
 use Rattle.core_pairs.proofs.ThingLemmas.{opened}

@@ -8,3 +8,4 @@ pub mod FreshLemmas
 pub mod PlacesKeptLemmas
 pub mod AdmissibleLemmas
 pub mod BytesLemmas
+pub mod PairLemmas

@@ -14,7 +14,7 @@ ghost use Rattle.core_state.specs.NewCommits.{NewCommit, commit_of_draft};
 ghost use Rattle.core_state.specs.RepositoryStates.{RepositoryStateValue, repository_of};
 ghost use Rattle.core_state.specs.declared.file_place.FilePlace.{FilePlace as AnyFilePlace};
 ghost use Rattle.core_changes.specs.LakeChanges.{after_new_head};
-ghost use Rattle.core_puts.specs.Puts.{new_head_puts};
+ghost use Rattle.core_pairs.specs.PutWords.{new_head_puts};
 ghost use Rattle.core_pairs.specs.KeptPlaces.{HasPlaces};
 ghost use Rattle.core_pairs.specs.LakePairs.{AreTokensApart, StandFor};
 

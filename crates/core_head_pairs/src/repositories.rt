@@ -12,8 +12,8 @@ ghost use Rattle.core_state.specs.FirstStates.{fresh_lake};
 ghost use Rattle.core_state.specs.Index.{HasIndex};
 ghost use Rattle.core_state.specs.LakeStates.{LakeStateValue, state_of};
 ghost use Rattle.core_changes.specs.LakeChanges.{after_repository_create};
-ghost use Rattle.core_puts.specs.FreshLakes.{fresh_puts};
-ghost use Rattle.core_puts.specs.Puts.{create_repository_puts};
+ghost use Rattle.core_pairs.specs.PutWords.{fresh_puts};
+ghost use Rattle.core_pairs.specs.PutWords.{create_repository_puts};
 ghost use Rattle.core_pairs.specs.LakePairs.{AreTokensApart, StandFor};
 
 /// A repository is made under a name that isn't taken, with an admissible first commit.

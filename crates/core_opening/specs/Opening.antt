@@ -4,7 +4,8 @@ use Rattle.lake_format.specs.declared.cut.Cut.{Cut}
 use Rattle.pair_format.specs.declared.pair.Pair.{Pair}
 use Rattle.pair_trees.specs.PairTrees.{AreTreesRead, IsFirstUnread}
 use Rattle.pair_trees.specs.Things.{things_of}
-use Rattle.pair_ties.specs.PairTies.{AreTied, IsFirstBroken}
+use Rattle.pair_ties.specs.BrokenPairs.{IsFirstBroken}
+use Rattle.pair_ties.specs.PairTies.{AreTied}
 use Rattle.core_state.specs.Index.{HasIndex}
 use Rattle.core_state.specs.LakeStates.{lake_value}
 use Rattle.core_state.specs.declared.lake.LakeState.{LakeState}

@@ -40,7 +40,7 @@ fn test_pairs(
     trees: &[Option<ReadTree>],
     cut: &Cut,
 ) -> Result<(), OpeningFault>
-    requires things { spelled.now ≡ things_of pairs.now }
+    requires spelled { AreSpelled pairs.now spelled.now }
     requires trees { trees.now ≡ trees_of cut.now spelled.now }
     ensures { MatchResult result (λ _. AreWhole cut.now pairs.now) (HasCause cut.now pairs.now) }
 {

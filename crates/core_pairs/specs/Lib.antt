@@ -1,2 +1,3 @@
 pub mod KeptPlaces
 pub mod LakePairs
+pub mod PutWords

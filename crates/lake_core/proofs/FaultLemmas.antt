@@ -14,9 +14,6 @@ use Rattle.lake_model.specs.declared.history.Operation.{Operation}
 use Rattle.lake_model.specs.History.{accepted_entry, faulted_entry}
 use Rattle.core_puts.specs.KeeperViews.{IsLaterKeeper, KeeperView}
 use Rattle.core_puts.specs.KeptChanges.{IsAsBefore, IsFaulted, IsMade, Keeps, LeavesParts, Making, Parts}
-use Rattle.core_standing.specs.Standing.{Stands}
-use Rattle.core_state.specs.declared.lake.LakeState.{LakeState}
-use Rattle.core_state.specs.LakeStates.{LakeStateValue, lake_value}
 use Rattle.lake_core.specs.Faults.{HasFault}
 use Rattle.lake_core.specs.KeptSince.{IsKeptSince}
 use Rattle.lake_core.specs.Lakes.{Holds, LakeValue}
@@ -134,13 +131,3 @@ module _ {K : Type 0} (view : KeeperView K) where
       let more = holds.keeper.counted has quiet.counting in
       let same = quiet.same in
       omega arith
-
-  -- what was made ready says the same
-  pub ready_holds : (opened : LakeState) (first : K) (history : List HistoryEntry) (present ready : LakeState) (keeper : K)
-      → Holds view (record { opened = opened; first = first; history = history; present = present; keeper = keeper })
-      → lake_value ready ≡ lake_value present
-      → Holds view (record { opened = opened; first = first; history = history; present = ready; keeper = keeper })
-  ready_holds opened first history present ready keeper holds same = record {
-    stands = subst (λ (l : LakeStateValue). Stands (lake_value opened) history l) (sym same) holds.stands;
-    keeper = holds.keeper;
-  }

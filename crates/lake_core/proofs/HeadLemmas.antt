@@ -73,7 +73,7 @@ both_so false q a b = absurd cc
 -- ---- one that is made
 
 -- what holds of something that was found, and of what is made of it
-both_found : {X Y : Type 0} (f : X → Y) (P : Y → Type 0) (Q : X → Type 0) (o : Option X) → IsSomeAnd (option_map f o) P → IsSomeAnd o Q
+pub both_found : {X Y : Type 0} (f : X → Y) (P : Y → Type 0) (Q : X → Type 0) (o : Option X) → IsSomeAnd (option_map f o) P → IsSomeAnd o Q
     → IsSomeAnd o (λ x. P (f x) × Q x)
 both_found f P Q (Some x) made found = (made, found)
 both_found f P Q None made found = absurd made

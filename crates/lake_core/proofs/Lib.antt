@@ -1,8 +1,10 @@
 pub mod ChangeLemmas
 pub mod FaultLemmas
 pub mod HeadLemmas
+pub mod HeadPairLemmas
 pub mod NewNumberLemmas
 pub mod NumberLemmas
+pub mod PairLemmas
 pub mod OpeningLemmas
 pub mod PreparingLemmas
 pub mod SendLemmas

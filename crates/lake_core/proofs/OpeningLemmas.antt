@@ -1,9 +1,10 @@
 -- A lake that is founded over a keeper.
-use Rattle.std.proofs.Common.{inl, inr, ◌≡◌, ◌≤◌, ℕ, List, [], refl, sym, ap, ◌∙◌, subst}
-use Rattle.std.specs.Prelude.{◌⊎◌, Option, Some, None, IfSome, Result, Ok, Err, IsErrAnd, MatchResult, is_some, option_map}
+use Rattle.std.proofs.Common.{inl, inr, ◌≡◌, ℕ, List, [], refl, sym, ap, ◌∙◌, subst}
+use Rattle.std.specs.Prelude.{◌⊎◌, Option, Some, None, IfSome, Result, Ok, Err, IsErrAnd, MatchResult}
+use Rattle.std.specs.FinMap.{empty}
+use Rattle.lake_base.specs.Maps.{ByteMap}
 use Rattle.keeper.specs.Keepers.{IsQuietUnlessFailed, KeptPairs, MayHaveMade, pairs_after}
 use Rattle.keeper.specs.declared.put.Put.{Put}
-use Rattle.lake_base.specs.Memory.{next_count}
 use Rattle.lake_base.specs.Outside.{Rose}
 use Rattle.lake_base.specs.declared.outside.Trouble.{Trouble}
 use Rattle.lake_base.specs.declared.outside.Trouble.TheVariants.{Failed, NoMemory}
@@ -11,12 +12,16 @@ use Rattle.lake_format.specs.declared.cut.Cut.{Cut}
 use Rattle.core_puts.specs.FreshLakes.{fresh_puts}
 use Rattle.lake_model.specs.declared.history.HistoryEntry.{HistoryEntry}
 use Rattle.core_state.specs.declared.lake.LakeState.{LakeState}
+use Rattle.core_state.specs.FirstStates.{fresh_lake}
 use Rattle.core_state.specs.LakeStates.{LakeStateValue}
+use Rattle.core_state.specs.declared.file_place.FilePlace.{FilePlace}
+use Rattle.core_keeping.specs.Following.{FollowLake}
 use Rattle.lake_core.specs.declared.open_fault.OpenFault.{OpenFault}
 use Rattle.lake_core.specs.OpenFaults.{open_fault_of}
-use Rattle.lake_core.specs.Opening.{IsUnfounded}
+use Rattle.lake_core.specs.Opening.{IsFilled, IsUnfounded}
 use Rattle.core_puts.specs.KeeperViews.{IsCalledOnce, IsLaterKeeper, KeeperView}
 use Rattle.core_standing.specs.Standing.{Stands}
+use Rattle.lake_core.proofs.PairLemmas.{told_made}
 
 -- what a keeper kept of its puts
 pub kept_after : (old new : Option KeptPairs) (puts made : List Put) → puts ≡ made
@@ -38,6 +43,16 @@ pub quiet_out_of_memory : (before now : ℕ) (trouble : Trouble) → IsQuietUnle
     → trouble ≡ NoMemory → now ≡ before
 quiet_out_of_memory before now NoMemory quiet is = quiet
 quiet_out_of_memory before now Failed quiet is = absurd cc
+
+-- the pairs of a fresh lake follow it, where its keeper had none
+pub founded_pairs : {K : Type 0} (view : KeeperView K) (cut : Cut) (old new : K) (files : ByteMap (Option FilePlace)) (present : LakeStateValue)
+    → IfSome (view.kept old) (λ pairs. pairs ≡ empty) → IsFilled view cut old new → present ≡ fresh_lake cut
+    → FollowLake (pairs_after (fresh_puts cut) empty) files (fresh_lake cut) → IfSome (view.kept new) (λ pairs. FollowLake pairs files present)
+founded_pairs view cut old new files present none filled is follow =
+    told_made (view.kept old) (view.kept new) (fresh_puts cut) (λ pairs. pairs ≡ empty) (λ pairs. FollowLake pairs files present)
+    filled.keeper.told filled.kept none
+    (λ pairs are. subst (λ l. FollowLake (pairs_after (fresh_puts cut) pairs) files l) (sym is)
+    (subst (λ ps. FollowLake (pairs_after (fresh_puts cut) ps) files (fresh_lake cut)) (sym are) follow))
 
 -- A keeper failed to make the puts, or memory ran out.
 module _ {K : Type 0} (view : KeeperView K) (cut : Cut) (old new : K) (made : List Put) (are : made ≡ fresh_puts cut)

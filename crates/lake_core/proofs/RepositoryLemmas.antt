@@ -1,6 +1,9 @@
 -- What the step of a new repository answers, and what it leaves where it is refused.
-use Rattle.std.proofs.Common.{◌≡◌, ◌+◌, ℕ, List, ◌⊎◌, inl, inr, sym, ap, subst, ◌∙◌}
-use Rattle.std.specs.Prelude.{Option, Some, Result, Ok, Err, IsErrAnd}
+use Rattle.std.proofs.Common.{◌≡◌, ◌+◌, ◌<◌, ◌^◌, ℕ, List, ◌⊎◌, inl, inr, sym, ap, subst, ◌∙◌}
+use Rattle.std.specs.Prelude.{true, Option, Some, None, Result, Ok, Err, IsErrAnd}
+use Rattle.lake_base.specs.Maps.{ByteMap}
+use Rattle.lake_base.specs.Names.{repo_fault}
+use Rattle.pair_format.specs.PairSpelling.{IsRefName}
 use Rattle.keeper.specs.declared.put.Put.{Put}
 use Rattle.lake_base.specs.declared.digest.Digest.{Digest}
 use Rattle.lake_model.specs.declared.fault.StepFault.{StepFault}
@@ -14,7 +17,11 @@ use Rattle.lake_model.specs.Steps.{IsCreateRepositoryReply, create_repository_ca
 use Rattle.core_causes.specs.Clashing.{AsksToCreate}
 use Rattle.core_changes.specs.LakeChanges.{after_repository_create}
 use Rattle.core_changes.specs.LakeRoom.{HasRepositoryRoom}
+use Rattle.core_changes.specs.NewPlaces.{AreNamedPlaces, HasNewPlaces, HaveSamePlaces}
 use Rattle.core_changes.specs.NewRepositories.{IsNew}
+use Rattle.core_commits.proofs.PlacesLeftLemmas.{places_since}
+use Rattle.core_state.specs.FirstStates.{first_tree}
+use Rattle.core_state.specs.declared.file_place.FilePlace.{FilePlace}
 use Rattle.core_state.specs.LakeStates.{LakeStateValue}
 use Rattle.core_state.specs.declared.lake.LakeState.{LakeState}
 use Rattle.core_puts.specs.KeptChanges.{Keeps, Parts, unmade}
@@ -103,7 +110,23 @@ repository_made repo branch date l m n ready same is made =
     (subst (λ x. IsNew repo branch date x ready.new) (sym same) is.new)
     ∙ ap (after_repository_create repo branch date) same
 
+-- and places of the files of its first tree come to the index
+pub new_places : (repo branch : List ℕ) (date : ℕ) (l m : LakeStateValue) (ready : ReadyRepository) (before middle after : ByteMap (Option FilePlace)) → m ≡ l
+    → IsReadyRepository repo branch date l ready → ready.new.place.is_metarange ≡ true → AreNamedPlaces middle → HaveSamePlaces before middle
+    → ((branch : List ℕ) (date : ℕ) → IsNew ready.name branch date m ready.new → ready.new.place.is_metarange ≡ true → AreNamedPlaces middle
+    → HasNewPlaces middle after (first_tree m.cut))
+    → HasNewPlaces before after (first_tree l.cut)
+new_places repo branch date l m ready before middle after same is kind named places made =
+    places_since before middle after (first_tree l.cut) places
+    (subst (λ (x : LakeStateValue). HasNewPlaces middle after (first_tree x.cut)) same
+    (made branch date (subst (λ name. IsNew name branch date m ready.new) (sym is.name) (subst (λ x. IsNew repo branch date x ready.new) (sym same) is.new))
+    kind named))
+
 -- what is ready is that of the date
 pub ready_at : (repo branch : List ℕ) (given date : ℕ) (l : LakeStateValue) (ready : ReadyRepository) → given ≡ date
     → IsReadyRepository repo branch given l ready → IsReadyRepository repo branch date l ready
 ready_at repo branch given date l ready dated is = subst (λ d. IsReadyRepository repo branch d l ready) dated is
+
+pub spelled_at : (repo branch : List ℕ) (given date : ℕ) → given ≡ date → (repo_fault repo ≡ None) × (IsRefName branch × (given < 2 ^ 64))
+    → (repo_fault repo ≡ None) × (IsRefName branch × (date < 2 ^ 64))
+spelled_at repo branch given date dated is = subst (λ d. (repo_fault repo ≡ None) × (IsRefName branch × (d < 2 ^ 64))) dated is

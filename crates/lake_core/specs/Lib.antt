@@ -1,4 +1,5 @@
 pub mod Faults
+pub mod FollowedLakes
 pub mod HeadConditions
 pub mod KeptSince
 pub mod Lakes

@@ -1,13 +1,16 @@
 //! Branches that are made and deleted, sealed and reset.
-ghost use Rattle.std.specs.Prelude.{◌≡◌, Some, IfOk, OnOk, false};
+ghost use Rattle.std.specs.Prelude.{◌≡◌, ◌<◌, ◌^◌, Some, IfOk, IfSome, OnOk, false, length};
 ghost use Rattle.std.specs.FinMap.{get};
 ghost use Rattle.std.specs.Option.{option_map_or};
 ghost use Rattle.lake_base.specs.Names.{is_like_id};
+ghost use Rattle.lake_format.specs.Spelling.{IsDigest};
 ghost use Rattle.lake_model.specs.declared.history.Operation.TheVariants as operation;
 ghost use Rattle.lake_model.specs.Refusals.{GivesOrFails};
 ghost use Rattle.lake_model.specs.Steps.{IsCreateBranchReply, delete_branch_reply, reset_reply, seal_reply};
+ghost use Rattle.pair_format.specs.PairSpelling.{IsRefName};
 ghost use Rattle.core_changes.specs.LakeRoom.{HasRoomAt};
 ghost use Rattle.core_changes.specs.declared.repository.Room.TheVariants as room;
+ghost use Rattle.core_state.specs.BranchStates.{with_fresh};
 ghost use Rattle.core_state.specs.Counts.{AreFew};
 ghost use Rattle.core_state.specs.LakeStates.{lake_value};
 ghost use Rattle.core_puts.specs.Puts as puts;
@@ -22,6 +25,7 @@ use commit_graph::RefExpr;
 use core_causes::{test_create_branch, test_delete_branch, test_seal, test_write};
 use core_changes::lake as change;
 use core_changes::repository::Room;
+use core_keeping::{laws_of_followed_names, laws_of_followed_writes};
 use core_puts::{create_branch_puts, delete_branch_puts, keep, place, reset_puts, seal_puts};
 use core_standing::{law_of_present, laws_of_names, laws_of_plain_names, laws_of_writes};
 use core_state::LakeState;
@@ -52,6 +56,7 @@ impl<K: Keeper> Lake<K> {
         law_of_present();
         let commit = test_create_branch(&self.present, repo, &name, e)?;
         laws_of_names();
+        laws_of_followed_names();
 
         // Take memory.
         let Ready { operation, puts } = ready_create(
@@ -93,6 +98,7 @@ impl<K: Keeper> Lake<K> {
         laws_of_causes();
         test_delete_branch(&self.present, repo, name)?;
         laws_of_names();
+        laws_of_followed_names();
         laws_of_plain_names();
 
         // Take memory.
@@ -131,6 +137,7 @@ impl<K: Keeper> Lake<K> {
         laws_of_causes();
         test_seal(&self.present, repo, branch, why)?;
         laws_of_writes();
+        laws_of_followed_writes();
         laws_of_plain_names();
 
         // Take memory.
@@ -181,6 +188,7 @@ impl<K: Keeper> Lake<K> {
         laws_of_causes();
         test_write(&self.present, repo, branch)?;
         laws_of_writes();
+        laws_of_followed_writes();
         laws_of_plain_names();
 
         // Take memory.
@@ -219,9 +227,11 @@ fn ready_create(
     requires plain { is_like_id name.now ≡ false }
     requires few { AreFew (lake_value lake.old) }
     ensures same { lake_value lake.new ≡ lake_value lake.old }
+    ensures names { lake.new.names ≡ lake.old.names }
     ensures room { OnOk result (HasRoomAt (room.Branch name.entry) repo.now lake.new) }
     ensures ready { IfOk result (IsReadyChange (operation.BranchCreate repo.now name.now commit)
         (puts.create_branch_puts repo.now name.now commit (lake_value lake.old))) }
+    ensures limits { OnOk result (IsRefName name.now × IsDigest commit.0) }
 {
     let operation = Operation::BranchCreate {
         repo: repo.copy(alloc)?,
@@ -263,9 +273,12 @@ fn ready_seal(
     requires plain { is_like_id branch.now ≡ false }
     requires few { AreFew (lake_value lake.old) }
     ensures same { lake_value lake.new ≡ lake_value lake.old }
+    ensures names { lake.new.names ≡ lake.old.names }
     ensures room { OnOk result (HasRoomAt (room.Change branch.entry) repo.now lake.new) }
     ensures ready { IfOk result (IsReadyChange (operation.Seal repo.now branch.now why)
         (puts.seal_puts repo.now branch.now (lake_value lake.old))) }
+    ensures limits { OnOk result (IfSome (puts.branch_at repo.now branch.now (lake_value lake.old))
+        (λ b. length (with_fresh (lake_value lake.old).next_token b).sealed < 2 ^ 32)) }
 {
     let operation = Operation::Seal {
         repo: repo.copy(alloc)?,
@@ -288,6 +301,7 @@ fn ready_reset(
     requires plain { is_like_id branch.now ≡ false }
     requires few { AreFew (lake_value lake.old) }
     ensures same { lake_value lake.new ≡ lake_value lake.old }
+    ensures names { lake.new.names ≡ lake.old.names }
     ensures room { OnOk result (HasRoomAt (room.Change branch.entry) repo.now lake.new) }
     ensures ready { IfOk result (IsReadyChange (operation.Reset repo.now branch.now what.now)
         (puts.reset_puts repo.now branch.now what.now (lake_value lake.old))) }

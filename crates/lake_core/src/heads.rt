@@ -8,6 +8,7 @@ ghost use Rattle.lake_core.specs.Leaving.{Leaves};
 
 use crate::lake::Lake;
 use core_commits::Guard;
+use core_keeping::laws_of_followed_heads;
 use core_standing::{law_of_new_heads, law_of_present};
 use keeper::Keeper;
 use lake_base::{RefName, RepoName};
@@ -43,6 +44,7 @@ impl<K: Keeper> Lake<K> {
     {
         law_of_present();
         law_of_new_heads();
+        laws_of_followed_heads();
         core_commits::swap(
             self.alloc,
             &mut self.keeper,

@@ -9,8 +9,8 @@
 //! - Laws, the contracts of functions that do nothing, of all that follows an opening. `changes`: what a change makes
 //!   of the state and of the versions; `faults`: a fault of the store stands in a history only where the keeper's count
 //!   of faults rose since the opening or stands at its last value, and a lake is stopped exactly where one does;
-//!   `numbers`: the numbers of objects ascend, so each is given out once; `keeping_all`: no step removes anything, so
-//!   nothing is expired or gone.
+//!   `pairs`: the pairs of the keeper stand for the lake put to rest; `numbers`: the numbers of objects ascend, so each
+//!   is given out once; `keeping_all`: no step removes anything, so nothing is expired or gone.
 //!
 //! Each change but `swap` has four blocks: it tests what may refuse it, in the one order; takes its memory; keeps its
 //! puts and its entry by one call of the keeper; and changes the lake in memory, which can't be refused any more. A
@@ -34,6 +34,7 @@ pub mod notes;
 pub mod numbers;
 mod open_fault;
 pub mod opening;
+pub mod pairs;
 pub mod paths;
 pub mod preparing;
 pub mod readings;
@@ -53,4 +54,5 @@ pub use keeping_all::law_of_keeping_all;
 pub use lake::Lake;
 pub use numbers::{law_of_new_numbers, law_of_numbers};
 pub use open_fault::OpenFault;
+pub use pairs::law_of_kept_pairs;
 pub use standing::LakeOrigin;

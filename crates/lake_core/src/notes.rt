@@ -1,16 +1,17 @@
 //! Settings.
-ghost use Rattle.std.specs.Prelude.{◌≡◌, Some, IfOk, IfSome, false};
+ghost use Rattle.std.specs.Prelude.{◌≡◌, Some, IfOk, IfSome, IsSome, OnOk, false};
 ghost use Rattle.std.specs.FinMap.{get};
 ghost use Rattle.std.specs.Option.{ForSome};
 ghost use Rattle.lake_base.specs.Names.{is_like_id};
 ghost use Rattle.lake_values.specs.NoteNames.{note_name};
+ghost use Rattle.lake_format.specs.Spelling.{AreBytes};
 ghost use Rattle.lake_model.specs.declared.history.Operation.TheVariants as operation;
 ghost use Rattle.lake_model.specs.Refusals.{GivesOrFails};
 ghost use Rattle.lake_model.specs.Steps.{set_note_reply};
 ghost use Rattle.core_state.specs.Counts.{AreFew};
 ghost use Rattle.core_state.specs.LakeStates.{lake_value};
 ghost use Rattle.core_puts.specs.Puts as puts;
-ghost use Rattle.core_puts.specs.Puts.{HasText};
+ghost use Rattle.core_puts.specs.Puts.{HasText, note_text};
 ghost use Rattle.lake_core.specs.Lakes.{state, versions};
 ghost use Rattle.lake_core.specs.Makings.{set_note};
 ghost use Rattle.lake_core.specs.ReadyChanges.{IsReadyChange};
@@ -20,6 +21,7 @@ use crate::lake::Lake;
 use crate::ready::Ready;
 use core_causes::test_set_note;
 use core_changes::lake as change;
+use core_keeping::laws_of_followed_names;
 use core_puts::{keep, place, set_note_puts};
 use core_standing::{law_of_settings, laws_of_plain_names};
 use core_state::LakeState;
@@ -53,6 +55,7 @@ impl<K: Keeper> Lake<K> {
         laws_of_causes();
         test_set_note(&self.present, repo, expected, name, &note)?;
         law_of_settings();
+        laws_of_followed_names();
         laws_of_plain_names();
 
         // Take memory.
@@ -87,8 +90,10 @@ fn ready_note(
     requires plain { ForSome (get (lake_value lake.now).repositories repo.now)
         (λ r. is_like_id r.default_branch ≡ false) }
     requires few { AreFew (lake_value lake.now) }
-    ensures { IfOk result (IsReadyChange (operation.NoteSet repo.now name note.now)
+    ensures ready { IfOk result (IsReadyChange (operation.NoteSet repo.now name note.now)
         (puts.set_note_puts repo.now name note.now (lake_value lake.now))) }
+    ensures limits { OnOk result (IsSome (get (lake_value lake.now).repositories repo.now)
+        → IfSome note.now (λ n. AreBytes (note_text n))) }
 {
     let operation = Operation::NoteSet {
         repo: repo.copy(alloc)?,

@@ -3,11 +3,13 @@ ghost use Rattle.std.specs.Prelude.{◌≡◌, ◌<◌, [], IfSome, MatchResult}
 ghost use Rattle.std.specs.FinMap.{empty};
 ghost use Rattle.core_standing.specs.Standing.{Stands};
 ghost use Rattle.core_state.specs.LakeStates.{lake_value};
+ghost use Rattle.core_keeping.specs.Following.{FollowLake};
 ghost use Rattle.lake_core.specs.Opening.{IsFounded, IsReopened, IsUnfounded};
 
 use crate::filling::fill;
 use crate::lake::Lake;
 use crate::open_fault::OpenFault;
+use core_keeping::laws_of_followed_lakes;
 use core_puts::laws_of_founding;
 use core_standing::{law_of_opening, law_of_versions_below};
 use core_state::LakeState;
@@ -40,16 +42,19 @@ impl<K: Keeper> Lake<K> {
                 law_of_next_versions();
                 law_of_versions_below();
                 law_of_opening();
+                laws_of_followed_lakes();
                 Ok(Lake::reopened(alloc, keeper, present))
             }
             Err(fault) => Err((fault, keeper)),
         }
     }
 
-    /// A lake in memory that stands for no entries, over the keeper of its pairs: it was opened as that. Nothing of the
-    /// keeper is asked. It takes no memory.
+    /// A lake in memory that stands for no entries, over the keeper of its pairs, which follow the lake where it tells
+    /// them: it was opened as that. It takes no memory.
     pub fn reopened(alloc: Global, keeper: K, present: LakeState) -> Lake<K>
-        requires { Stands (lake_value present) [] (lake_value present) }
+        requires stands { Stands (lake_value present) [] (lake_value present) }
+        requires pairs { IfSome (K.kept keeper)
+            (λ pairs. FollowLake pairs present.names.files (lake_value present)) }
         ensures { IsReopened keeper present result }
     {
         Lake {

@@ -1,8 +1,11 @@
 //! What stands at paths of a branch.
-ghost use Rattle.std.specs.Prelude.{◌≡◌, ◌⊎◌, ℕ, List, Option, Some, None, IfOk, IfSome, MatchResult, OnOk};
+ghost use Rattle.std.specs.Prelude.{◌≡◌, ◌⊎◌, ℕ, List, Option, Some, None, IfOk, IfSome, IsSome, MatchResult, OnOk};
+ghost use Rattle.lake_base.specs.Names.{path_fault};
 ghost use Rattle.lake_base.specs.declared.digest.Digest.{Digest};
 ghost use Rattle.lake_values.specs.Entry.{EntryValue};
 ghost use Rattle.commit_graph.specs.Expressions.{RefExprValue};
+ghost use Rattle.lake_format.specs.Spelling.{IsEntry};
+ghost use Rattle.pair_format.specs.PairSpelling.{IsSpelledChange};
 ghost use Rattle.lake_model.specs.declared.fault.StepFault.{StepFault};
 ghost use Rattle.lake_model.specs.declared.fault.StepFault.TheVariants as fault;
 ghost use Rattle.lake_model.specs.declared.history.By.{By};
@@ -22,7 +25,7 @@ ghost use Rattle.core_changes.specs.LakeRoom.{HasRoomAt};
 ghost use Rattle.core_changes.specs.declared.repository.Room.TheVariants as room;
 ghost use Rattle.core_state.specs.Counts.{HasVersions};
 ghost use Rattle.core_state.specs.LakeStates.{LakeStateValue, lake_value, state_of};
-ghost use Rattle.core_puts.specs.Puts.{stage_puts};
+ghost use Rattle.core_puts.specs.Puts.{branch_at, stage_puts};
 ghost use Rattle.lake_core.specs.Lakes.{state, versions};
 ghost use Rattle.lake_core.specs.Makings.{copy, stage};
 ghost use Rattle.lake_core.specs.ReadyChanges.{IsReadyChange, IsReadyCopy, IsTestedCopy};
@@ -34,6 +37,7 @@ use commit_graph::RefExpr;
 use core_causes::{Copied, test_copy, test_stage};
 use core_changes::lake as change;
 use core_changes::repository::Room;
+use core_keeping::laws_of_followed_writes;
 use core_puts::{copy_puts, keep, place, stage_puts};
 use core_standing::{law_of_present, laws_of_writes};
 use core_state::LakeState;
@@ -74,6 +78,7 @@ impl<K: Keeper> Lake<K> {
             &change,
         )?;
         laws_of_writes();
+        laws_of_followed_writes();
 
         // Keep.
         keep(
@@ -110,6 +115,7 @@ impl<K: Keeper> Lake<K> {
     {
         // Test, and take memory.
         law_of_copies();
+        laws_of_followed_writes();
         let ready = ready_copy(
             self.alloc,
             &mut self.present,
@@ -170,6 +176,7 @@ fn ready_stage(
     change: &Change,
 ) -> Result<Ready, StepFault>
     ensures same { lake_value lake.new ≡ lake_value lake.old }
+    ensures names { lake.new.names ≡ lake.old.names }
     ensures room { OnOk result (HasRoomAt (room.Change branch.entry) repo.now lake.new) }
     ensures tells { (given : VersionsGiven) → HasVersions given (lake_value lake.old) → MatchResult result
         (λ ready. (first_cause
@@ -179,6 +186,8 @@ fn ready_stage(
         (λ f. (f ≡ fault.NoMemory) ⊎ ((first_cause
         (stage_causes (state_of (lake_value lake.old)) given repo.now branch.now version) ≡ Some f)
         × (lake.new ≡ lake.old))) }
+    ensures limits { OnOk result (IsSome (branch_at repo.now branch.now (lake_value lake.old))
+        → (path_fault path.now ≡ None) × IsSpelledChange change.now) }
 {
     test_stage(lake, repo, branch, version)?;
     let ready = parts_of_stage(alloc, lake, repo, branch, path, change)?;
@@ -195,9 +204,12 @@ fn parts_of_stage(
     change: &Change,
 ) -> Result<Ready, NoMemory>
     ensures same { lake_value lake.new ≡ lake_value lake.old }
+    ensures names { lake.new.names ≡ lake.old.names }
     ensures room { OnOk result (HasRoomAt (room.Change branch.entry) repo.now lake.new) }
     ensures ready { IfOk result (IsReadyChange (operation.Stage repo.now branch.now path.now change.now)
         (stage_puts repo.now branch.now path.now change.now (lake_value lake.old))) }
+    ensures limits { OnOk result (IsSome (branch_at repo.now branch.now (lake_value lake.old))
+        → (path_fault path.now ≡ None) × IsSpelledChange change.now) }
 {
     let operation = Operation::Stage {
         repo: repo.copy(alloc)?,
@@ -224,6 +236,7 @@ fn ready_copy(
 ) -> Result<ReadyCopy, StepFault>
     requires { IsSound (state_of (lake_value lake.old)) }
     ensures same { lake_value lake.new ≡ lake_value lake.old }
+    ensures names { lake.new.names ≡ lake.old.names }
     ensures room { OnOk result (HasRoomAt (room.Change branch.entry) repo.now lake.new) }
     ensures tells { (given : VersionsGiven) → HasVersions given (lake_value lake.old) → MatchResult result
         (λ ready. (first_cause
@@ -232,6 +245,8 @@ fn ready_copy(
         (λ f. (f ≡ fault.NoMemory) ⊎ ((first_cause
         (copy_causes (state_of (lake_value lake.old)) given repo.now branch.now version e.now from.now) ≡ Some f)
         × (lake.new ≡ lake.old))) }
+    ensures limits { IfOk result (λ ready. IsSome (branch_at repo.now branch.now (lake_value lake.old))
+        → (path_fault path.now ≡ None) × IsEntry ready.entry) }
 {
     let tested = tested_copy(alloc, lake, repo, branch, version, path, e, from)?;
     let puts = puts_of_copy(alloc, lake, repo, branch, path, &tested.entry)?;
@@ -253,9 +268,12 @@ fn puts_of_copy(
     entry: &Entry,
 ) -> Result<Vec<Put>, NoMemory>
     ensures same { lake_value lake.new ≡ lake_value lake.old }
+    ensures names { lake.new.names ≡ lake.old.names }
     ensures room { OnOk result (HasRoomAt (room.Change branch.entry) repo.now lake.new) }
     ensures puts { IfOk result (λ puts. puts.items
         ≡ stage_puts repo.now branch.now path.now (put entry.now) (lake_value lake.old)) }
+    ensures limits { OnOk result (IsSome (branch_at repo.now branch.now (lake_value lake.old))
+        → (path_fault path.now ≡ None) × IsEntry entry.now) }
 {
     let puts = copy_puts(alloc, lake, repo, branch, path, entry)?;
     change::make_room_at(alloc, lake, repo, Room::Change(branch))?;

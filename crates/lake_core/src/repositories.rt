@@ -1,14 +1,17 @@
 //! Repositories that are made.
-ghost use Rattle.std.specs.Prelude.{◌≡◌, ◌⊎◌, ℕ, List, Option, Some, None, IfOk, MatchResult, false};
-ghost use Rattle.lake_base.specs.Names.{is_like_id};
+ghost use Rattle.std.specs.Prelude.{◌≡◌, ◌<◌, ◌^◌, ◌⊎◌, ℕ, List, Option, Some, None, IfOk, MatchResult, OnOk};
+ghost use Rattle.std.specs.Prelude.{false, true};
+ghost use Rattle.lake_base.specs.Names.{is_like_id, repo_fault};
 ghost use Rattle.lake_model.specs.declared.fault.StepFault.TheVariants as fault;
 ghost use Rattle.lake_model.specs.declared.history.Operation.TheVariants as operation;
 ghost use Rattle.lake_model.specs.Commits.{bare_repository, first_draft};
 ghost use Rattle.lake_model.specs.Refusals.{Clash, IsClashOrNone, first_cause};
 ghost use Rattle.lake_model.specs.Soundness.{IsSound};
 ghost use Rattle.lake_model.specs.Steps.{IsCreateRepositoryReply, create_repository_causes};
+ghost use Rattle.pair_format.specs.PairSpelling.{IsRefName};
 ghost use Rattle.core_causes.specs.Clashing.{AsksToCreate};
 ghost use Rattle.core_changes.specs.LakeRoom.{HasRepositoryRoom};
+ghost use Rattle.core_changes.specs.NewPlaces.{HaveSamePlaces};
 ghost use Rattle.core_puts.specs.FreshLakes.{IsFirst};
 ghost use Rattle.core_state.specs.Counts.{AreFew};
 ghost use Rattle.core_state.specs.Index.{HasIndex};
@@ -23,6 +26,7 @@ use crate::lake::Lake;
 use crate::ready::{Ready, ReadyRepository};
 use core_causes::test_create_repository;
 use core_changes::founding as change;
+use core_keeping::laws_of_followed_repositories;
 use core_puts::{FirstCommit, create_repository_puts, first_commit, keep, new_repository, place};
 use core_standing::{law_of_present, law_of_repository};
 use core_state::LakeState;
@@ -51,6 +55,7 @@ impl<K: Keeper> Lake<K> {
         laws_of_causes();
         law_of_present();
         law_of_repository();
+        laws_of_followed_repositories();
         let ready = ready_repository(self.alloc, &mut self.present, repo, branch, date)?;
 
         // Keep.
@@ -87,10 +92,13 @@ fn ready_repository(
         → first_cause (create_repository_causes (state_of (lake_value lake.old)) repo clash) ≡ None
         → AreFew (lake_value lake.old) }
     ensures same { lake_value lake.new ≡ lake_value lake.old }
+    ensures places { HaveSamePlaces lake.old.names.files lake.new.names.files }
     ensures asks { AsksToCreate (state_of (lake_value lake.old)) repo branch date result }
     ensures refused { MatchResult result (λ ready. Unit {0}) (λ f. (f ≡ fault.NoMemory) ⊎ (lake.new ≡ lake.old)) }
     ensures room { IfOk result (λ ready. HasRepositoryRoom ready.name ready.new.commit ready.new.file lake.new) }
     ensures ready { IfOk result (IsReadyRepository repo branch date (lake_value lake.old)) }
+    ensures kind { IfOk result (λ ready. ready.new.place.is_metarange ≡ true) }
+    ensures limits { OnOk result ((repo_fault repo ≡ None) × (IsRefName branch × (date < 2 ^ 64))) }
 {
     let first = tested_commit(alloc, lake, &repo, date)?;
     let ready = parts_of_repository(alloc, lake, repo, branch, first)?;
@@ -126,8 +134,11 @@ fn parts_of_repository(
     requires few { AreFew (lake_value lake.old) }
     requires first { IsFirst (lake_value lake.old).cut first.commit.date first }
     ensures same { lake_value lake.new ≡ lake_value lake.old }
+    ensures places { HaveSamePlaces lake.old.names.files lake.new.names.files }
     ensures room { IfOk result (λ ready. HasRepositoryRoom ready.name ready.new.commit ready.new.file lake.new) }
     ensures ready { IfOk result (IsReadyRepository repo branch first.commit.date (lake_value lake.old)) }
+    ensures kind { IfOk result (λ ready. ready.new.place.is_metarange ≡ true) }
+    ensures limits { OnOk result ((repo_fault repo ≡ None) × (IsRefName branch × (first.commit.date < 2 ^ 64))) }
 {
     change::make_repository_room(
         alloc,
@@ -157,8 +168,10 @@ fn ready_entry(
     requires plain { is_like_id branch.now ≡ false }
     requires few { AreFew (lake_value lake.now) }
     requires first { IsFirst (lake_value lake.now).cut first.now.commit.date first.now }
-    ensures { IfOk result (IsReadyChange (operation.RepoCreate repo.now branch.now first.now.commit.date)
+    ensures ready { IfOk result (IsReadyChange (operation.RepoCreate repo.now branch.now first.now.commit.date)
         (puts.create_repository_puts repo.now branch.now first.now.commit.date (lake_value lake.now))) }
+    ensures limits { OnOk result
+        ((repo_fault repo.now ≡ None) × (IsRefName branch.now × (first.now.commit.date < 2 ^ 64))) }
 {
     let puts = puts_of(alloc, lake, repo, branch, first)?;
     let operation = Operation::RepoCreate {
@@ -180,8 +193,10 @@ fn puts_of(
     requires plain { is_like_id branch.now ≡ false }
     requires few { AreFew (lake_value lake.now) }
     requires first { IsFirst (lake_value lake.now).cut first.now.commit.date first.now }
-    ensures { IfOk result (λ made. made.items
+    ensures puts { IfOk result (λ made. made.items
         ≡ puts.create_repository_puts repo.now branch.now first.now.commit.date (lake_value lake.now)) }
+    ensures limits { OnOk result
+        ((repo_fault repo.now ≡ None) × (IsRefName branch.now × (first.now.commit.date < 2 ^ 64))) }
 {
     create_repository_puts(
         alloc,

@@ -1,9 +1,11 @@
 //! Tags that are made and deleted.
 ghost use Rattle.std.specs.Prelude.{◌≡◌, Some, IfOk, OnOk, false};
 ghost use Rattle.lake_base.specs.Names.{is_like_id};
+ghost use Rattle.lake_format.specs.Spelling.{IsDigest};
 ghost use Rattle.lake_model.specs.declared.history.Operation.TheVariants as operation;
 ghost use Rattle.lake_model.specs.Refusals.{GivesOrFails};
 ghost use Rattle.lake_model.specs.Steps.{IsCreateTagReply, delete_tag_reply};
+ghost use Rattle.pair_format.specs.PairSpelling.{IsRefName};
 ghost use Rattle.core_changes.specs.LakeRoom.{HasRoomAt};
 ghost use Rattle.core_changes.specs.declared.repository.Room.TheVariants as room;
 ghost use Rattle.core_state.specs.LakeStates.{lake_value};
@@ -19,6 +21,7 @@ use commit_graph::RefExpr;
 use core_causes::{test_create_tag, test_delete_tag};
 use core_changes::lake as change;
 use core_changes::repository::Room;
+use core_keeping::laws_of_followed_names;
 use core_puts::{create_tag_puts, delete_tag_puts, keep, place};
 use core_standing::{law_of_present, laws_of_names, laws_of_plain_names};
 use core_state::LakeState;
@@ -49,6 +52,7 @@ impl<K: Keeper> Lake<K> {
         law_of_present();
         let commit = test_create_tag(&self.present, repo, &name, e)?;
         laws_of_names();
+        laws_of_followed_names();
 
         // Take memory.
         let Ready { operation, puts } = ready_create(
@@ -84,6 +88,7 @@ impl<K: Keeper> Lake<K> {
         laws_of_causes();
         test_delete_tag(&self.present, repo, name)?;
         laws_of_names();
+        laws_of_followed_names();
         laws_of_plain_names();
 
         // Take memory.
@@ -115,9 +120,11 @@ fn ready_create(
 ) -> Result<Ready, NoMemory>
     requires { is_like_id name.now ≡ false }
     ensures same { lake_value lake.new ≡ lake_value lake.old }
+    ensures names { lake.new.names ≡ lake.old.names }
     ensures room { OnOk result (HasRoomAt (room.Tag name.entry) repo.now lake.new) }
     ensures ready { IfOk result (IsReadyChange (operation.TagCreate repo.now name.now commit)
         (puts.create_tag_puts repo.now name.now commit)) }
+    ensures limits { OnOk result (IsRefName name.now × IsDigest commit.0) }
 {
     let operation = Operation::TagCreate {
         repo: repo.copy(alloc)?,
@@ -132,8 +139,9 @@ fn ready_create(
 // A tag that is to go.
 fn ready_delete(alloc: Global, repo: &RepoName, name: &RefName) -> Result<Ready, NoMemory>
     requires { is_like_id name.now ≡ false }
-    ensures { IfOk result (IsReadyChange (operation.TagDelete repo.now name.now)
+    ensures ready { IfOk result (IsReadyChange (operation.TagDelete repo.now name.now)
         (puts.delete_tag_puts repo.now name.now)) }
+    ensures limits { OnOk result (IsRefName name.now) }
 {
     let operation = Operation::TagDelete {
         repo: repo.copy(alloc)?,

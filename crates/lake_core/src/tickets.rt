@@ -18,6 +18,7 @@ use crate::lake::Lake;
 use crate::ready::Ready;
 use core_causes::{test_change, test_write};
 use core_changes::lake as change;
+use core_keeping::laws_of_followed_tickets;
 use core_puts::{keep, place, ticket_puts};
 use core_standing::laws_of_tickets;
 use core_state::LakeState;
@@ -54,6 +55,7 @@ impl<K: Keeper> Lake<K> {
         laws_of_causes();
         test_write(&self.present, repo, branch)?;
         laws_of_tickets();
+        laws_of_followed_tickets();
 
         // Take memory.
         let number = self.present.next_number;
@@ -85,6 +87,7 @@ impl<K: Keeper> Lake<K> {
         laws_of_causes();
         test_change(&self.present)?;
         laws_of_tickets();
+        laws_of_followed_tickets();
 
         // Take memory: none, since a ticket isn't kept.
         let Ready { operation, puts } = ready_drop(self.alloc, number);
@@ -137,6 +140,7 @@ fn ready_ticket(
 ) -> Result<Ready, NoMemory>
     requires few { AreFew (lake_value lake.old) }
     ensures same { lake_value lake.new ≡ lake_value lake.old }
+    ensures names { lake.new.names ≡ lake.old.names }
     ensures room { OnOk result (HasTicketRoom lake.new) }
     ensures ready { IfOk result (IsReadyChange (TicketTake repo.now branch.now (lake_value lake.old).next_number)
         (ticket_puts (lake_value lake.old))) }

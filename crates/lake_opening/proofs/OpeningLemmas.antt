@@ -1,21 +1,25 @@
 -- A lake that is opened over a keeper.
 use Rattle.std.proofs.Common.{inl, inr, ◌≡◌, ◌==◌, ℕ, Bool, true, false, List, [], ◌∷◌, length, refl, sym, ap, ◌∙◌, subst, arith}
 use Rattle.std.specs.Prelude.{◌⊎◌, Option, Some, None, IfSome, Result, Ok, Err, MatchResult, is_some, option_map}
-use Rattle.std.specs.FinMap.{empty, empty_of_len, entries, len-entries}
+use Rattle.std.specs.FinMap.{empty, empty_of_len, entries, entries-from_sorted, len-entries, same_entries_map}
 use Rattle.keeper.specs.Keepers.{KeptPairs, entries_of, pairs_after}
+use Rattle.lake_base.specs.Maps.{HasAscendingKeys, byte_order}
 use Rattle.lake_base.specs.Memory.{next_count}
 use Rattle.lake_base.specs.Outside.{Rose}
 use Rattle.lake_format.specs.declared.cut.Cut.{Cut}
 use Rattle.pair_format.specs.declared.pair.Pair.{Pair}
+use Rattle.pair_trees.specs.Things.{kept_of}
+use Rattle.core_state.specs.LakeStates.{lake_value}
 use Rattle.core_state.specs.declared.lake.LakeState.{LakeState}
 use Rattle.core_puts.specs.FreshLakes.{fresh_puts}
 use Rattle.core_puts.specs.KeeperViews.{IsCalledOnce, IsLaterKeeper, KeeperView}
+use Rattle.core_keeping.specs.Following.{FollowLake}
 use Rattle.core_opening.specs.Opening.{IsWholeLake}
 use Rattle.lake_core.specs.Lakes.{LakeValue}
 use Rattle.lake_core.specs.Opening.{IsFilled}
 use Rattle.lake_opening.specs.declared.fault.OpenFault.{OpenFault}
 use Rattle.lake_opening.specs.declared.fault.OpenFault.TheVariants.{BadPair, NoMemory, StoreFault, Tree}
-use Rattle.lake_opening.specs.Opening.{AreLoaded, HasOpenCause, IsFoundOver, IsLakeOf, IsOnlyRead, IsOpened, IsUnopened, KeptBy}
+use Rattle.lake_opening.specs.Opening.{AreLoaded, HasOpenCause, IsFoundOver, IsLakeOf, IsOnlyRead, IsOpened, IsRead, IsUnopened, KeptBy}
 
 -- a keeper that loaded nothing has no pairs
 pub had_none : (kept : Option KeptPairs) (pairs : List Pair) → IfSome kept (λ before. entries_of pairs ≡ entries before)
@@ -34,6 +38,27 @@ some_loaded pairs len test is fails same none =
 pub lake_of : (cut : Cut) (pairs : List Pair) (lake : LakeState) → (pairs ≡ [] → ⊥) → IsWholeLake cut pairs lake → IsLakeOf cut pairs lake
 lake_of cut [] lake some is = absurd (some refl)
 lake_of cut (pair ∷ pairs) lake some is = is
+
+-- ---- the pairs of a lake that was read
+
+-- pairs that were loaded are those that are kept
+pub kept_loaded : (pairs : List Pair) (before : KeptPairs) → HasAscendingKeys (entries_of pairs) → entries_of pairs ≡ entries before → kept_of pairs ≡ before
+kept_loaded pairs before ascend are = same_entries_map (kept_of pairs) before (entries-from_sorted byte_order (entries_of pairs) ascend ∙ are)
+
+-- they follow the lake that was read of them
+module _ (cut : Cut) (pairs : List Pair) (lake : LakeState) (whole : IsWholeLake cut pairs lake) (ascend : HasAscendingKeys (entries_of pairs)) where
+  whole_follows : (o : Option KeptPairs) → IfSome o (λ before. entries_of pairs ≡ entries before)
+      → IfSome o (λ before. FollowLake before lake.names.files (lake_value lake))
+  whole_follows None are = tt
+  whole_follows (Some before) are =
+      subst (λ kept. FollowLake kept lake.names.files (lake_value lake)) (kept_loaded pairs before ascend are)
+      (record { kept = record { stand = whole.read.stand; apart = whole.tokens }; places = whole.places })
+
+pub read_follows : {K : Type 0} (view : KeeperView K) (cut : Cut) (old new : K) (pairs : List Pair) (lake : LakeState)
+    → IsRead view cut old new pairs (Some lake) → IfSome (view.kept new) (λ before. FollowLake before lake.names.files (lake_value lake))
+read_follows view cut old new pairs lake read =
+    whole_follows cut pairs lake (read.some read.there) read.loaded.ascend (view.kept new)
+    (subst (λ o. IfSome o (λ before. entries_of pairs ≡ entries before)) (sym read.keeper.kept) read.loaded.all)
 
 -- ---- a lake that is founded behind a reading
 
@@ -88,8 +113,8 @@ module _ {K : Type 0} (view : KeeperView K) (cut : Cut) where
 
         by : (fault : OpenFault) → HasOpenCause view cut mid fault new → HasOpenCause view cut old fault new
         by StoreFault rose = subst (λ n. Rose n (view.faults new)) read.quiet rose
-        by (BadPair number) (pairs, loaded, cause, only) = (pairs, loads pairs loaded, cause, read_since new only)
-        by (Tree commit fault) (pairs, loaded, cause, only) = (pairs, loads pairs loaded, cause, read_since new only)
+        by (BadPair number) (pairs, loaded, cause, only, some) = (pairs, loads pairs loaded, cause, read_since new only, some)
+        by (Tree commit fault) (pairs, loaded, cause, only, some) = (pairs, loads pairs loaded, cause, read_since new only, some)
         by NoMemory quiet = quiet ∙ read.quiet
 
     -- over a keeper that loaded nothing

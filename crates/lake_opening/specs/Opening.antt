@@ -1,5 +1,5 @@
 -- What the opening of a lake over a keeper comes to.
-use Rattle.std.specs.Prelude.{◌≡◌, ◌⊎◌, List, [], ◌∷◌, Option, Some, None, IfSome, Result, Ok, Err}
+use Rattle.std.specs.Prelude.{◌≡◌, ◌⊎◌, List, [], ◌∷◌, Option, None, IfSome, Result, Ok, Err}
 use Rattle.std.specs.FinMap.{empty, entries}
 use Rattle.lake_base.specs.Maps.{HasAscendingKeys}
 use Rattle.lake_base.specs.Outside.{Rose}
@@ -51,14 +51,17 @@ pub record IsOpened {K : Type 0} (view : KeeperView K) (cut : Cut) (keeper : K) 
   pub first : lake.first ≡ lake.keeper
   pub taken : IsTakenOver view cut pairs keeper lake.keeper
 
--- THE CAUSE OF A FAULT: the keeper failed, and counted it; the first broken pair of those that were loaded, or none is broken and
--- the first commit's tree isn't read, and the keeper was only read; or memory ran out, and the keeper counted nothing
+-- THE CAUSE OF A FAULT: the keeper failed, and counted it; there are pairs, and the first broken one is told of those that were
+-- loaded, or none is broken and the first commit's tree isn't read, and the keeper was only read; or memory ran out, and the keeper
+-- counted nothing
 abbrev pub HasOpenCause : {K : Type 0} → KeeperView K → Cut → K → OpenFault → K → Type 0
 HasOpenCause view cut old StoreFault back = Rose (view.faults old) (view.faults back)
 HasOpenCause view cut old (BadPair number) back =
     (pairs : List Pair) × AreLoaded (view.kept old) pairs × HasCause cut pairs (reading.BadPair number) × IsOnlyRead view old back
+    × (pairs ≡ [] → ⊥)
 HasOpenCause view cut old (Tree commit fault) back =
     (pairs : List Pair) × AreLoaded (view.kept old) pairs × HasCause cut pairs (reading.Tree commit fault) × IsOnlyRead view old back
+    × (pairs ≡ [] → ⊥)
 HasOpenCause view cut old NoMemory back = view.faults back ≡ view.faults old
 
 -- what a keeper keeps that is handed back: its pairs are as they were; but that one without pairs, which failed in its one call

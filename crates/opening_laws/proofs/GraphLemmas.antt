@@ -14,7 +14,7 @@ use Rattle.keeper.specs.Keepers.{entries_of}
 use Rattle.pair_trees.specs.Found.{IsOnlyCommit}
 use Rattle.pair_trees.specs.Things.{HasKey, IsThere, Things, commits_in, kept_of, things_of}
 use Rattle.pair_ties.specs.PairTies.{AreTied as AreTiedPairs, IsTiedCommit}
-use Rattle.pair_ties.proofs.CommitsLemmas.{graph_absent, graph_found}
+use Rattle.pair_ties.proofs.DueLemmas.{graph_absent, graph_found}
 use Rattle.core_state.specs.RepositoryStates.{RepositoryStateValue}
 use Rattle.core_state.specs.LakeStates.{LakeStateValue}
 use Rattle.core_pairs.specs.LakePairs.{StandFor, StandsIn}

@@ -3,8 +3,8 @@ use Rattle.std.specs.Prelude.{Err}
 use Rattle.lake_core.proofs.OpeningLemmas.{kept_after, put_failed, quiet_out_of_memory}
 use Rattle.lake_core.proofs.filling.fill.Goals as goal
 
-pub returns : goal.returns
-returns g c = (
+pub returns-clause-filled : goal.returns-clause-filled
+returns-clause-filled g c = (
   c.in_ok-lake.ensures.lake,
   record {
     kept = kept_after _ _ _ _ (c.as_slice.ensures.value ∙ c.in_ok-puts.ensures) c.in_ok-put_all.ensures.kept;
@@ -15,8 +15,8 @@ returns g c = (
   },
 )
 
-pub returns-in_err-put_all : goal.returns-in_err-put_all
-returns-in_err-put_all g c =
+pub returns-in_err-put_all-clause-filled : goal.returns-in_err-put_all-clause-filled
+returns-in_err-put_all-clause-filled g c =
     put_failed (record { kept = g.K.Keeper.kept; faults = g.K.Keeper.faults; calls = g.K.Keeper.calls; successes = g.K.Keeper.successes }) c.args.cut
     c.args.keeper.now c.put_all.new.self c.as_slice.result.now (c.as_slice.ensures.value ∙ c.in_ok-puts.ensures)
     c.in_err-put_all.ensures.called _ _ _ c.from_residual-in_err-put_all.ensures.1

@@ -2,7 +2,7 @@ use Rattle.std.proofs.Common.{◌≡◌, ◌⊎◌, inl, inr, refl}
 use Rattle.lake_model.specs.declared.fault.StepFault.TheVariants.{NoMemory}
 use Rattle.core_puts.proofs.FoundingLemmas.{at_date, dated}
 use Rattle.core_state.specs.LakeStates.{lake_value, state_of}
-use Rattle.lake_core.proofs.RepositoryLemmas.{asked_again, asked_well, ready_at, unready_asks}
+use Rattle.lake_core.proofs.RepositoryLemmas.{asked_again, asked_well, ready_at, spelled_at, unready_asks}
 use Rattle.lake_core.proofs.StepLemmas.{told_again}
 use Rattle.lake_core.proofs.repositories.ready_repository.Goals as goal
 
@@ -45,3 +45,8 @@ pub returns-clause-ready : goal.returns-clause-ready
 returns-clause-ready c =
     ready_at c.args.repo c.args.branch c.in_ok-first.first.commit.date c.args.date (lake_value c.args.lake.now) _
     (dated (lake_value c.args.lake.now).cut c.args.date c.in_ok-first.first c.in_ok-first.ensures.first) c.in_ok-ready.ensures.ready
+
+pub returns-clause-limits : goal.returns-clause-limits
+returns-clause-limits c =
+    spelled_at c.args.repo c.args.branch c.in_ok-first.first.commit.date c.args.date
+    (dated (lake_value c.args.lake.now).cut c.args.date c.in_ok-first.first c.in_ok-first.ensures.first) c.in_ok-ready.ensures.limits

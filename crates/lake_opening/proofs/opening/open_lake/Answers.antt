@@ -1,8 +1,17 @@
 use Rattle.std.proofs.Common.{sym, subst}
 use Rattle.std.specs.Prelude.{◌≡◌, IfSome}
 use Rattle.std.specs.FinMap.{empty}
-use Rattle.lake_opening.proofs.OpeningLemmas.{founded_since, had_none}
+use Rattle.core_puts.specs.KeeperViews.{KeeperView}
+use Rattle.lake_opening.specs.Opening.{IsRead}
+use Rattle.lake_opening.proofs.OpeningLemmas.{founded_since, had_none, read_follows}
 use Rattle.lake_opening.proofs.opening.open_lake.Goals as goal
+
+pub reopened-requires-clause-pairs : goal.reopened-requires-clause-pairs
+reopened-requires-clause-pairs g c =
+    let read = c.in-Ok-Some.ensures in
+    let view : KeeperView _ = record { kept = g.K.Keeper.kept; faults = g.K.Keeper.faults; calls = g.K.Keeper.calls; successes = g.K.Keeper.successes } in
+    read_follows view c.args.cut c.args.keeper c.read_over.new.keeper read.0 c.in-Ok-Some.present
+    (subst (IsRead view c.args.cut c.args.keeper c.read_over.new.keeper read.0) c.in-Ok-Some.field-0-is read.1)
 
 pub found_over-requires-clause-none : goal.found_over-requires-clause-none
 found_over-requires-clause-none g c =

@@ -9,6 +9,7 @@ use Rattle.core_changes.specs.LakeChanges.{after_copy}
 use Rattle.lake_core.specs.Makings.{copy, copy_making}
 use Rattle.core_puts.specs.KeeperViews.{KeeperView}
 use Rattle.lake_core.proofs.FaultLemmas.{kept_made, kept_refused}
+use Rattle.lake_core.proofs.PairLemmas.{kept_by, pairs_made, pairs_refused, same_places, with_places}
 use Rattle.lake_core.proofs.StepLemmas.{holds_now, made_leaves, made_stands, refused_stands, unkept_found, unkept_leaves, untested_leaves, untested_found}
 use Rattle.lake_core.proofs.lake.Lake.copy.Goals as goal
 
@@ -62,6 +63,12 @@ invariant_of-self-in_err-keep g c =
     record {
       stands = refused_stands may _ _ _ _ _ _ c.self.invariant.stands found.1.tested.operation refl c.in_ok-ready.ensures.same c.in_err-keep.ensures.kept;
       keeper = kept_refused _ _ _ _ _ c.self.invariant.keeper _ _ c.in_err-keep.ensures.kept;
+      pairs = pairs_refused c.self.invariant.stands may _ _ _ _ _ _ found.1.tested.operation found.1.puts refl c.in_ok-ready.ensures.same
+          (same_places (c.in_err-keep.ensures.names ∙ c.in_ok-ready.ensures.names))
+          (kept_by _ _ (after_copy c.args.repo.now c.args.branch.now c.args.path c.in_ok-ready.ready.entry) _
+          (c.laws_of_followed_writes.ensures.copy _ _ _ c.args.by c.args.repo.now c.args.branch.now c.args.path _ c.args.from.now c.in_ok-ready.ready.entry
+          c.self.invariant.stands may c.in_ok-ready.ensures.limits))
+          c.self.invariant.pairs c.in_err-keep.ensures.kept;
     }
 
 pub returns-in_err-keep-clause-reply : goal.returns-in_err-keep-clause-reply
@@ -107,6 +114,14 @@ invariant_of-self-2 g c =
           (c.copy.ensures.made ∙ ap (after_copy c.args.repo.now c.args.branch.now c.args.path c.in_ok-ready.ready.entry)
           (c.in_ok-keep.ensures.kept.present ∙ c.in_ok-ready.ensures.same));
       keeper = kept_made _ _ _ _ _ c.self.invariant.keeper _ c.in_ok-keep.ensures.kept;
+      pairs = pairs_made c.self.invariant.stands may _ _ _ _ _ found.1.puts
+          (c.copy.ensures.made ∙ ap (after_copy c.args.repo.now c.args.branch.now c.args.path c.in_ok-ready.ready.entry) (c.in_ok-keep.ensures.kept.present
+          ∙ c.in_ok-ready.ensures.same))
+          (with_places _ _ (after_copy c.args.repo.now c.args.branch.now c.args.path c.in_ok-ready.ready.entry) _ _
+          (c.laws_of_followed_writes.ensures.copy _ _ _ c.args.by c.args.repo.now c.args.branch.now c.args.path _ c.args.from.now c.in_ok-ready.ready.entry
+          c.self.invariant.stands may c.in_ok-ready.ensures.limits)
+          (same_places (c.copy.ensures.names ∙ c.in_ok-keep.ensures.names ∙ c.in_ok-ready.ensures.names)))
+          c.self.invariant.pairs c.in_ok-keep.ensures.kept;
     }
 
 pub returns-clause-reply : goal.returns-clause-reply

@@ -8,6 +8,7 @@ use Rattle.core_puts.specs.KeeperViews.{KeeperView}
 use Rattle.lake_core.specs.Lakes.{state}
 use Rattle.lake_core.specs.Makings.{branch_making, create_branch}
 use Rattle.lake_core.proofs.FaultLemmas.{kept_made, kept_refused}
+use Rattle.lake_core.proofs.PairLemmas.{kept_by, pairs_made, pairs_refused, same_places, with_places}
 use Rattle.lake_core.proofs.StepLemmas.{holds_now, made_leaves, made_stands, refused_found, refused_leaves, refused_stands, starved_found, unkept_found}
 use Rattle.lake_core.proofs.StepLemmas.{unkept_leaves, unready_leaves}
 use Rattle.lake_core.proofs.lake.Lake.create_branch.Goals as goal
@@ -39,6 +40,13 @@ invariant_of-self-in_err-keep g c =
       stands = refused_stands may _ _ _ _ _ _ c.self.invariant.stands c.in_ok-operation.ensures.ready.operation refl c.in_ok-operation.ensures.same
           c.in_err-keep.ensures.kept;
       keeper = kept_refused _ _ _ _ _ c.self.invariant.keeper _ _ c.in_err-keep.ensures.kept;
+      pairs = pairs_refused c.self.invariant.stands may _ _ _ _ _ _ c.in_ok-operation.ensures.ready.operation c.in_ok-operation.ensures.ready.puts refl
+          c.in_ok-operation.ensures.same
+          (same_places (c.in_err-keep.ensures.names ∙ c.in_ok-operation.ensures.names))
+          (kept_by _ _ (after_branch_create c.args.repo.now c.args.name c.in_ok-commit.commit) _
+          (c.laws_of_followed_names.ensures.create_branch _ _ _ c.args.by c.args.repo.now c.args.name c.in_ok-commit.commit c.self.invariant.stands may
+          c.in_ok-operation.ensures.limits))
+          c.self.invariant.pairs c.in_err-keep.ensures.kept;
     }
 
 pub returns-in_err-keep-clause-reply : goal.returns-in_err-keep-clause-reply
@@ -69,6 +77,14 @@ invariant_of-self-2 g c =
           (c.create_branch.ensures.made
           ∙ ap (after_branch_create c.args.repo.now c.args.name c.in_ok-commit.commit) (c.in_ok-keep.ensures.kept.present ∙ c.in_ok-operation.ensures.same));
       keeper = kept_made _ _ _ _ _ c.self.invariant.keeper _ c.in_ok-keep.ensures.kept;
+      pairs = pairs_made c.self.invariant.stands may _ _ _ _ _ c.in_ok-operation.ensures.ready.puts
+          (c.create_branch.ensures.made ∙ ap (after_branch_create c.args.repo.now c.args.name c.in_ok-commit.commit) (c.in_ok-keep.ensures.kept.present ∙
+          c.in_ok-operation.ensures.same))
+          (with_places _ _ (after_branch_create c.args.repo.now c.args.name c.in_ok-commit.commit) _ _
+          (c.laws_of_followed_names.ensures.create_branch _ _ _ c.args.by c.args.repo.now c.args.name c.in_ok-commit.commit c.self.invariant.stands may
+          c.in_ok-operation.ensures.limits)
+          (same_places (c.create_branch.ensures.names ∙ c.in_ok-keep.ensures.names ∙ c.in_ok-operation.ensures.names)))
+          c.self.invariant.pairs c.in_ok-keep.ensures.kept;
     }
 
 pub returns-clause-reply : goal.returns-clause-reply

@@ -9,6 +9,7 @@ use Rattle.core_puts.specs.KeeperViews.{KeeperView}
 use Rattle.lake_core.specs.Lakes.{state}
 use Rattle.lake_core.specs.Makings.{delete_branch}
 use Rattle.lake_core.proofs.FaultLemmas.{kept_made, kept_refused}
+use Rattle.lake_core.proofs.PairLemmas.{kept_by, pairs_made, pairs_refused, same_places, with_places}
 use Rattle.lake_core.proofs.StepLemmas.{accepted, as_before, at_present, holds_now, made_leaves, made_stands, refused_leaves, refused_reply, refused_stands}
 use Rattle.lake_core.proofs.StepLemmas.{starved_leaves, starved_reply, unkept_leaves, unkept_reply}
 use Rattle.lake_core.proofs.lake.Lake.delete_branch.Goals as goal
@@ -35,6 +36,11 @@ invariant_of-self g c =
     record {
       stands = refused_stands may _ _ _ _ _ _ c.self.invariant.stands c.in_ok-operation.ensures.operation refl refl c.in_err-keep.ensures.kept;
       keeper = kept_refused _ _ _ _ _ c.self.invariant.keeper _ _ c.in_err-keep.ensures.kept;
+      pairs = pairs_refused c.self.invariant.stands may _ _ _ _ _ _ c.in_ok-operation.ensures.operation c.in_ok-operation.ensures.puts refl refl
+          (same_places (c.in_err-keep.ensures.names))
+          (kept_by _ _ (after_branch_delete c.args.repo.now c.args.name.now) _
+          (c.laws_of_followed_names.ensures.delete_branch _ _ _ c.args.by c.args.repo.now c.args.name.now c.self.invariant.stands may))
+          c.self.invariant.pairs c.in_err-keep.ensures.kept;
     }
 
 pub returns-in_err-keep-clause-reply : goal.returns-in_err-keep-clause-reply
@@ -60,6 +66,12 @@ invariant_of-self-2 g c =
       stands = made_stands may _ _ _ c.in_ok-operation.ensures.operation c.in_ok-keep.ensures.kept.history
           (c.delete_branch.ensures.made ∙ ap (after_branch_delete c.args.repo.now c.args.name.now) (c.in_ok-keep.ensures.kept.present));
       keeper = kept_made _ _ _ _ _ c.self.invariant.keeper _ c.in_ok-keep.ensures.kept;
+      pairs = pairs_made c.self.invariant.stands may _ _ _ _ _ c.in_ok-operation.ensures.puts
+          (c.delete_branch.ensures.made ∙ ap (after_branch_delete c.args.repo.now c.args.name.now) (c.in_ok-keep.ensures.kept.present))
+          (with_places _ _ (after_branch_delete c.args.repo.now c.args.name.now) _ _
+          (c.laws_of_followed_names.ensures.delete_branch _ _ _ c.args.by c.args.repo.now c.args.name.now c.self.invariant.stands may)
+          (same_places (c.delete_branch.ensures.names ∙ c.in_ok-keep.ensures.names)))
+          c.self.invariant.pairs c.in_ok-keep.ensures.kept;
     }
 
 pub returns-clause-reply : goal.returns-clause-reply

@@ -9,6 +9,7 @@ use Rattle.core_puts.specs.KeeperViews.{KeeperView}
 use Rattle.lake_core.specs.Lakes.{state}
 use Rattle.lake_core.specs.Makings.{delete_tag}
 use Rattle.lake_core.proofs.FaultLemmas.{kept_made, kept_refused}
+use Rattle.lake_core.proofs.PairLemmas.{kept_by, pairs_made, pairs_refused, same_places, with_places}
 use Rattle.lake_core.proofs.StepLemmas.{accepted, as_before, at_present, holds_now, made_leaves, made_stands, refused_leaves, refused_reply, refused_stands}
 use Rattle.lake_core.proofs.StepLemmas.{starved_leaves, starved_reply, unkept_leaves, unkept_reply}
 use Rattle.lake_core.proofs.lake.Lake.delete_tag.Goals as goal
@@ -33,8 +34,14 @@ invariant_of-self g c =
     let none = c.in_ok-test_delete_tag.ensures in
     let may = c.laws_of_names.ensures.delete_tag _ _ _ c.args.by c.args.repo.now c.args.name.now c.self.invariant.stands none in
     record {
-      stands = refused_stands may _ _ _ _ _ _ c.self.invariant.stands c.in_ok-operation.ensures.operation refl refl c.in_err-keep.ensures.kept;
+      stands = refused_stands may _ _ _ _ _ _ c.self.invariant.stands c.in_ok-operation.ensures.ready.operation refl refl c.in_err-keep.ensures.kept;
       keeper = kept_refused _ _ _ _ _ c.self.invariant.keeper _ _ c.in_err-keep.ensures.kept;
+      pairs = pairs_refused c.self.invariant.stands may _ _ _ _ _ _ c.in_ok-operation.ensures.ready.operation c.in_ok-operation.ensures.ready.puts refl refl
+          (same_places (c.in_err-keep.ensures.names))
+          (kept_by _ _ (after_tag_delete c.args.repo.now c.args.name.now) _
+          (c.laws_of_followed_names.ensures.delete_tag _ _ _ c.args.by c.args.repo.now c.args.name.now c.self.invariant.stands may
+          c.in_ok-operation.ensures.limits))
+          c.self.invariant.pairs c.in_err-keep.ensures.kept;
     }
 
 pub returns-in_err-keep-clause-reply : goal.returns-in_err-keep-clause-reply
@@ -47,7 +54,7 @@ returns-in_err-keep-clause-reply g c =
 pub returns-in_err-keep-clause-leaves : goal.returns-in_err-keep-clause-leaves
 returns-in_err-keep-clause-leaves g c =
     unkept_leaves _ _ (λ p. Some (delete_tag c.args.repo.now c.args.name.now))
-    ((delete_tag c.args.repo.now c.args.name.now)) _ _ c.in_ok-operation.ensures.operation c.in_ok-operation.ensures.puts
+    ((delete_tag c.args.repo.now c.args.name.now)) _ _ c.in_ok-operation.ensures.ready.operation c.in_ok-operation.ensures.ready.puts
     _ _ _ _ _ (record { keeper = c.keep.new.keeper; history = c.keep.new.history.items; present = c.keep.new.present }) refl (refl) _ c.self.view_is _ _
     c.from_residual-in_err-keep.ensures.1 c.in_err-keep.ensures.kept
 
@@ -56,21 +63,29 @@ invariant_of-self-2 g c =
     let none = c.in_ok-test_delete_tag.ensures in
     let may = c.laws_of_names.ensures.delete_tag _ _ _ c.args.by c.args.repo.now c.args.name.now c.self.invariant.stands none in
     record {
-      stands = made_stands may _ _ _ c.in_ok-operation.ensures.operation c.in_ok-keep.ensures.kept.history
+      stands = made_stands may _ _ _ c.in_ok-operation.ensures.ready.operation c.in_ok-keep.ensures.kept.history
           (c.delete_tag.ensures.made ∙ ap (after_tag_delete c.args.repo.now c.args.name.now) (c.in_ok-keep.ensures.kept.present));
       keeper = kept_made _ _ _ _ _ c.self.invariant.keeper _ c.in_ok-keep.ensures.kept;
+      pairs = pairs_made c.self.invariant.stands may _ _ _ _ _ c.in_ok-operation.ensures.ready.puts
+          (c.delete_tag.ensures.made ∙ ap (after_tag_delete c.args.repo.now c.args.name.now) (c.in_ok-keep.ensures.kept.present))
+          (with_places _ _ (after_tag_delete c.args.repo.now c.args.name.now) _ _
+          (c.laws_of_followed_names.ensures.delete_tag _ _ _ c.args.by c.args.repo.now c.args.name.now c.self.invariant.stands may
+          c.in_ok-operation.ensures.limits)
+          (same_places (c.delete_tag.ensures.names ∙ c.in_ok-keep.ensures.names)))
+          c.self.invariant.pairs c.in_ok-keep.ensures.kept;
     }
 
 pub returns-clause-reply : goal.returns-clause-reply
 returns-clause-reply g c =
     accepted {X = ℕ} (c.in_ok-test_delete_tag.ensures)
-    (c.place.ensures ∙ ap (λ l. l.entries) (c.delete_tag.ensures.made ∙ ap (after_tag_delete c.args.repo.now c.args.name.now) (c.in_ok-keep.ensures.kept.present)))
+    (c.place.ensures ∙ ap (λ l. l.entries) (c.delete_tag.ensures.made ∙ ap (after_tag_delete c.args.repo.now c.args.name.now)
+    (c.in_ok-keep.ensures.kept.present)))
     ∙ at_present (λ s given. delete_tag_reply s c.args.repo.now c.args.name.now) c.self.view_is c.self.invariant.stands.replayed
 
 pub returns-clause-leaves : goal.returns-clause-leaves
 returns-clause-leaves g c =
     made_leaves _ _ (λ p. Some (delete_tag c.args.repo.now c.args.name.now))
-    ((delete_tag c.args.repo.now c.args.name.now)) _ _ c.in_ok-operation.ensures.operation c.in_ok-operation.ensures.puts
+    ((delete_tag c.args.repo.now c.args.name.now)) _ _ c.in_ok-operation.ensures.ready.operation c.in_ok-operation.ensures.ready.puts
     _ _ _ _ _ (record { keeper = c.keep.new.keeper; history = c.keep.new.history.items; present = c.keep.new.present }) refl (refl) _ c.self.view_is _
     c.in_ok-keep.ensures.kept
     (c.delete_tag.ensures.made ∙ ap (after_tag_delete c.args.repo.now c.args.name.now) (c.in_ok-keep.ensures.kept.present))

@@ -7,6 +7,7 @@ use Rattle.core_state.specs.LakeStates.{lake_value, state_of}
 use Rattle.core_changes.specs.LakeChanges.{after_ticket_drop}
 use Rattle.lake_core.specs.Makings.{drop_ticket}
 use Rattle.lake_core.proofs.FaultLemmas.{kept_made, kept_refused}
+use Rattle.lake_core.proofs.PairLemmas.{kept_by, pairs_made, pairs_refused, same_places, with_places}
 use Rattle.lake_core.proofs.StepLemmas.{accepted, at_present, held_then, holds_now, made_leaves, made_stands, refused_leaves, refused_reply, refused_stands}
 use Rattle.lake_core.proofs.StepLemmas.{unkept_leaves, unkept_reply}
 use Rattle.lake_model.specs.Uncommitted.{HasTicket}
@@ -34,6 +35,11 @@ invariant_of-self g c =
     record {
       stands = refused_stands may _ _ _ _ _ _ c.self.invariant.stands c.ready_drop-operation.ensures.operation refl refl c.in_err-keep.ensures.kept;
       keeper = kept_refused _ _ _ _ _ c.self.invariant.keeper _ _ c.in_err-keep.ensures.kept;
+      pairs = pairs_refused c.self.invariant.stands may _ _ _ _ _ _ c.ready_drop-operation.ensures.operation c.ready_drop-operation.ensures.puts refl refl
+          (same_places (c.in_err-keep.ensures.names))
+          (kept_by _ _ (after_ticket_drop c.args.number) _
+          (c.laws_of_followed_tickets.ensures.drop (lake_value c.self.inside.present) c.args.number))
+          c.self.invariant.pairs c.in_err-keep.ensures.kept;
     }
 
 pub returns-in_err-keep-clause-reply : goal.returns-in_err-keep-clause-reply
@@ -58,6 +64,12 @@ invariant_of-self-2 g c =
       stands = made_stands may _ _ _ c.ready_drop-operation.ensures.operation c.in_ok-keep.ensures.kept.history
           (c.drop_ticket.ensures.made ∙ ap (after_ticket_drop c.args.number) (c.in_ok-keep.ensures.kept.present));
       keeper = kept_made _ _ _ _ _ c.self.invariant.keeper _ c.in_ok-keep.ensures.kept;
+      pairs = pairs_made c.self.invariant.stands may _ _ _ _ _ c.ready_drop-operation.ensures.puts
+          (c.drop_ticket.ensures.made ∙ ap (after_ticket_drop c.args.number) (c.in_ok-keep.ensures.kept.present))
+          (with_places _ _ (after_ticket_drop c.args.number) _ _
+          (c.laws_of_followed_tickets.ensures.drop (lake_value c.self.inside.present) c.args.number)
+          (same_places (c.drop_ticket.ensures.names ∙ c.in_ok-keep.ensures.names)))
+          c.self.invariant.pairs c.in_ok-keep.ensures.kept;
     }
 
 pub returns-clause-reply : goal.returns-clause-reply

@@ -9,6 +9,7 @@ use Rattle.core_puts.specs.KeeperViews.{KeeperView}
 use Rattle.lake_core.specs.Lakes.{state}
 use Rattle.lake_core.specs.Makings.{reset}
 use Rattle.lake_core.proofs.FaultLemmas.{kept_made, kept_refused}
+use Rattle.lake_core.proofs.PairLemmas.{kept_by, pairs_made, pairs_refused, same_places, with_places}
 use Rattle.lake_core.proofs.StepLemmas.{accepted, at_present, holds_now, made_leaves, made_stands, refused_leaves, refused_reply, refused_stands, starved_reply}
 use Rattle.lake_core.proofs.StepLemmas.{unkept_leaves, unkept_reply, unready_leaves}
 use Rattle.lake_core.proofs.lake.Lake.reset.Goals as goal
@@ -35,6 +36,12 @@ invariant_of-self-in_err-keep g c =
       stands = refused_stands may _ _ _ _ _ _ c.self.invariant.stands c.in_ok-operation.ensures.ready.operation refl c.in_ok-operation.ensures.same
           c.in_err-keep.ensures.kept;
       keeper = kept_refused _ _ _ _ _ c.self.invariant.keeper _ _ c.in_err-keep.ensures.kept;
+      pairs = pairs_refused c.self.invariant.stands may _ _ _ _ _ _ c.in_ok-operation.ensures.ready.operation c.in_ok-operation.ensures.ready.puts refl
+          c.in_ok-operation.ensures.same
+          (same_places (c.in_err-keep.ensures.names ∙ c.in_ok-operation.ensures.names))
+          (kept_by _ _ (after_reset c.args.repo.now c.args.branch.now c.args.what) _
+          (c.laws_of_followed_writes.ensures.reset _ _ _ c.args.by c.args.repo.now c.args.branch.now c.args.what c.self.invariant.stands may))
+          c.self.invariant.pairs c.in_err-keep.ensures.kept;
     }
 
 pub returns-in_err-keep-clause-reply : goal.returns-in_err-keep-clause-reply
@@ -61,12 +68,20 @@ invariant_of-self-2 g c =
           (c.reset.ensures.made ∙ ap (after_reset c.args.repo.now c.args.branch.now c.args.what)
           (c.in_ok-keep.ensures.kept.present ∙ c.in_ok-operation.ensures.same));
       keeper = kept_made _ _ _ _ _ c.self.invariant.keeper _ c.in_ok-keep.ensures.kept;
+      pairs = pairs_made c.self.invariant.stands may _ _ _ _ _ c.in_ok-operation.ensures.ready.puts
+          (c.reset.ensures.made ∙ ap (after_reset c.args.repo.now c.args.branch.now c.args.what) (c.in_ok-keep.ensures.kept.present ∙
+          c.in_ok-operation.ensures.same))
+          (with_places _ _ (after_reset c.args.repo.now c.args.branch.now c.args.what) _ _
+          (c.laws_of_followed_writes.ensures.reset _ _ _ c.args.by c.args.repo.now c.args.branch.now c.args.what c.self.invariant.stands may)
+          (same_places (c.reset.ensures.names ∙ c.in_ok-keep.ensures.names ∙ c.in_ok-operation.ensures.names)))
+          c.self.invariant.pairs c.in_ok-keep.ensures.kept;
     }
 
 pub returns-clause-reply : goal.returns-clause-reply
 returns-clause-reply g c =
     accepted {X = ℕ} (c.in_ok-test_write.ensures) (c.place.ensures ∙ ap (λ l. l.entries)
-    (c.reset.ensures.made ∙ ap (after_reset c.args.repo.now c.args.branch.now c.args.what) (c.in_ok-keep.ensures.kept.present ∙ c.in_ok-operation.ensures.same)))
+    (c.reset.ensures.made ∙ ap (after_reset c.args.repo.now c.args.branch.now c.args.what) (c.in_ok-keep.ensures.kept.present ∙
+    c.in_ok-operation.ensures.same)))
     ∙ at_present (λ s given. reset_reply s c.args.repo.now c.args.branch.now) c.self.view_is c.self.invariant.stands.replayed
 
 pub returns-clause-leaves : goal.returns-clause-leaves

@@ -10,6 +10,7 @@ use Rattle.core_puts.specs.KeeperViews.{KeeperView}
 use Rattle.lake_core.specs.Lakes.{state, versions}
 use Rattle.lake_core.specs.Makings.{seal}
 use Rattle.lake_core.proofs.FaultLemmas.{kept_made, kept_refused}
+use Rattle.lake_core.proofs.PairLemmas.{kept_by, pairs_made, pairs_refused, same_places, with_places}
 use Rattle.lake_core.proofs.StepLemmas.{accepted, at_present, holds_now, made_leaves, made_stands, refused_leaves, refused_reply, refused_stands, settings_at}
 use Rattle.lake_core.proofs.StepLemmas.{starved_reply, unkept_leaves, unkept_reply, unready_leaves}
 use Rattle.core_changes.specs.FreshTokens.{AreTokensBelow}
@@ -44,6 +45,13 @@ invariant_of-self-in_err-keep g c =
       stands = refused_stands may _ _ _ _ _ _ c.self.invariant.stands c.in_ok-operation.ensures.ready.operation refl c.in_ok-operation.ensures.same
           c.in_err-keep.ensures.kept;
       keeper = kept_refused _ _ _ _ _ c.self.invariant.keeper _ _ c.in_err-keep.ensures.kept;
+      pairs = pairs_refused c.self.invariant.stands may _ _ _ _ _ _ c.in_ok-operation.ensures.ready.operation c.in_ok-operation.ensures.ready.puts refl
+          c.in_ok-operation.ensures.same
+          (same_places (c.in_err-keep.ensures.names ∙ c.in_ok-operation.ensures.names))
+          (kept_by _ _ (after_seal c.args.repo.now c.args.branch.now) _
+          (c.laws_of_followed_writes.ensures.seal _ _ _ c.args.by c.args.repo.now c.args.branch.now c.args.why c.self.invariant.stands may
+          c.in_ok-operation.ensures.limits))
+          c.self.invariant.pairs c.in_err-keep.ensures.kept;
     }
 
 pub returns-in_err-keep-clause-reply : goal.returns-in_err-keep-clause-reply
@@ -74,6 +82,13 @@ invariant_of-self-2 g c =
       stands = made_stands may _ _ _ c.in_ok-operation.ensures.ready.operation c.in_ok-keep.ensures.kept.history
           (c.seal.ensures.made ∙ ap (after_seal c.args.repo.now c.args.branch.now) (c.in_ok-keep.ensures.kept.present ∙ c.in_ok-operation.ensures.same));
       keeper = kept_made _ _ _ _ _ c.self.invariant.keeper _ c.in_ok-keep.ensures.kept;
+      pairs = pairs_made c.self.invariant.stands may _ _ _ _ _ c.in_ok-operation.ensures.ready.puts
+          (c.seal.ensures.made ∙ ap (after_seal c.args.repo.now c.args.branch.now) (c.in_ok-keep.ensures.kept.present ∙ c.in_ok-operation.ensures.same))
+          (with_places _ _ (after_seal c.args.repo.now c.args.branch.now) _ _
+          (c.laws_of_followed_writes.ensures.seal _ _ _ c.args.by c.args.repo.now c.args.branch.now c.args.why c.self.invariant.stands may
+          c.in_ok-operation.ensures.limits)
+          (same_places (c.seal.ensures.names ∙ c.in_ok-keep.ensures.names ∙ c.in_ok-operation.ensures.names)))
+          c.self.invariant.pairs c.in_ok-keep.ensures.kept;
     }
 
 pub returns-clause-reply : goal.returns-clause-reply
@@ -81,7 +96,8 @@ unfolding lake_value
 returns-clause-reply g c =
     accepted {X = Versions} (c.in_ok-test_seal.ensures)
     (ap (λ at. record { at = at; version = (lake_value c.self.inside.present).next_version; settings = c.settings_of-settings.result }) (c.place-at.ensures ∙ ap
-    (λ l. l.entries) (c.seal.ensures.made ∙ ap (after_seal c.args.repo.now c.args.branch.now) (c.in_ok-keep.ensures.kept.present ∙ c.in_ok-operation.ensures.same)))
+    (λ l. l.entries) (c.seal.ensures.made ∙ ap (after_seal c.args.repo.now c.args.branch.now) (c.in_ok-keep.ensures.kept.present ∙
+    c.in_ok-operation.ensures.same)))
     ∙ ap (λ v. record { at = (lake_value c.self.inside.present).entries + 1; version = v; settings = c.settings_of-settings.result })
     (sym c.self.invariant.stands.versions.next)
     ∙ ap (λ w. record {

@@ -10,6 +10,7 @@ use Rattle.core_puts.specs.KeeperViews.{KeeperView}
 use Rattle.lake_core.specs.Lakes.{state, versions}
 use Rattle.lake_core.specs.Makings.{set_note}
 use Rattle.lake_core.proofs.FaultLemmas.{kept_made, kept_refused}
+use Rattle.lake_core.proofs.PairLemmas.{kept_by, pairs_made, pairs_refused, same_places, with_places}
 use Rattle.lake_core.proofs.StepLemmas.{accepted, as_before, at_present, holds_now, made_leaves, made_stands, refused_leaves, refused_reply, refused_stands}
 use Rattle.lake_core.proofs.StepLemmas.{starved_leaves, starved_reply, unkept_leaves, unkept_reply}
 use Rattle.lake_core.proofs.lake.Lake.set_note.Goals as goal
@@ -36,8 +37,14 @@ invariant_of-self g c =
     let none = c.in_ok-test_set_note.ensures _ c.self.invariant.stands.versions in
     let may = c.law_of_settings.ensures _ _ _ c.args.by c.args.repo.now c.args.expected c.args.name c.args.note c.self.invariant.stands none c.requires.name in
     record {
-      stands = refused_stands may _ _ _ _ _ _ c.self.invariant.stands c.in_ok-operation.ensures.operation refl refl c.in_err-keep.ensures.kept;
+      stands = refused_stands may _ _ _ _ _ _ c.self.invariant.stands c.in_ok-operation.ensures.ready.operation refl refl c.in_err-keep.ensures.kept;
       keeper = kept_refused _ _ _ _ _ c.self.invariant.keeper _ _ c.in_err-keep.ensures.kept;
+      pairs = pairs_refused c.self.invariant.stands may _ _ _ _ _ _ c.in_ok-operation.ensures.ready.operation c.in_ok-operation.ensures.ready.puts refl refl
+          (same_places (c.in_err-keep.ensures.names))
+          (kept_by _ _ (after_note_set c.args.repo.now c.args.name c.args.note) _
+          (c.laws_of_followed_names.ensures.set_note _ _ _ c.args.by c.args.repo.now c.args.name c.args.note c.self.invariant.stands may
+          c.in_ok-operation.ensures.limits))
+          c.self.invariant.pairs c.in_err-keep.ensures.kept;
     }
 
 pub returns-in_err-keep-clause-reply : goal.returns-in_err-keep-clause-reply
@@ -52,8 +59,8 @@ returns-in_err-keep-clause-reply g c =
 pub returns-in_err-keep-clause-leaves : goal.returns-in_err-keep-clause-leaves
 returns-in_err-keep-clause-leaves g c =
     unkept_leaves _ _ (λ p. Some (set_note c.args.repo.now c.args.name c.args.note (lake_value p)))
-    ((set_note c.args.repo.now c.args.name c.args.note (lake_value c.self.inside.present))) _ _ c.in_ok-operation.ensures.operation
-    c.in_ok-operation.ensures.puts
+    ((set_note c.args.repo.now c.args.name c.args.note (lake_value c.self.inside.present))) _ _ c.in_ok-operation.ensures.ready.operation
+    c.in_ok-operation.ensures.ready.puts
     _ _ _ _ _ (record { keeper = c.keep.new.keeper; history = c.keep.new.history.items; present = c.keep.new.present }) refl (refl) _ c.self.view_is _ _
     c.from_residual-in_err-keep.ensures.1 c.in_err-keep.ensures.kept
 
@@ -62,9 +69,16 @@ invariant_of-self-2 g c =
     let none = c.in_ok-test_set_note.ensures _ c.self.invariant.stands.versions in
     let may = c.law_of_settings.ensures _ _ _ c.args.by c.args.repo.now c.args.expected c.args.name c.args.note c.self.invariant.stands none c.requires.name in
     record {
-      stands = made_stands may _ _ _ c.in_ok-operation.ensures.operation c.in_ok-keep.ensures.kept.history
+      stands = made_stands may _ _ _ c.in_ok-operation.ensures.ready.operation c.in_ok-keep.ensures.kept.history
           (c.set_note.ensures.made ∙ ap (after_note_set c.args.repo.now c.args.name c.args.note) (c.in_ok-keep.ensures.kept.present));
       keeper = kept_made _ _ _ _ _ c.self.invariant.keeper _ c.in_ok-keep.ensures.kept;
+      pairs = pairs_made c.self.invariant.stands may _ _ _ _ _ c.in_ok-operation.ensures.ready.puts
+          (c.set_note.ensures.made ∙ ap (after_note_set c.args.repo.now c.args.name c.args.note) (c.in_ok-keep.ensures.kept.present))
+          (with_places _ _ (after_note_set c.args.repo.now c.args.name c.args.note) _ _
+          (c.laws_of_followed_names.ensures.set_note _ _ _ c.args.by c.args.repo.now c.args.name c.args.note c.self.invariant.stands may
+          c.in_ok-operation.ensures.limits)
+          (same_places (c.set_note.ensures.names ∙ c.in_ok-keep.ensures.names)))
+          c.self.invariant.pairs c.in_ok-keep.ensures.kept;
     }
 
 pub returns-clause-reply : goal.returns-clause-reply
@@ -76,8 +90,8 @@ returns-clause-reply g c =
 pub returns-clause-leaves : goal.returns-clause-leaves
 returns-clause-leaves g c =
     made_leaves _ _ (λ p. Some (set_note c.args.repo.now c.args.name c.args.note (lake_value p)))
-    ((set_note c.args.repo.now c.args.name c.args.note (lake_value c.self.inside.present))) _ _ c.in_ok-operation.ensures.operation
-    c.in_ok-operation.ensures.puts
+    ((set_note c.args.repo.now c.args.name c.args.note (lake_value c.self.inside.present))) _ _ c.in_ok-operation.ensures.ready.operation
+    c.in_ok-operation.ensures.ready.puts
     _ _ _ _ _ (record { keeper = c.keep.new.keeper; history = c.keep.new.history.items; present = c.keep.new.present }) refl (refl) _ c.self.view_is _
     c.in_ok-keep.ensures.kept
     (c.set_note.ensures.made ∙ ap (after_note_set c.args.repo.now c.args.name c.args.note) (c.in_ok-keep.ensures.kept.present))

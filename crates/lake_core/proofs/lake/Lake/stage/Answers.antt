@@ -10,6 +10,7 @@ use Rattle.core_changes.specs.LakeChanges.{after_stage}
 use Rattle.core_puts.specs.KeeperViews.{KeeperView}
 use Rattle.lake_core.specs.Makings.{stage}
 use Rattle.lake_core.proofs.FaultLemmas.{kept_made, kept_refused}
+use Rattle.lake_core.proofs.PairLemmas.{kept_by, pairs_made, pairs_refused, same_places, with_places}
 use Rattle.lake_core.proofs.StepLemmas.{accepted, at_present, held_then, holds_now, made_leaves, made_stands, refused_stands, staged_entries, unkept_leaves}
 use Rattle.lake_core.proofs.StepLemmas.{unkept_reply, untested_leaves, untested_reply}
 use Rattle.lake_core.proofs.lake.Lake.stage.Goals as goal
@@ -81,6 +82,12 @@ invariant_of-self-in_err-keep g c =
     record {
       stands = refused_stands may _ _ _ _ _ _ c.self.invariant.stands ready.operation refl c.in_ok-operation.ensures.same c.in_err-keep.ensures.kept;
       keeper = kept_refused _ _ _ _ _ c.self.invariant.keeper _ _ c.in_err-keep.ensures.kept;
+      pairs = pairs_refused c.self.invariant.stands may _ _ _ _ _ _ ready.operation ready.puts refl c.in_ok-operation.ensures.same
+          (same_places (c.in_err-keep.ensures.names ∙ c.in_ok-operation.ensures.names))
+          (kept_by _ _ (after_stage c.args.repo.now c.args.branch.now c.args.path c.args.change) _
+          (c.laws_of_followed_writes.ensures.stage _ _ _ c.args.by c.args.repo.now c.args.branch.now c.args.path c.args.change c.self.invariant.stands may
+          c.in_ok-operation.ensures.limits))
+          c.self.invariant.pairs c.in_err-keep.ensures.kept;
     }
 
 pub returns-in_err-keep-clause-reply : goal.returns-in_err-keep-clause-reply
@@ -115,6 +122,14 @@ invariant_of-self-2 g c =
           (c.stage.ensures.made
           ∙ ap (after_stage c.args.repo.now c.args.branch.now c.args.path c.args.change) (c.in_ok-keep.ensures.kept.present ∙ c.in_ok-operation.ensures.same));
       keeper = kept_made _ _ _ _ _ c.self.invariant.keeper _ c.in_ok-keep.ensures.kept;
+      pairs = pairs_made c.self.invariant.stands may _ _ _ _ _ ready.puts
+          (c.stage.ensures.made ∙ ap (after_stage c.args.repo.now c.args.branch.now c.args.path c.args.change) (c.in_ok-keep.ensures.kept.present ∙
+          c.in_ok-operation.ensures.same))
+          (with_places _ _ (after_stage c.args.repo.now c.args.branch.now c.args.path c.args.change) _ _
+          (c.laws_of_followed_writes.ensures.stage _ _ _ c.args.by c.args.repo.now c.args.branch.now c.args.path c.args.change c.self.invariant.stands may
+          c.in_ok-operation.ensures.limits)
+          (same_places (c.stage.ensures.names ∙ c.in_ok-keep.ensures.names ∙ c.in_ok-operation.ensures.names)))
+          c.self.invariant.pairs c.in_ok-keep.ensures.kept;
     }
 
 pub returns-clause-reply : goal.returns-clause-reply

@@ -5,6 +5,7 @@ use Rattle.core_commits.specs.Making.{head_answer, head_making}
 use Rattle.lake_core.specs.HeadConditions.{IsReadyFor}
 use Rattle.lake_core.proofs.FaultLemmas.{kept_left}
 use Rattle.lake_core.proofs.HeadLemmas.{leaves_lake, stands_after, tree_for}
+use Rattle.lake_core.proofs.HeadPairLemmas.{pairs_after_head}
 use Rattle.lake_core.proofs.StepLemmas.{held_then, holds_now}
 use Rattle.lake_core.proofs.lake.Lake.swap.Goals as goal
 
@@ -30,6 +31,14 @@ invariant_of-self g c =
           c.self.invariant.stands ready c.swap.result (c.swap.ensures.reply _ c.self.invariant.stands.versions)
           (record { keeper = c.swap.new.keeper; history = c.swap.new.history.items; present = c.swap.new.present }) c.swap.ensures.leaves c.swap.ensures.may;
       keeper = kept_left _ _ _ _ _ c.self.invariant.keeper _ _ c.swap.ensures.leaves;
+      pairs = pairs_after_head (record { kept = g.K.Keeper.kept; faults = g.K.Keeper.faults; calls = g.K.Keeper.calls; successes = g.K.Keeper.successes })
+          c.law_of_new_heads.ensures c.laws_of_followed_heads.ensures.kept c.laws_of_followed_heads.ensures.followed
+          (lake_value c.self.inside.opened.value) c.args.by c.args.repo.now c.args.branch.now c.args.version c.args.settings c.args.kind c.args.about
+          c.args.tree
+          (record { keeper = c.self.inside.keeper; history = c.self.inside.history.items; present = c.self.inside.present })
+          c.self.invariant.stands ready c.swap.result (c.swap.ensures.reply _ c.self.invariant.stands.versions)
+          (record { keeper = c.swap.new.keeper; history = c.swap.new.history.items; present = c.swap.new.present }) c.swap.ensures.leaves c.swap.ensures.may
+          c.swap.ensures.limits c.swap.ensures.places c.self.invariant.pairs;
     }
 
 pub returns-clause-leaves : goal.returns-clause-leaves

@@ -9,6 +9,7 @@ use Rattle.core_puts.specs.KeeperViews.{KeeperView}
 use Rattle.lake_core.specs.Lakes.{state}
 use Rattle.lake_core.specs.Makings.{take_ticket}
 use Rattle.lake_core.proofs.FaultLemmas.{kept_made, kept_refused}
+use Rattle.lake_core.proofs.PairLemmas.{kept_by, pairs_made, pairs_refused, same_places, with_places}
 use Rattle.lake_core.proofs.StepLemmas.{accepted, at_present, holds_now, made_leaves, made_stands, refused_leaves, refused_reply, refused_stands, starved_reply}
 use Rattle.lake_core.proofs.StepLemmas.{unkept_leaves, unkept_reply, unready_leaves}
 use Rattle.lake_core.proofs.lake.Lake.take_ticket.Goals as goal
@@ -36,6 +37,12 @@ invariant_of-self-in_err-keep g c =
       stands = refused_stands may _ _ _ _ _ _ c.self.invariant.stands c.in_ok-operation.ensures.ready.operation refl c.in_ok-operation.ensures.same
           c.in_err-keep.ensures.kept;
       keeper = kept_refused _ _ _ _ _ c.self.invariant.keeper _ _ c.in_err-keep.ensures.kept;
+      pairs = pairs_refused c.self.invariant.stands may _ _ _ _ _ _ c.in_ok-operation.ensures.ready.operation c.in_ok-operation.ensures.ready.puts refl
+          c.in_ok-operation.ensures.same
+          (same_places (c.in_err-keep.ensures.names ∙ c.in_ok-operation.ensures.names))
+          (kept_by _ _ (after_ticket_take c.args.by.seat) _
+          (c.laws_of_followed_tickets.ensures.take (lake_value c.self.inside.present) c.args.by.seat may.few))
+          c.self.invariant.pairs c.in_err-keep.ensures.kept;
     }
 
 pub returns-in_err-keep-clause-reply : goal.returns-in_err-keep-clause-reply
@@ -62,13 +69,20 @@ invariant_of-self-2 g c =
       stands = made_stands may _ _ _ c.in_ok-operation.ensures.ready.operation c.in_ok-keep.ensures.kept.history
           (c.take_ticket.ensures.made ∙ ap (after_ticket_take c.args.by.seat) (c.in_ok-keep.ensures.kept.present ∙ c.in_ok-operation.ensures.same));
       keeper = kept_made _ _ _ _ _ c.self.invariant.keeper _ c.in_ok-keep.ensures.kept;
+      pairs = pairs_made c.self.invariant.stands may _ _ _ _ _ c.in_ok-operation.ensures.ready.puts
+          (c.take_ticket.ensures.made ∙ ap (after_ticket_take c.args.by.seat) (c.in_ok-keep.ensures.kept.present ∙ c.in_ok-operation.ensures.same))
+          (with_places _ _ (after_ticket_take c.args.by.seat) _ _
+          (c.laws_of_followed_tickets.ensures.take (lake_value c.self.inside.present) c.args.by.seat may.few)
+          (same_places (c.take_ticket.ensures.names ∙ c.in_ok-keep.ensures.names ∙ c.in_ok-operation.ensures.names)))
+          c.self.invariant.pairs c.in_ok-keep.ensures.kept;
     }
 
 pub returns-clause-reply : goal.returns-clause-reply
 unfolding lake_value
 returns-clause-reply g c =
     accepted {X = (ℕ × ℕ)} (c.in_ok-test_write.ensures) (ap (λ at. (at, c.self.inside.present.next_number)) (c.place.ensures
-    ∙ ap (λ l. l.entries) (c.take_ticket.ensures.made ∙ ap (after_ticket_take c.args.by.seat) (c.in_ok-keep.ensures.kept.present ∙ c.in_ok-operation.ensures.same))))
+    ∙ ap (λ l. l.entries) (c.take_ticket.ensures.made ∙ ap (after_ticket_take c.args.by.seat) (c.in_ok-keep.ensures.kept.present ∙
+    c.in_ok-operation.ensures.same))))
     ∙ at_present (λ s given. take_ticket_reply s c.args.repo.now c.args.branch.now) c.self.view_is c.self.invariant.stands.replayed
 
 pub returns-clause-leaves : goal.returns-clause-leaves
