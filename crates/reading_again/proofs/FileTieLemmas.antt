@@ -1,113 +1,45 @@
 -- The trees of a lake in order are those that its pairs spell, and its files are tied.
-use Rattle.std.proofs.Common.{◌≡◌, inl, ℕ, Bool, true, false, List, ◌∷◌, drop, Some, Result, Ok, IsSome}
-use Rattle.std.proofs.Common.{refl, sym, ap, subst, ◌∙◌, arith}
+use Rattle.std.proofs.Common.{◌≡◌, inl, ℕ, Bool, true, false, List, drop, Some, Result, Ok}
+use Rattle.std.proofs.Common.{sym, ap, subst, ◌∙◌, arith}
 use Rattle.std.specs.Prelude.{is_some, option_map}
 use Rattle.std.specs.List.{Contains}
-use Rattle.std.specs.Option.{unwrap_or}
-use Rattle.std.specs.FinMap.{contains_key, empty, get}
+use Rattle.std.specs.FinMap.{contains_key, get}
 use Rattle.lake_base.specs.Maps.{HasAscendingKeys}
 use Rattle.lake_base.specs.declared.digest.Digest.{Digest}
 use Rattle.lake_values.specs.Ancestry.{commit_of}
 use Rattle.lake_values.specs.Commit.{CommitRecordValue}
-use Rattle.lake_format.specs.Cutting.{files, tree_id}
+use Rattle.lake_format.specs.Cutting.{files}
 use Rattle.lake_format.specs.Spelling.{file_name}
 use Rattle.lake_format.specs.declared.cut.Cut.{Cut}
-use Rattle.meta_range.specs.Files.{bytes_named}
 use Rattle.meta_range.specs.Ranges.{TreeValue, first_file}
 use Rattle.meta_range.specs.declared.fault.TreeFault.{TreeFault}
 use Rattle.byte_map.proofs.ValuesLemmas.{get_map_values}
 use Rattle.lake_model.specs.Naming.{IsInMap, IsNamed}
-use Rattle.lake_model.specs.State.{map_of}
 use Rattle.pair_format.specs.declared.pair.Pair.{Pair}
 use Rattle.pair_format.specs.declared.stored.Stored.TheVariants as stored
 use Rattle.keeper.specs.Keepers.{entries_of}
-use Rattle.pair_trees.specs.Found.{IsOnlyMetaRange, IsOnlyRange}
-use Rattle.pair_trees.specs.PairTrees.{metaranges_in, numbers_in, ranges_in, tree_named}
+use Rattle.pair_trees.specs.PairTrees.{numbers_in, tree_named}
 use Rattle.pair_trees.specs.Things.{IsGone, IsThere, Things, kept_of, things_of}
-use Rattle.pair_trees.proofs.TreesLemmas.{metarange_named, range_named}
 use Rattle.pair_ties.specs.PairTies.{IsTiedMetaRange, IsTiedRange}
 use Rattle.core_state.specs.RepositoryStates.{RepositoryStateValue, repository_of}
 use Rattle.core_state.specs.LakeStates.{LakeStateValue, state_of}
-use Rattle.core_pairs.specs.LakePairs.{IsTreeIn, StandFor}
-use Rattle.core_pairs.proofs.ThingLemmas.{HasCommitOf, closed, opened}
+use Rattle.core_pairs.specs.LakePairs.{StandFor}
+use Rattle.core_pairs.proofs.ThingLemmas.{HasCommitOf, opened}
 use Rattle.opening_laws.proofs.KeyLemmas.{gone_of_key}
 use Rattle.opening_laws.proofs.LayerLemmas.{behind}
-use Rattle.opening_laws.proofs.PairLemmas.{some_is, stands_there, there_stands}
-use Rattle.opening_laws.proofs.SoundRepositoryLemmas.{mapped_some, some_there}
+use Rattle.opening_laws.proofs.PairLemmas.{some_is, there_stands}
 use Rattle.reading_again.specs.ReadableLakes.{CanBeRead, IsInOrder}
-use Rattle.reading_again.proofs.KindLemmas.{number_told, sound_here}
-use Rattle.reading_again.proofs.PlaceLemmas.{one_thing}
-use Rattle.reading_again.proofs.TreeAgainLemmas.{among_again, number_back}
+use Rattle.reading_again.proofs.KindLemmas.{number_told}
+use Rattle.reading_again.proofs.LakeTreeLemmas.{cut_so, files_so, has_some_tree, map_so, tree_read}
+use Rattle.reading_again.proofs.TreeAgainLemmas.{number_back}
 
 abbrev done : TreeValue → Result TreeValue TreeFault
 done tree = Ok tree
-
--- the first file of a tree stands before its ranges
-files_are : (cut : Cut) (tree : TreeValue) → tree.files ≡ files cut tree.map → tree.files ≡ first_file tree.files ∷ drop 1 tree.files
-unfolding files
-files_are cut tree is = is ∙ ap (λ fs. first_file fs ∷ drop 1 fs) (sym is)
 
 module _ (cut : Cut) (pairs : List Pair) (l : LakeStateValue) (ascend : HasAscendingKeys (entries_of pairs)) (stand : StandFor (kept_of pairs) l)
     (order : IsInOrder l) (can : CanBeRead cut l) where
   abbrev things : Things
   things = things_of pairs
-
-  -- a tree of the lake
-  module _ (repo : List ℕ) (r : RepositoryStateValue) (in_lake : get l.repositories repo ≡ Some r) (id : Digest) (tree : TreeValue)
-      (at : get r.trees id.0 ≡ Some tree) where
-    tree_in : IsTreeIn l tree
-    tree_in = (repo, (id.0, closed (get l.repositories repo) (λ r. get r.trees id.0 ≡ Some tree) r in_lake at))
-
-    cut_so : tree.files ≡ files cut tree.map
-    cut_so = order.index.trees repo r id tree in_lake at ∙ ap (λ c. files c tree.map) can.cut_is
-
-    files_so : tree.files ≡ first_file tree.files ∷ drop 1 tree.files
-    files_so = files_are cut tree cut_so
-
-    metarange_only : IsOnlyMetaRange things (file_name (first_file tree.files)) (first_file tree.files)
-    metarange_only =
-        let there = stands_there pairs l ascend stand (stored.MetaRange (file_name (first_file tree.files)) (first_file tree.files))
-        (refl, (tree, (tree_in, (drop 1 tree.files, files_so)))) in
-        record {
-          there = there;
-          only = λ other also.
-              same_metarange (one_thing pairs l ascend stand (stored.MetaRange (file_name (first_file tree.files)) other)
-              (stored.MetaRange (file_name (first_file tree.files)) (first_file tree.files)) also there refl);
-        }
-      where
-        same_metarange : {name : Digest} {a b : List ℕ} → stored.MetaRange name a ≡ stored.MetaRange name b → a ≡ b
-        same_metarange e = cc
-
-    range_only : (bytes : List ℕ) → Contains (drop 1 tree.files) bytes → IsOnlyRange things (file_name bytes) bytes
-    range_only bytes among =
-        let there = stands_there pairs l ascend stand (stored.Range (file_name bytes) bytes)
-        (refl, (tree, (tree_in, (first_file tree.files, (drop 1 tree.files, (files_so, among)))))) in
-        record {
-          there = there;
-          only = λ other also.
-              same_range (one_thing pairs l ascend stand (stored.Range (file_name bytes) other) (stored.Range (file_name bytes) bytes) also there refl);
-        }
-      where
-        same_range : {name : Digest} {a b : List ℕ} → stored.Range name a ≡ stored.Range name b → a ≡ b
-        same_range e = cc
-
-    map_so : map_of (repository_of r) id ≡ tree.map
-    map_so = ap (λ o. unwrap_or o empty) (get_map_values (λ (t : TreeValue). t.map) r.trees id.0 ∙ ap (option_map (λ (t : TreeValue). t.map)) at)
-
-    -- it is read again
-    pub tree_read : (commit : CommitRecordValue) → commit_of r.commits id ≡ Some commit → tree_named cut things commit ≡ Ok tree
-    unfolding tree_named
-    tree_read commit is =
-        let named : commit.meta_range ≡ tree_id cut tree.map =
-        (sound_here cut pairs l ascend stand order can repo r in_lake).trees id commit is
-        ∙ ap (λ c. tree_id c (map_of (repository_of r) id)) can.cut_is ∙ ap (tree_id cut) map_so in
-        among_again commit.meta_range (metaranges_in things) (ranges_in things) cut tree.map (can.parts.fits repo r id.0 tree in_lake at) named
-        (subst (λ fs. bytes_named (file_name (first_file fs)) (metaranges_in things) ≡ Some (first_file fs)) cut_so
-        (metarange_named things (file_name (first_file tree.files)) (first_file tree.files) metarange_only))
-        (λ bytes among.
-        let here : Contains (drop 1 tree.files) bytes = subst (λ fs. Contains (drop 1 fs) bytes) (sym cut_so) among in
-        range_named things (file_name bytes) bytes (range_only bytes here))
-        ∙ ap (λ fs. Ok (record { map = tree.map; files = fs })) (sym cut_so)
 
   -- ---- what is read of the pairs
 
@@ -130,14 +62,11 @@ module _ (cut : Cut) (pairs : List Pair) (l : LakeStateValue) (ascend : HasAscen
   has_tree repo id expired commit there =
       let x = opened (get l.repositories repo) (HasCommitOf id expired commit)
       (there_stands pairs l ascend stand (stored.Commit repo id expired commit) (λ file. file) there) in
-      let mapped = (sound_here cut pairs l ascend stand order can repo x.one x.is).mapped id (ap is_some x.holds.0) in
-      let tree = some_there (get x.one.trees id.0)
-      (mapped_some (λ (t : TreeValue). t.map) (get x.one.trees id.0)
-      (subst IsSome (get_map_values (λ (t : TreeValue). t.map) x.one.trees id.0) mapped)) in
+      let tree = has_some_tree cut pairs l ascend stand order can.cut_is can.parts.fits repo x.one x.is id (ap is_some x.holds.0) in
       record {
         tree = tree.one;
         of_lake = record { r = x.one; in_lake = x.is; commit_is = x.holds.0; expired_is = x.holds.1; at = tree.is };
-        read = tree_read repo x.one x.is id tree.one tree.is commit x.holds.0;
+        read = tree_read cut pairs l ascend stand order can.cut_is can.parts.fits repo x.one x.is id tree.one tree.is commit x.holds.0;
       }
 
   of_read : (repo : List ℕ) (id : Digest) (expired : Bool) (commit : CommitRecordValue) (tree : TreeValue)
@@ -155,7 +84,8 @@ module _ (cut : Cut) (pairs : List Pair) (l : LakeStateValue) (ascend : HasAscen
   indexed repo id expired commit tree of bytes among =
       order.index.files repo of.r id bytes of.in_lake (ap is_some of.commit_is)
       (subst (λ fs. Contains fs bytes)
-      (order.index.trees repo of.r id tree of.in_lake of.at ∙ ap (files l.cut) (sym (map_so repo of.r of.in_lake id tree of.at))) among)
+      (order.index.trees repo of.r id tree of.in_lake of.at ∙ ap (files l.cut) (sym (map_so cut pairs l ascend stand order can.cut_is can.parts.fits repo of.r
+      of.in_lake id tree of.at))) among)
 
   pub metarange_tied : (name : Digest) (bytes : List ℕ) → IsTiedMetaRange cut things name bytes
   metarange_tied name bytes = record {
@@ -163,9 +93,11 @@ module _ (cut : Cut) (pairs : List Pair) (l : LakeStateValue) (ascend : HasAscen
         let one = of_read meta.repo meta.id meta.expired meta.commit meta.tree meta.there meta.read in
         let two = of_read range.repo range.id expired range.commit range.tree range.there range.read in
         let first = indexed meta.repo meta.id meta.expired meta.commit meta.tree one bytes
-        (subst (λ fs. Contains fs bytes) (sym (files_so meta.repo one.r one.in_lake meta.id meta.tree one.at)) (0, omega arith, meta.first)) in
+        (subst (λ fs. Contains fs bytes) (sym (files_so cut pairs l ascend stand order can.cut_is can.parts.fits meta.repo one.r one.in_lake
+        meta.id meta.tree one.at)) (0, omega arith, meta.first)) in
         let second = indexed range.repo range.id expired range.commit range.tree two other
-        (subst (λ fs. Contains fs other) (sym (files_so range.repo two.r two.in_lake range.id range.tree two.at))
+        (subst (λ fs. Contains fs other) (sym (files_so cut pairs l ascend stand order can.cut_is can.parts.fits range.repo two.r two.in_lake
+        range.id range.tree two.at))
         (behind (first_file range.tree.files) (drop 1 range.tree.files) other range.among)) in
         let named : file_name bytes ≡ file_name other = meta.named ∙ sym range.named in
         some_is (sym second ∙ ap (λ (d : Digest). get l.names.files d.0) (sym named) ∙ first);
@@ -182,7 +114,8 @@ module _ (cut : Cut) (pairs : List Pair) (l : LakeStateValue) (ascend : HasAscen
       → (bytes : List ℕ) (number : ℕ) → Contains (drop 1 tree.files) bytes → Contains (numbers_in bytes) number → IsInMap tree.map number
   in_map repo id expired commit tree of bytes number among names =
       number_back cut tree.map bytes number (can.parts.fits repo of.r id.0 tree of.in_lake of.at)
-      (subst (λ fs. Contains (drop 1 fs) bytes) (cut_so repo of.r of.in_lake id tree of.at) among) names
+      (subst (λ fs. Contains (drop 1 fs) bytes) (cut_so cut pairs l ascend stand order can.cut_is can.parts.fits repo of.r of.in_lake id tree of.at) among)
+      names
 
   -- a number of the map of a live commit is named
   named_live : (repo : List ℕ) (id : Digest) (commit : CommitRecordValue) (tree : TreeValue) (of : IsTreeOfLake repo id false commit tree) (number : ℕ)
@@ -194,7 +127,7 @@ module _ (cut : Cut) (pairs : List Pair) (l : LakeStateValue) (ascend : HasAscen
     names = inl (record {
       id = id;
       live = (ap is_some of.commit_is, of.expired_is);
-      names = subst (λ m. IsInMap m number) (sym (map_so repo of.r of.in_lake id tree of.at)) inside;
+      names = subst (λ m. IsInMap m number) (sym (map_so cut pairs l ascend stand order can.cut_is can.parts.fits repo of.r of.in_lake id tree of.at)) inside;
     });
   })
 

@@ -1,7 +1,9 @@
 pub mod PlaceLemmas
 pub mod KindLemmas
 pub mod TreeAgainLemmas
+pub mod LakeTreeLemmas
 pub mod FileTieLemmas
+pub mod TiedLakeLemmas
 pub mod StagedTieLemmas
 pub mod ReadAgainLemmas
 pub mod SameMapLemmas

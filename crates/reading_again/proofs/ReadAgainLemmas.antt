@@ -13,14 +13,16 @@ use Rattle.keeper.specs.Keepers.{entries_of}
 use Rattle.pair_trees.specs.Things.{HasCountsPair, Spells, Things, kept_of, thing_of, things_of}
 use Rattle.pair_trees.specs.Unread.{AreReadBefore}
 use Rattle.pair_trees.proofs.ThingsLemmas.{spells_there}
-use Rattle.pair_ties.specs.PairTies.{AreTied, IsFirstBroken, IsTied, IsTiedAt}
+use Rattle.pair_ties.specs.BrokenPairs.{IsBlameless, IsBlamelessAt, IsFirstBroken}
+use Rattle.pair_ties.specs.PairTies.{AreTied, IsTied, IsTiedAt}
+use Rattle.pair_ties.proofs.BlameLemmas.{not_to_blame}
 use Rattle.core_state.specs.LakeStates.{LakeStateValue}
 use Rattle.core_pairs.specs.LakePairs.{IsFile, StandFor, StandsIn}
 use Rattle.opening_laws.proofs.PairLemmas.{pair_of_found, stands_there}
 use Rattle.reading_again.specs.ReadableLakes.{CanBeRead, IsInOrder}
 use Rattle.reading_again.proofs.FileTieLemmas.{has_tree, metarange_tied, range_tied}
 use Rattle.reading_again.proofs.KindLemmas.{branch_tied, commit_tied, counts_tied, gone_tied, note_tied, repository_tied, tag_tied}
-use Rattle.reading_again.proofs.PlaceLemmas.{spelled_here}
+use Rattle.reading_again.proofs.PlaceLemmas.{are_spelled, spelled_here}
 use Rattle.reading_again.proofs.StagedTieLemmas.{staged_tied}
 
 module _ (cut : Cut) (pairs : List Pair) (l : LakeStateValue) (ascend : HasAscendingKeys (entries_of pairs)) (stand : StandFor (kept_of pairs) l)
@@ -65,9 +67,15 @@ module _ (cut : Cut) (pairs : List Pair) (l : LakeStateValue) (ascend : HasAscen
         (sym (get-from_sorted byte_order (entries_of pairs) (90 ∷ []) ascend) ∙ stand.each counts (refl, (refl, refl))),
   )
 
+  blameless_at : (n : ℕ) → n < length pairs → IsBlamelessAt cut pairs things n
+  blameless_at n lt =
+      let here = spelled_here pairs l ascend stand n lt in
+      subst (λ o. IsSomeAnd o (IsBlameless cut pairs things n)) (sym here.spelled)
+      (not_to_blame cut pairs things (are_spelled pairs l ascend stand) n here.thing here.spelled (tied_here n here.thing here.spelled here.known))
+
   pub none_broken : (n : ℕ) → IsFirstBroken cut pairs n → ⊥
   none_broken n (inl none) = none.0 has_counts
-  none_broken n (inr first) = first.broken (tied_at n first.within)
+  none_broken n (inr first) = first.broken (blameless_at n first.within)
 
   pub all_read : AreReadBefore cut things (length things)
   all_read k home id expired commit lt spelled =
