@@ -1,9 +1,9 @@
 -- What became of lines and of commands at a desk.
-use Rattle.std.proofs.Common.{◌≡◌, ◌∷◌, [], ℕ, List, Option, Some, None, IfSome, All, Result, Ok, Err, refl, sym, ◌∙◌, ap, subst}
+use Rattle.std.proofs.Common.{◌≡◌, ◌<◌, ◌^◌, ℕ, List, length, Result, Ok, Err, refl, ◌∙◌, ap, arith}
 use Rattle.std.specs.Prelude.{codes}
 use Rattle.lake_base.specs.Clocks.{FixedClockValue, fixed_readings}
 use Rattle.lake_base.specs.declared.outside.Trouble.{Trouble}
-use Rattle.lakectl_session.specs.ServedCommands.{CommandEnds}
+use Rattle.lake_batch.specs.CommandWords.{CommandEnds}
 use Rattle.lakectl_shown.specs.declared.showing.Shown.{Shown}
 use Rattle.batch_lines.proofs.SeenOutcomes.{outcome_seen}
 use Rattle.batch_lines.specs.Outcome.{Outcome}
@@ -12,8 +12,9 @@ use Rattle.batch_lines.specs.declared.status.ExitStatus.{ExitStatus}
 use Rattle.program_words.specs.declared.batch.Timing.TheVariants.{Clock, At}
 use Rattle.lake_batch.specs.BatchViews.{BatchView, trace_of}
 use Rattle.lake_batch.specs.CommandWords.{CommandView, LineEnds}
-use Rattle.lake_batch.proofs.MomentLemmas.{still_moments}
-use Rattle.lake_batch.proofs.SeatLemmas.{Grew, Passes, pass_lines, pass_shown, pass_stopped}
+use Rattle.lake_batch.proofs.LineCounts.{few_served}
+use Rattle.lake_batch.proofs.MomentLemmas.{at_its_moment}
+use Rattle.lake_batch.proofs.SeatLemmas.{Passes, pass_lines, pass_shown, pass_stopped}
 use Rattle.folder_batch.specs.Desks.{CommandAround, Desk, IsCommandAt, IsServedAt}
 
 -- the desk of what a command works on
@@ -49,7 +50,7 @@ by_clock now old serves view agree limit most before after input status outcome 
 
 -- what a command did
 pub passes : (words : List (List ℕ)) (old now : CommandView) (result : Result Shown Trouble) → CommandEnds (codes "localhost") words old now result
-    → Passes old.lake now.lake
+    → Passes 1 old.lake now.lake
 passes words old now (Ok shown) ends = pass_shown old now (codes "localhost") words shown ends
 passes words old now (Err trouble) ends = pass_stopped old now (codes "localhost") words trouble ends
 
@@ -72,29 +73,23 @@ command_by_clock words old now result ends = record {
 -- ---- all at one moment
 
 module _ (moment : ℕ) (start stop : FixedClockValue) (begins : start ≡ record { at = moment; given = 1 }) where
-  -- over a still clock that was read once, all readings are its moment
-  still : (first last : Option (List ℕ)) → first ≡ fixed_readings start → last ≡ fixed_readings stop → Grew first last
-      → (first ≡ Some (moment ∷ [])) × IfSome last (λ readings. All (λ reading. reading ≡ moment) readings)
-  still first last is ends grew =
-      let one : first ≡ Some (moment ∷ []) = is ∙ ap fixed_readings begins in (
-        one,
-        subst (λ readings. IfSome readings (λ readings. All (λ reading. reading ≡ moment) readings)) (sym ends)
-            (still_moments moment stop (subst (λ now. Grew (Some (moment ∷ [])) now) ends (subst (λ old. Grew old last) one grew))),
-      )
-
-  pub at_moment : (limit most : ℕ) (before after : BatchView) (old new : Desk) (input : List ℕ) (status : ExitStatus)
+  -- over a still clock that was read once
+  pub at_moment : (limit most : ℕ) (before after : BatchView) (old new : Desk) (input : List ℕ) (status : ExitStatus) → limit < 2 ^ 63
       → IsServedAt Clock limit most (record before { readings = fixed_readings start }) (record after { readings = fixed_readings stop }) old new input status
       → after.readings ≡ before.readings → IsServedAt (At moment) limit most before after old new input status
-  at_moment limit most before after old new input status o unread = record {
+  at_moment limit most before after old new input status small o unread = record {
     begin = o.begin;
     end = o.end;
     begins = o.begins;
     ends = o.ends;
     files_before = o.files_before;
     files = o.files;
-    timed =
-        let all = still o.begin.lake.readings o.end.lake.readings o.timed.0 o.timed.1
-        (pass_lines o.outcome.extent.served o.begin o.end o.outcome.extent.effects o.outcome.each).grew in (unread, all.0, all.1);
+    timed = (
+      unread,
+      at_its_moment moment (length o.outcome.extent.served) stop o.begin o.end (o.timed.0 ∙ ap fixed_readings begins) o.timed.1
+          (pass_lines o.outcome.extent.served o.begin o.end o.outcome.extent.effects o.outcome.each)
+          (few_served limit input o.outcome.extent.served o.outcome.extent.unserved o.outcome.lines small),
+    );
     outcome = o.outcome;
     goes = o.goes;
   }
@@ -109,9 +104,11 @@ module _ (moment : ℕ) (start stop : FixedClockValue) (begins : start ≡ recor
     ends = o.ends;
     files_before = o.files_before;
     files = o.files;
-    timed =
-        let all = still o.begin.lake.readings o.end.lake.readings o.timed.0 o.timed.1 (passes words o.begin o.end result o.command).grew in
-        (unread, all.0, all.1);
+    timed = (
+      unread,
+      at_its_moment moment 1 stop o.begin o.end (o.timed.0 ∙ ap fixed_readings begins) o.timed.1 (passes words o.begin o.end result o.command)
+          (omega arith),
+    );
     command = o.command;
     goes = o.goes;
   }

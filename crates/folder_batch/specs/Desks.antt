@@ -1,15 +1,16 @@
 -- The lines of a batch at a desk: on one seat of a lake, with a store of its objects.
-use Rattle.std.specs.Prelude.{◌≡◌, ◌<◌, ℕ, List, [], ◌∷◌, All, Option, Some, IfSome, Result, codes, vec_len, vec_capacity}
+use Rattle.std.specs.Prelude.{◌≡◌, ◌<◌, ℕ, List, [], Option, Result, codes, vec_len, vec_capacity}
 use Rattle.lake_base.specs.declared.outside.Trouble.{Trouble}
 use Rattle.shared_lake.specs.SeatSteps.{LakeSeat}
 use Rattle.batch_lines.specs.Outcome.{Outcome}
 use Rattle.batch_lines.specs.declared.status.ExitStatus.{ExitStatus}
 use Rattle.lakectl_commands.specs.HeldFiles.{HeldFiles}
-use Rattle.lakectl_session.specs.ServedCommands.{CommandEnds}
+use Rattle.lake_batch.specs.CommandWords.{CommandEnds}
 use Rattle.lakectl_shown.specs.declared.showing.Shown.{Shown}
 use Rattle.program_words.specs.declared.batch.Timing.{Timing}
 use Rattle.program_words.specs.declared.batch.Timing.TheVariants.{Clock, At}
 use Rattle.lake_batch.specs.BatchViews.{BatchView, trace_of}
+use Rattle.lake_batch.specs.Batches.{AreAtMoment}
 use Rattle.folder_batch.specs.declared.desk.OpenDesk.{OpenDesk}
 use Rattle.lake_batch.specs.CommandWords.{CommandView, GoesThrough, LineEnds, StoreView}
 
@@ -29,11 +30,10 @@ pub record IsAtDesk (desk : Desk) (view : CommandView) : Type 0 where
   pub store : view.lake.store ≡ desk.store
   pub seat : view.lake.seat ≡ desk.seat
 
--- Requests were made at the clock's next readings, or all at one moment, as far as their readings are told; and then the clock isn't read.
+-- Requests were made at the clock's next readings, or all at one moment; and then the clock isn't read.
 abbrev pub IsTimedBy : Timing → (before after : Option (List ℕ)) → (begin end : CommandView) → Type 0
 IsTimedBy Clock before after begin end = (begin.lake.readings ≡ before) × (end.lake.readings ≡ after)
-IsTimedBy (At moment) before after begin end = (after ≡ before) × (begin.lake.readings ≡ Some (moment ∷ []))
-    × IfSome end.lake.readings (λ readings. All (λ reading. reading ≡ moment) readings)
+IsTimedBy (At moment) before after begin end = (after ≡ before) × AreAtMoment moment begin end
 
 -- WHAT BECAME OF A BATCH at a desk, of at most `limit` bytes, whose source gives at most `most` at once. Its lines are commands, and each works
 -- on what the one before left; the status tells how far it came.

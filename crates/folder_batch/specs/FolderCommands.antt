@@ -7,7 +7,7 @@ use Rattle.program_words.specs.declared.batch.Timing.{Timing}
 use Rattle.lake_folders.specs.Folders.{FoldersView}
 use Rattle.folder_batch.specs.Desks.{CommandAround, Desk, IsCommandAt}
 use Rattle.folder_batch.specs.OpenDesks.{IsDeskOpened, IsDeskRefused, IsLeft}
-use Rattle.folder_batch.specs.FolderStatus.{status_of_trouble}
+use Rattle.folder_lakes.specs.FolderStatus.{status_of_trouble}
 
 -- what is answered to a command that stopped is the status of its trouble
 abbrev pub ended_as : Result Shown Trouble → Result Shown ExitStatus

@@ -1,5 +1,5 @@
 pub mod Desks
-pub mod FolderStatus
 pub mod OpenDesks
 pub mod FolderBatches
 pub mod FolderCommands
+pub mod BatchWords

@@ -10,7 +10,7 @@ use Rattle.shared_lake.specs.SeatSteps.{LakeSeat}
 use Rattle.folder_lakes.specs.FolderLakes.{IsFolderClosed, IsFolderOpened, IsFolderRefused, NothingBack}
 use Rattle.folder_lakes.specs.declared.fault.FolderFault.{FolderFault}
 use Rattle.folder_batch.specs.Desks.{Desk}
-use Rattle.folder_batch.specs.FolderStatus.{status_by, status_of_trouble}
+use Rattle.folder_lakes.specs.FolderStatus.{status_by, status_of_trouble}
 
 -- THE DESK AT A FOLDER'S LAKE WAS OPENED, and nothing was done there: it has the only seat, and a store that has counted nothing, and holds what
 -- the folder is told to hold; nothing was given back

@@ -3,9 +3,9 @@ ghost use Rattle.std.specs.Prelude.{◌≤◌};
 ghost use Rattle.folder_batch.specs.FolderCommands.{FolderCommandEnds};
 
 use crate::desk::command_at;
-use crate::fault::status_of_trouble;
 use crate::opening::{close_desk, open_desk};
 use batch_lines::ExitStatus;
+use folder_lakes::status_of_trouble;
 use lake_base::{Clock, Text};
 use lake_folders::Folders;
 use lakectl_commands::Files;

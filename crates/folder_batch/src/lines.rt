@@ -6,8 +6,8 @@ use batch_lines::LineServer;
 use block_store::Blocks;
 use keeper::Keeper;
 use lake_base::{Clock, Trouble};
+use lake_batch::serve_line;
 use lakectl_commands::Files;
-use lakectl_session::serve_line;
 use lakectl_shown::Shown;
 use std::alloc::Global;
 use std::sync::Wait;
@@ -25,8 +25,8 @@ pub(crate) struct DeskLines<'r, W: Wait, K: Keeper, B: Blocks, C: Clock, F: File
 impl<'r, W: Wait, K: Keeper, B: Blocks, C: Clock, F: Files> LineServer
     for DeskLines<'r, W, K, B, C, F> {
     ghost use Rattle.folder_batch.specs.Desks.{IsReady};
-    ghost use Rattle.lakectl_session.specs.ServedCommands.{LineEnds};
-    ghost use Rattle.lakectl_session.proofs.LongLines.{told_by_fronts};
+    ghost use Rattle.lake_batch.specs.CommandWords.{LineEnds};
+    ghost use Rattle.lake_batch.proofs.SeatLemmas.{told_by_fronts};
 
     ghost ready = { λ lines. IsReady lines.desk };
 

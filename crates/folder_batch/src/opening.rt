@@ -5,9 +5,8 @@ ghost use Rattle.folder_batch.specs.Desks.{IsReady};
 ghost use Rattle.folder_batch.specs.OpenDesks.{IsDeskOpened, IsDeskRefused, IsLeft};
 
 use crate::desk::OpenDesk;
-use crate::fault::{status_by, status_of_trouble};
 use batch_lines::ExitStatus;
-use folder_lakes::{close_folder, open_folder};
+use folder_lakes::{close_folder, open_folder, status_by, status_of_trouble};
 use lake_base::Text;
 use lake_folders::Folders;
 use std::alloc::Global;

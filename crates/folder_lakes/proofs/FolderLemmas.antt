@@ -7,7 +7,9 @@ use Rattle.lake_base.specs.declared.outside.Trouble.TheVariants as trouble
 use Rattle.keeper.specs.Keepers.{KeptPairs}
 use Rattle.pair_format.specs.declared.pair.Pair.{Pair}
 use Rattle.core_puts.specs.KeeperViews.{KeeperView}
+use Rattle.core_state.specs.LakeStates.{lake_value}
 use Rattle.lake_core.specs.Faults.{HasFault}
+use Rattle.lake_core.specs.FollowedLakes.{FollowOrTried}
 use Rattle.lake_core.specs.Lakes.{Holds, LakeValue}
 use Rattle.lake_core.specs.declared.standing.LakeOrigin.{LakeOrigin}
 use Rattle.lake_model.specs.declared.history.HistoryEntry.{HistoryEntry}
@@ -48,11 +50,17 @@ module _ {K : Type 0} (view : KeeperView K) (folder : List ℕ) (before after : 
       → IsFolderRefused folder before after (of_opening fault)
   no_lake opening.StoreFault is held none given later = inr (show, given, rose_from none is.cause, later)
   no_lake (opening.BadPair number) is held none given later =
-      let cause = is.cause in
-      ((cause.0, record { kept = view.kept old; held = held; loaded = cause.1 }, reading.BadPair number, (λ e. absurd cc), cause.2), (show, given), later)
+      let cause = is.cause in (
+        (cause.0, record { kept = view.kept old; held = held; loaded = cause.1 }, cause.4, reading.BadPair number, (λ e. absurd cc), cause.2),
+        (show, given),
+        later,
+      )
   no_lake (opening.Tree commit fault) is held none given later =
-      let cause = is.cause in
-      ((cause.0, record { kept = view.kept old; held = held; loaded = cause.1 }, reading.Tree commit fault, (λ e. absurd cc), cause.2), (show, given), later)
+      let cause = is.cause in (
+        (cause.0, record { kept = view.kept old; held = held; loaded = cause.1 }, cause.4, reading.Tree commit fault, (λ e. absurd cc), cause.2),
+        (show, given),
+        later,
+      )
   no_lake opening.NoMemory is held none given later = later
 
 -- ---- closed
@@ -74,3 +82,17 @@ module _ {K : Type 0} (view : KeeperView K) (closed : LakeValue K) where
         λ has. subst (λ n. Rose n (view.faults back)) count (subst (λ n. Rose (view.faults closed.first) n) (sym kept) (is.holds.keeper.counted has)),
         λ none. kept ∙ is.holds.keeper.quiet none ∙ count,
       )
+
+  -- a seat went out from what the lake was opened as
+  pub went_out : (seat : LakeSeat) → Finds view seat closed → (origin : LakeOrigin) → seat.origin ≡ Some origin → origin.opened ≡ closed.opened
+  went_out seat is origin from =
+      let one : Some origin ≡ Some (origin_of view closed) = sym from ∙ is.origin in
+      let goes_out : origin_of view closed ≡ origin = cc in
+      sym (ap (λ (o : LakeOrigin). o.opened) goes_out)
+
+  -- what the pairs stand for of the keeper that was given back
+  pub left : (back : K) → back ≡ closed.keeper → Holds view closed
+      → IfSome (view.kept back) (FollowOrTried (lake_value closed.opened) closed.history closed.present.names.files (lake_value closed.present))
+  left back same holds =
+      subst (λ (k : K). IfSome (view.kept k) (FollowOrTried (lake_value closed.opened) closed.history closed.present.names.files (lake_value closed.present)))
+      (sym same) holds.pairs

@@ -3,8 +3,11 @@ use Rattle.std.specs.Prelude.{◌≡◌, ◌≢◌, ◌<◌, ◌≤◌, ◌⊎�
 use Rattle.lake_base.specs.Outside.{Rose}
 use Rattle.keeper.specs.Keepers.{KeptPairs}
 use Rattle.pair_format.specs.declared.pair.Pair.{Pair}
+use Rattle.core_state.specs.LakeStates.{lake_value}
 use Rattle.core_state.specs.declared.lake.LakeState.{LakeState}
+use Rattle.core_standing.specs.Standing.{Stands}
 use Rattle.lake_core.specs.Faults.{HasFault}
+use Rattle.lake_core.specs.FollowedLakes.{FollowOrTried}
 use Rattle.lake_core.specs.declared.standing.LakeOrigin.{LakeOrigin}
 use Rattle.lake_model.specs.declared.history.HistoryEntry.{HistoryEntry}
 use Rattle.shared_lake.specs.SeatSteps.{LakeSeat}
@@ -70,12 +73,23 @@ IsFolderRefused folder before after Failed =
     (NothingBack before after × Rose before.faults after.faults)
     ⊎ ((show : KeeperShow) × IsKeeperBack show before after × Rose 0 show.faults × (before.faults ≤ after.faults))
 IsFolderRefused folder before after Refused =
-    ((pairs : List Pair) × ArePairsIn folder before pairs × (fault : OpeningFault) × (fault ≢ NoMemoryToRead) × HasCause usual_cut pairs fault)
+    ((pairs : List Pair) × ArePairsIn folder before pairs × (pairs ≡ [] → ⊥) × (fault : OpeningFault) × (fault ≢ NoMemoryToRead)
+    × HasCause usual_cut pairs fault)
     × ((show : KeeperShow) × IsKeeperBack show before after) × (before.faults ≤ after.faults)
 IsFolderRefused folder before after NoMemory = before.faults ≤ after.faults
 
--- A FOLDER WAS CLOSED: its keeper was given back. Behind all that each seat has seen came entries of others, none where it is alone; and the
--- keeper's count of faults rose since the opening, or stands at its last value, where the history notes a fault, and else is as it was.
+-- What pairs stand for that a lake left, where they are told: the lake in memory, put to rest, which stands for the history from
+-- what its seats went out from; or, after a fault of the store, that lake with the entry that was tried.
+pub record AreLeft (seats : List LakeSeat) (history : List HistoryEntry) (kept : Option KeptPairs) : Type 0 where
+  pub opened : LakeState
+  pub present : LakeState
+  pub from : All (λ (seat : LakeSeat). (origin : LakeOrigin) → seat.origin ≡ Some origin → origin.opened ≡ opened) seats
+  pub stands : Stands (lake_value opened) history (lake_value present)
+  pub pairs : IfSome kept (FollowOrTried (lake_value opened) history present.names.files (lake_value present))
+
+-- A FOLDER WAS CLOSED: its keeper was given back, and its pairs stand for the lake at the end. Behind all that each seat has seen
+-- came entries of others, none where it is alone; and the keeper's count of faults rose since the opening, or stands at its last
+-- value, where the history notes a fault, and else is as it was.
 pub record IsFolderClosed (seats : List LakeSeat) (before after : FoldersView) : Type 0 where
   pub show : KeeperShow
   pub back : IsKeeperBack show before after
@@ -84,3 +98,4 @@ pub record IsFolderClosed (seats : List LakeSeat) (before after : FoldersView) :
   pub begins : All (λ (seat : LakeSeat). (others : List HistoryEntry) × (history ≡ seat.seen ++ others) × (seat.alone ≡ true → others ≡ [])) seats
   pub counted : All (λ (seat : LakeSeat). (origin : LakeOrigin) → seat.origin ≡ Some origin
       → (HasFault history → Rose origin.faults show.faults) × ((HasFault history → ⊥) → show.faults ≡ origin.faults)) seats
+  pub left : AreLeft seats history show.kept

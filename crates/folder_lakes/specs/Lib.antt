@@ -1,2 +1,3 @@
 pub mod FolderFaults
+pub mod FolderStatus
 pub mod FolderLakes

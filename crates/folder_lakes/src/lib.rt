@@ -1,6 +1,6 @@
 //! The lake of a folder, and the seats at it.
 //!
-//! - `fault`: why a folder isn't opened.
+//! - `fault`: why a folder isn't opened; `status`: how a run ends then.
 //! - `opening`: a folder's keeper is taken, and the lake for which its pairs stand is opened, with so many seats; and
 //!   it is closed again.
 //!
@@ -10,6 +10,8 @@
 
 pub mod fault;
 mod opening;
+pub mod status;
 
 pub use fault::FolderFault;
 pub use opening::{close_folder, open_folder};
+pub use status::{status_by, status_of_trouble};

@@ -15,7 +15,7 @@ use Rattle.program_words.specs.ProgramWords.{LocalServing}
 use Rattle.lake_folders.specs.Folders.{FoldersView, StoreShow}
 use Rattle.folder_lakes.specs.FolderLakes.{IsFolderClosed, IsFolderOpened, IsFolderRefused, IsKeeperBack}
 use Rattle.folder_lakes.specs.declared.fault.FolderFault.{FolderFault}
-use Rattle.folder_batch.specs.FolderStatus.{status_by, status_of_trouble}
+use Rattle.folder_lakes.specs.FolderStatus.{status_by, status_of_trouble}
 use Rattle.folder_server.specs.Stores.{AreBack, AreNoStores, AreStoresOut}
 
 -- how a run ends whose server ended so

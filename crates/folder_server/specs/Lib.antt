@@ -1,2 +1,4 @@
 pub mod Stores
 pub mod FolderServers
+pub mod HostWords
+pub mod ServerEnds

@@ -11,4 +11,5 @@
 mod server;
 mod stores;
 
+pub use lake_host::{Host, ServerEnd, serve_listeners};
 pub use server::serve_folder_host;

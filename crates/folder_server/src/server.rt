@@ -4,8 +4,7 @@ ghost use Rattle.folder_server.specs.FolderServers.{FolderServes, status_of};
 
 use crate::stores::{give_back, stores_of};
 use batch_lines::ExitStatus;
-use folder_batch::{status_by, status_of_trouble};
-use folder_lakes::{close_folder, open_folder};
+use folder_lakes::{close_folder, open_folder, status_by, status_of_trouble};
 use lake_base::Text;
 use lake_folders::Folders;
 use lake_host::{Host, ServerEnd, serve_listeners};

@@ -2,7 +2,7 @@
 use Rattle.std.specs.Prelude.{◌≡◌, ℕ, ◌+◌, ◌||◌, Bool, false, List, [], ◌∷◌, Option, ⊤}
 use Rattle.block_store.specs.Blocks.{HeldObjects}
 use Rattle.shared_lake.specs.SeatSteps.{LakeSeat}
-pub use Rattle.lake_session.specs.SessionViews.{StoreView}
+pub use Rattle.lake_server.specs.ServedConnections.{StoreView}
 use Rattle.lake_server.specs.ServedConnections.{WorkerView}
 use Rattle.lake_host.specs.Shares.{share_of}
 

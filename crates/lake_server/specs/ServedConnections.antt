@@ -6,7 +6,8 @@ use Rattle.http_wire.specs.Streams.{Streams}
 use Rattle.lake_model.specs.declared.history.HistoryEntry.{HistoryEntry}
 use Rattle.shared_lake.specs.SeatSteps.{LakeSeat}
 use Rattle.turn_lock.specs.Seats.{TableId}
-use Rattle.lake_session.specs.SessionViews.{SessionView, StoreView}
+pub use Rattle.lake_session.specs.SessionViews.{StoreView}
+use Rattle.lake_session.specs.SessionViews.{SessionView}
 use Rattle.lake_session.specs.WholeSessions.{GoesThrough, IsSession}
 use Rattle.lake_session.specs.declared.report.SessionReport.{SessionReport}
 use Rattle.lake_server.specs.Connections.{Returned}

@@ -47,5 +47,6 @@ returns-in-At-clause-outcome g c =
     ⊎_elim (λ none. inl (none.0, none.1, none.2, none.3, refl, none.5))
     (λ some. inr (told_then (g.S.Source.left c.args.source.now) _ _ (λ input told served.
     subst (λ (timing : Timing). IsServedAt timing c.args.limit 65536 before after old new input status.result.0) (sym c.in-At.is)
-    (at_moment c.in-At.moment c.now.new.self status.result.2 begins c.args.limit 65536 before after old new input status.result.0 served refl)) some))
+    (at_moment c.in-At.moment c.now.new.self status.result.2 begins c.args.limit 65536 before after old new input status.result.0
+    c.requires.limit served refl)) some))
     status.ensures.outcome

@@ -1,5 +1,5 @@
 use Rattle.core_puts.specs.KeeperViews.{KeeperView}
-use Rattle.folder_lakes.proofs.FolderLemmas.{begins, counted}
+use Rattle.folder_lakes.proofs.FolderLemmas.{begins, counted, left, went_out}
 use Rattle.folder_lakes.proofs.opening.close_folder.Goals as goal
 
 pub returns : goal.returns
@@ -18,4 +18,11 @@ returns g c =
       history = closed.history;
       begins = λ k d within. begins view closed _ (c.close-closed.ensures.found k d within);
       counted = λ k d within. counted view closed c.into_keeper.result c.into_keeper.ensures _ (c.close-closed.ensures.found k d within);
+      left = record {
+        opened = closed.opened;
+        present = closed.present;
+        from = λ k d within. went_out view closed _ (c.close-closed.ensures.found k d within);
+        stands = c.close-closed.ensures.stands.stands;
+        pairs = left view closed c.into_keeper.result c.into_keeper.ensures c.close-closed.ensures.stands;
+      };
     }

@@ -1,9 +1,9 @@
 //! How a run ends whose folder isn't opened.
 ghost use Rattle.std.specs.Prelude.{◌≡◌};
-ghost use Rattle.folder_batch.specs.FolderStatus.{status_by, status_of_trouble};
+ghost use Rattle.folder_lakes.specs.FolderStatus.{status_by, status_of_trouble};
 
+use crate::fault::FolderFault;
 use batch_lines::ExitStatus;
-use folder_lakes::FolderFault;
 use lake_base::Trouble;
 
 /// The status of a run whose folder isn't opened.
