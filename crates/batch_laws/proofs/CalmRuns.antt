@@ -123,7 +123,8 @@ module _ (opened : State) (fresh : HasNoneExpired opened) (old now : CommandView
   line_calm bytes (Err trouble.Failed) ends calms = let never = calms.1 in absurd (cc (never))
 
 -- what a line left is sound
-sound_behind : (opened : State) (old now : CommandView) → IsReady opened old → Passes old.lake now.lake → NoneExpires now.lake.seat.seen → IsReady opened now
+sound_behind : {most : ℕ} (opened : State) (old now : CommandView) → IsReady opened old → Passes most old.lake now.lake
+    → NoneExpires now.lake.seat.seen → IsReady opened now
 sound_behind opened old now sound passes none =
     let kept = passes.fits sound.lone.origin sound.objects sound.lone.alone sound.lone.from sound.held
     (subst (λ (s : State). FitsState (replay s old.lake.seat.seen) (get sound.objects)) (sym sound.lone.opened_as) sound.fits) in
@@ -138,7 +139,7 @@ sound_behind opened old now sound passes none =
 -- ---- all lines
 
 -- a note among what was seen is among what is seen later
-fault_stays : (old now : CommandView) → Passes old.lake now.lake → HasFault old.lake.seat.seen → HasFault now.lake.seat.seen
+fault_stays : {most : ℕ} (old now : CommandView) → Passes most old.lake now.lake → HasFault old.lake.seat.seen → HasFault now.lake.seat.seen
 fault_stays old now passes fault = record {
   by = fault.by;
   tried = fault.tried;

@@ -1,13 +1,13 @@
--- Runs at one moment agree on what they read of the clock.
-use Rattle.std.proofs.Common.{◌≡◌, ℕ, List, [], ◌∷◌, Option, IfSome, All, sym, subst, ◌∙◌}
+-- Runs at one moment take the same readings of the clock.
+use Rattle.std.proofs.Common.{◌≡◌, inl, inr, ℕ, List, [], ◌∷◌, All, sym, subst, ◌∙◌}
 use Rattle.std.proofs.lemmas.List.Elements.{All-head, All-tail}
-use Rattle.call_placement.proofs.AloneLemmas.{all_rest}
 use Rattle.lake_batch.specs.CommandWords.{CommandView}
 use Rattle.lake_batch.specs.BatchViews.{BatchView}
-use Rattle.lake_batch.specs.Batches.{IsTimed}
+use Rattle.lake_batch.specs.Batches.{AreAtMoment, IsTimed}
+use Rattle.program_words.specs.declared.batch.Timing.{Timing}
 use Rattle.program_words.specs.declared.batch.Timing.TheVariants.{At}
 use Rattle.seat_laws.specs.LikeMoments.{Agree}
-use Rattle.batch_laws.specs.LikeRuns.{Takes}
+use Rattle.batch_laws.specs.LikeRuns.{HaveOneClock, Takes, TookAlike}
 
 -- readings of one moment
 abbrev AreOf : (moment : ℕ) → List ℕ → Type 0
@@ -21,15 +21,27 @@ still moment (m ∷ taken) (n ∷ others) one other = (
   still moment taken others (All-tail (λ reading. reading ≡ moment) m taken one) (All-tail (λ reading. reading ≡ moment) n others other),
 )
 
-taken_of : (moment : ℕ) (before after : BatchView) (begin end : CommandView) (taken : List ℕ) → IsTimed (At moment) before after begin end
-    → Takes begin end taken → AreOf moment taken
-taken_of moment before after begin end taken timed takes =
-    all_rest (λ reading. reading ≡ moment) takes.before taken (subst (λ (r : Option (List ℕ)). IfSome r (AreOf moment)) takes.ends timed.2)
+takes_of : (moment : ℕ) (begin end : CommandView) (at : AreAtMoment moment begin end) → Takes begin end at.taken
+takes_of moment begin end at = record { before = moment ∷ []; begins = at.begins; ends = at.ends }
 
--- TWO RUNS AT ONE MOMENT AGREE
-pub one_moment : (moment : ℕ) (before after other_before other_after : BatchView) (begin end other_begin other_end : CommandView)
-    (taken other_taken : List ℕ) → IsTimed (At moment) before after begin end → IsTimed (At moment) other_before other_after other_begin other_end
-    → Takes begin end taken → Takes other_begin other_end other_taken → Agree taken other_taken
-one_moment moment before after other_before other_after begin end other_begin other_end taken other_taken timed other_timed takes other_takes =
-    still moment taken other_taken (taken_of moment before after begin end taken timed takes)
-    (taken_of moment other_before other_after other_begin other_end other_taken other_timed other_takes)
+-- TWO RUNS AT ONE MOMENT TOOK THE SAME READINGS, and tell them
+pub one_moment : (moment : ℕ) (begin end other_begin other_end : CommandView) → AreAtMoment moment begin end → AreAtMoment moment other_begin other_end
+    → TookAlike begin end other_begin other_end
+one_moment moment begin end other_begin other_end at other_at = record {
+  taken = at.taken;
+  other_taken = other_at.taken;
+  takes = takes_of moment begin end at;
+  other_takes = takes_of moment other_begin other_end other_at;
+  agree = still moment at.taken other_at.taken at.still other_at.still;
+}
+
+-- so did two runs of one clock
+pub one_clock : (timing other_timing : Timing) (before after other_before other_after : BatchView) (begin end other_begin other_end : CommandView)
+    → IsTimed timing before after begin end → IsTimed other_timing other_before other_after other_begin other_end
+    → HaveOneClock timing other_timing begin end other_begin other_end → TookAlike begin end other_begin other_end
+one_clock timing other_timing before after other_before other_after begin end other_begin other_end timed other_timed (inl (moment, is, other_is)) =
+    let at : IsTimed (At moment) before after begin end = subst (λ (t : Timing). IsTimed t before after begin end) is timed in
+    let other_at : IsTimed (At moment) other_before other_after other_begin other_end =
+    subst (λ (t : Timing). IsTimed t other_before other_after other_begin other_end) other_is other_timed in
+    one_moment moment begin end other_begin other_end at.1 other_at.1
+one_clock timing other_timing before after other_before other_after begin end other_begin other_end timed other_timed (inr alike) = alike

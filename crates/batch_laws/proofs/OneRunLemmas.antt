@@ -17,11 +17,13 @@ use Rattle.lake_batch.specs.CommandWords.{StoreView}
 use Rattle.lake_batch.specs.CommandWords.{CommandView, LineEnds}
 use Rattle.batch_lines.specs.ServedLines.{AreServed, LineEffect}
 use Rattle.lake_batch.specs.BatchViews.{BatchView}
-use Rattle.lake_batch.specs.Batches.{IsBegun}
+use Rattle.lake_batch.specs.Batches.{IsBegun, IsTimed}
+use Rattle.program_words.specs.declared.batch.Timing.{Timing}
 use Rattle.seat_laws.specs.Expiries.{HasNoneExpired, NoneExpires, is_expiry}
-use Rattle.batch_laws.specs.LikeRuns.{IsOnlyRun}
+use Rattle.batch_laws.specs.LikeRuns.{IsOnlyRun, Takes, TookAlike}
 use Rattle.batch_laws.proofs.CalmRuns.{IsReady, calm_run}
 use Rattle.batch_laws.proofs.LoneSeats.{IsLone}
+use Rattle.batch_laws.proofs.MomentPairs.{one_clock}
 use Rattle.batch_laws.proofs.RunPairs.{like_runs}
 
 -- no commit of a fresh lake is expired
@@ -53,14 +55,26 @@ module _ (before : BatchView) (begin : CommandView) (begun : IsBegun before begi
         (fresh_fits usual_cut (get none));
   }
 
-pub only_run : (lines : List (List ℕ)) (before : BatchView) (begin : CommandView) (effects : List LineEffect) (end : CommandView)
-    (run : AreServed LineEnds lines begin effects end) → IsBegun before begin → IsOnlyRun lines before begin effects end run
-only_run lines before begin effects end run begun other_before other_begin other_end others other_run files taken other_taken other_begun told tells takes
-    other_takes agree well other_well apart =
+pub only_run : (timing : Timing) (lines : List (List ℕ)) (before after : BatchView) (begin : CommandView) (effects : List LineEffect) (end : CommandView)
+    (run : AreServed LineEnds lines begin effects end) → IsBegun before begin → IsTimed timing before after begin end
+    → IsOnlyRun timing lines before begin effects end run
+only_run timing lines before after begin effects end run begun timed other_timing other_before other_after other_begin other_end others other_run files
+    other_begun other_timed told tells clock well other_well apart =
+    let took : TookAlike begin end other_begin other_end =
+    one_clock timing other_timing before after other_before other_after begin end other_begin other_end timed other_timed clock in
+    let like =
     like_runs (fresh usual_cut) lines begin end other_begin other_end effects others run other_run (lone before begin begun)
     (lone other_before other_begin other_begun) (begun.seat.fresh.seen ∙ sym other_begun.seat.fresh.seen) files (begun.files ∙ told)
-    (other_begun.files ∙ tells) takes.before taken other_takes.before other_taken takes.begins takes.ends other_takes.begins other_takes.ends agree
-    well.memory well.files other_well.memory other_well.files
+    (other_begun.files ∙ tells) took.takes.before took.taken took.other_takes.before took.other_taken took.takes.begins took.takes.ends
+    took.other_takes.begins took.other_takes.ends took.agree well.memory well.files other_well.memory other_well.files
     (calm_run (fresh usual_cut) (none_fresh usual_cut) lines begin end effects run (sound before begin begun) well.memory well.files well.objects well.pairs)
     (calm_run (fresh usual_cut) (none_fresh usual_cut) lines other_begin other_end others other_run (sound other_before other_begin other_begun)
-    other_well.memory other_well.files other_well.objects other_well.pairs) apart
+    other_well.memory other_well.files other_well.objects other_well.pairs) apart in
+    record {
+      lines = like.lines;
+      files = like.files;
+      history = like.history;
+      taken = took.taken;
+      takes = took.takes;
+      other_takes = subst (Takes other_begin other_end) (sym like.readings) took.other_takes;
+    }

@@ -13,7 +13,6 @@ use Rattle.lake_batch.proofs.SeatLemmas.{Grew, pass_lines}
 use Rattle.seat_laws.proofs.ClashLemmas.{front_apart, rest_apart}
 use Rattle.seat_laws.specs.Clashes.{NoneClashes}
 use Rattle.seat_laws.specs.LikeMoments.{Agree}
-use Rattle.batch_laws.specs.LikeRuns.{AreOneRun}
 use Rattle.batch_laws.specs.ToldReplies.{told_in, told_to_line}
 use Rattle.batch_laws.proofs.CommandPairs.{like_lines}
 use Rattle.batch_laws.proofs.ExchangePairs.{AreCalm, IsCalm, OneMoment, TakesNext}
@@ -107,6 +106,13 @@ lone_behind opened bytes old now effect is lone =
 
 -- ---- all lines
 
+-- they came to the same, and took these readings, which are the same
+pub record ComeAlike (effects others : List LineEffect) (end other_end : CommandView) (taken other_taken : List ℕ) : Type 0 where
+  pub lines : effects ≡ others
+  pub files : end.files ≡ other_end.files
+  pub history : end.lake.seat.seen ≡ other_end.lake.seat.seen
+  pub readings : taken ≡ other_taken
+
 pub like_runs : (opened : State) (lines : List (List ℕ)) (one end other other_end : CommandView) (effects others : List LineEffect)
     (run : AreServed LineEnds lines one effects end) (other_run : AreServed LineEnds lines other others other_end)
     → IsLone opened one.lake.seat → IsLone opened other.lake.seat → one.lake.seat.seen ≡ other.lake.seat.seen
@@ -116,7 +122,7 @@ pub like_runs : (opened : State) (lines : List (List ℕ)) (one end other other_
     → any_starved effects ≡ false → any_failed effects ≡ false → any_starved others ≡ false → any_failed others ≡ false
     → AreCalm (told_in lines one effects end run) → AreCalm (told_in lines other others other_end other_run)
     → NoneClashes (told_in lines one effects end run) (told_in lines other others other_end other_run)
-    → AreOneRun effects others end other_end taken other_taken
+    → ComeAlike effects others end other_end taken other_taken
 like_runs opened [] one end other other_end [] [] run other_run lone other_lone seen files told tells before taken other_before other_taken begins ends
     other_begins other_ends agree starved failed other_starved other_failed calm still apart =
     let none : Some (before ++ taken) ≡ Some (before ++ []) =

@@ -1,11 +1,11 @@
 -- A fresh lake names no object, so that a store which holds none fits it.
-use Rattle.std.proofs.Common.{inl, inr, ◌≡◌, ◌⊎◌, ⊎_elim, [], ℕ, Bool, true, false, cond, List, Option, Some, None, refl, sym, ap, ◌∙◌, subst}
+use Rattle.std.proofs.Common.{◌≡◌, ◌⊎◌, ⊎_elim, ℕ, Bool, true, false, cond, List, Option, Some, None, refl, sym, ap, ◌∙◌}
 use Rattle.std.proofs.lemmas.Cmp.{nat_list_cmp_total}
 use Rattle.std.specs.Prelude.{codes}
 use Rattle.std.specs.FinMap.{empty, get, insert, get-insert, get-empty}
 use Rattle.std.specs.Option.{unwrap_or}
 use Rattle.std.specs.Ordering.{eq_by_cmp}
-use Rattle.lake_base.specs.Maps.{ByteMap, byte_order}
+use Rattle.lake_base.specs.Maps.{byte_order}
 use Rattle.lake_base.specs.declared.digest.Digest.{Digest}
 use Rattle.lake_format.specs.declared.cut.Cut.{Cut}
 use Rattle.lake_format.specs.Spelling.{commit_id}
@@ -16,8 +16,8 @@ use Rattle.lake_values.specs.KeyMap.{KeyMapValue}
 use Rattle.lake_model.specs.Branches.{clean_branch}
 use Rattle.lake_model.specs.Commits.{first_draft, new_repository, record_of}
 use Rattle.lake_model.specs.Soundness.{fresh}
-use Rattle.lake_model.specs.State.{Branch, HasLiveCommit, Repository, map_of}
-use Rattle.lake_calls.specs.HeldBodies.{FitsState, HoldsBody}
+use Rattle.lake_model.specs.State.{Branch, Repository, map_of}
+use Rattle.lake_calls.specs.HeldBodies.{FitsState}
 
 module _ {X : Type 0} (name : List ℕ) (x : X) where
   -- what one name leads to in a map of that name alone

@@ -1,6 +1,6 @@
 -- A fresh lake in memory, and the seat at it.
-use Rattle.std.proofs.Common.{◌≡◌, ◌<◌, ◌+◌, ◌==◌, ◌++◌, ℕ, true, All, List, [], ◌∷◌, length, length-append, slice_index_or, Option, Some, None, refl, sym, ◌∙◌}
-use Rattle.std.proofs.Common.{ap, subst, arith}
+use Rattle.std.proofs.Common.{◌≡◌, ◌<◌, ◌+◌, ◌==◌, ◌++◌, ℕ, true, All, List, [], ◌∷◌, length, length-append, slice_index_or, Option, Some, refl, sym, ◌∙◌}
+use Rattle.std.proofs.Common.{ap, subst, arith, append-nil}
 use Rattle.std.specs.List.{slice_get}
 use Rattle.std.proofs.lemmas.Option.{get_or_from_slice_get}
 use Rattle.std.specs.Option.{option_to_list}
@@ -9,13 +9,14 @@ use Rattle.lake_format.specs.declared.cut.Cut.{Cut}
 use Rattle.lake_model.specs.Soundness.{fresh}
 use Rattle.lake_model.specs.declared.history.HistoryEntry.{HistoryEntry}
 use Rattle.core_state.specs.FirstStates as founding
-use Rattle.core_state.specs.LakeStates.{lake_value, state_of}
+use Rattle.core_state.specs.LakeStates.{state_of}
 use Rattle.core_puts.specs.KeeperViews.{KeeperView}
+use Rattle.lake_core.specs.Faults.{HasFault}
 use Rattle.lake_core.specs.Lakes.{LakeValue}
 use Rattle.lake_core.specs.Opening.{IsUnfounded}
 use Rattle.lake_core.specs.declared.open_fault.OpenFault.{OpenFault}
 use Rattle.lake_core.specs.declared.open_fault.OpenFault.TheVariants as opening
-use Rattle.shared_lake.specs.SeatSteps.{LakeSeat, origin_of}
+use Rattle.shared_lake.specs.SeatSteps.{Finds, LakeSeat, origin_of}
 use Rattle.turn_lock.specs.Seats.{TableId, new_seat, by_seat}
 use Rattle.fresh_lakes.specs.FreshLakes.{AreFreshSeats, IsFounded, IsFreshSeat, IsLoneSeat, sure_view, usual_cut}
 
@@ -76,3 +77,20 @@ lone_seat items seat only fresh alone = record {
   fresh = subst (λ (seats : List LakeSeat). AreFreshSeats seats) only fresh 0 seat (omega arith);
   alone = subst (λ (seats : List LakeSeat). All (λ (s : LakeSeat). s.alone ≡ true) seats) only alone 0 seat (omega arith);
 }
+
+-- ---- the lake is closed
+
+-- a lone seat has seen no note that the keeper failed, where that never does
+none_noted : (seat : LakeSeat) (closed : LakeValue KeptPairs) → Finds sure_view seat closed → seat.alone ≡ true → HasFault seat.seen → ⊥
+none_noted seat closed finds alone has =
+    let all : closed.history ≡ seat.seen =
+    finds.begins ∙ ap (λ (others : List HistoryEntry). seat.seen ++ others) (finds.alone alone) ∙ append-nil seat.seen in
+    let rose : 0 < 0 = finds.holds.keeper.counted (subst HasFault (sym all) has) (omega arith) in
+    absurd (omega (arith, rose))
+
+-- so it is of one that was put into the room
+pub none_noted_of : (seat : LakeSeat) (room seats : List LakeSeat) (closed : LakeValue KeptPairs) → room ≡ [] → seats ≡ room ++ seat ∷ []
+    → All (λ (s : LakeSeat). Finds sure_view s closed) seats → seat.alone ≡ true → HasFault seat.seen → ⊥
+none_noted_of seat room seats closed none put found =
+    let only : seats ≡ seat ∷ [] = put ∙ ap (λ (l : List LakeSeat). l ++ seat ∷ []) none in
+    none_noted seat closed (subst (λ (l : List LakeSeat). All (λ (s : LakeSeat). Finds sure_view s closed) l) only found 0 seat (omega arith))

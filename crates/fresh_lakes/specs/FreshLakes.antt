@@ -1,5 +1,5 @@
 -- A lake that was founded, and the seats at it.
-use Rattle.std.specs.Prelude.{◌≡◌, ◌<◌, ℕ, true, List, [], length, slice_index_or, Some, None}
+use Rattle.std.specs.Prelude.{◌≡◌, ◌<◌, ℕ, true, List, [], length, slice_index_or, Some, None, Vec, vec_len, vec_capacity}
 use Rattle.keeper.specs.Keepers.{KeptPairs}
 use Rattle.core_puts.specs.KeeperViews.{KeeperView}
 use Rattle.core_state.specs.FirstStates.{fresh_lake}
@@ -10,6 +10,8 @@ use Rattle.lake_core.specs.Lakes.{LakeValue}
 use Rattle.lake_core.specs.declared.standing.LakeOrigin.{LakeOrigin}
 use Rattle.shared_lake.specs.SeatSteps.{LakeSeat}
 use Rattle.flow_steps.specs.FlowSeats.{opened_state}
+-- that a history notes a fault of the store, passed on for the crates above
+pub use Rattle.lake_core.specs.Faults.{HasFault}
 
 -- how the ranges of a lake are cut
 abbrev pub usual_cut : Cut
@@ -41,3 +43,8 @@ AreFreshSeats seats = (k : ℕ) (d : LakeSeat) → k < length seats → IsFreshS
 pub record IsLoneSeat (seat : LakeSeat) : Type 0 where
   pub fresh : IsFreshSeat 0 seat
   pub alone : seat.alone ≡ true
+
+-- room for a seat, and no seat in it
+pub record IsSeatRoom {A : Type 0} (room : Vec LakeSeat A) : Type 0 where
+  pub none : room.items ≡ []
+  pub free : vec_len room < vec_capacity room

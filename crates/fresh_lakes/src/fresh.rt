@@ -1,6 +1,7 @@
-//! A fresh lake over a keeper in memory.
+//! A fresh lake over a keeper in memory is made, and closed.
 ghost use Rattle.std.specs.Prelude.{◌≡◌, ◌<◌, true, length, All, IfOk};
-ghost use Rattle.fresh_lakes.specs.FreshLakes.{AreFreshSeats, IsFounded, IsLoneSeat};
+ghost use Rattle.lake_core.specs.Faults.{HasFault};
+ghost use Rattle.fresh_lakes.specs.FreshLakes.{AreFreshSeats, IsFounded, IsLoneSeat, IsSeatRoom};
 
 use keeper::SureKeeper;
 use lake_base::NoMemory;
@@ -8,6 +9,7 @@ use lake_core::{Lake, OpenFault, laws_of_founding};
 use lake_format::USUAL_CUT;
 use shared_lake::{LakeSeat, Shared};
 use std::alloc::Global;
+use std::sync::Wait;
 
 /// A fresh lake in memory, and so many seats at it, numbered from 0.
 pub fn fresh_lake(
@@ -31,19 +33,36 @@ pub fn fresh_lake(
     }
 }
 
-/// A fresh lake in memory, and the only seat at it.
-pub fn lone_lake(alloc: Global) -> Result<(Shared<SureKeeper>, LakeSeat), NoMemory>
+/// A fresh lake in memory, the only seat at it, and room to put that back among the seats.
+pub fn lone_lake(alloc: Global) -> Result<(Shared<SureKeeper>, LakeSeat, Vec<LakeSeat>), NoMemory>
     ensures turn { IfOk result (λ r. r.1.turn ≡ r.0) }
     ensures fresh { IfOk result (λ r. IsLoneSeat r.1) }
+    ensures room { IfOk result (λ r. IsSeatRoom r.2) }
 {
     let (lake, mut seats) = match fresh_lake(alloc, 1) {
         Ok(fresh) => fresh,
         Err(starved) => return Err(starved),
     };
     match seats.pop() {
-        Some(seat) => Ok((lake, seat)),
+        Some(seat) => Ok((lake, seat, seats)),
         None => unreachable!(),
     }
+}
+
+/// Joins a seat at a lake in memory, and lets the lake go. Its keeper never fails, and so a seat that is alone has seen
+/// no note that it did. It takes no memory, and waits.
+pub fn close_lone_lake<W: Wait>(
+    rt: &W,
+    lake: Shared<SureKeeper>,
+    seat: LakeSeat,
+    mut room: Vec<LakeSeat>,
+)
+    requires own { seat.turn ≡ lake }
+    requires room { IsSeatRoom room }
+    ensures none { seat.alone ≡ true → HasFault seat.seen → ⊥ }
+{
+    room.push_reserved(seat);
+    lake.close(rt, room);
 }
 
 // A fresh lake over a keeper in memory.

@@ -1,3 +1,4 @@
 pub mod BatchLemmas
+pub mod LineCounts
 pub mod MomentLemmas
 pub mod SeatLemmas

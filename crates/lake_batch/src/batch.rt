@@ -6,14 +6,14 @@ ghost use Rattle.lake_batch.specs.Batches.{IsServedBatch};
 use crate::lines::LakeLines;
 use batch_lines::{ExitStatus, serve_lines};
 use block_store::SureBlocks;
-use fresh_lakes::lone_lake;
+use fresh_lakes::{close_lone_lake, lone_lake};
 use lake_base::{Clock, FixedClock, Sink, Source};
 use lakectl_commands::Files;
 use program_words::Timing;
 use std::alloc::Global;
 use std::sync::Wait;
 
-// Serves the lines of a batch, whose requests are made at the clock's readings. It waits.
+// Serves the lines of a batch, whose requests are made at the clock's readings, and closes its lake. It waits.
 fn serve_by_clock<R: Wait, S: Source, O: Sink, C: Clock, F: Files>(
     rt: &R,
     alloc: Global,
@@ -53,21 +53,28 @@ fn serve_by_clock<R: Wait, S: Source, O: Sink, C: Clock, F: Files>(
     ensures statuses { result.0 ≢ ExitStatus.Usage }
     ensures pairs { result.0 ≢ ExitStatus.PairsRefused }
 {
-    let Ok((lake, mut seat)) = lone_lake(alloc) else {
+    let Ok((lake, seat, room)) = lone_lake(alloc) else {
         return (ExitStatus::OutOfMemory, clock, files);
     };
-    let mut blocks = SureBlocks::new(alloc);
+    let blocks = SureBlocks::new(alloc);
     let mut lines = LakeLines {
         rt,
         alloc,
-        lake: &lake,
-        seat: &mut seat,
-        blocks: &mut blocks,
+        lake,
+        seat,
+        blocks,
         clock,
         files,
     };
     let status = serve_lines(alloc, limit, &mut lines, source, sink);
-    let LakeLines { clock, files, .. } = lines;
+    let LakeLines {
+        lake,
+        seat,
+        clock,
+        files,
+        ..
+    } = lines;
+    close_lone_lake(rt, lake, seat, room);
     (status, clock, files)
 }
 

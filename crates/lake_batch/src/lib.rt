@@ -11,4 +11,5 @@ mod batch;
 mod lines;
 
 pub use batch::serve_batch;
+pub use lakectl_session::{serve_command, serve_line};
 pub use lines::LakeLines;

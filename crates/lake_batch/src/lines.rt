@@ -14,34 +14,34 @@ use std::sync::Wait;
 
 /// What commands work on: a lake and a seat at it, a store of objects, a clock, and files.
 #[derive(Drop)]
-pub struct LakeLines<'r, 'l, 's, 'b, W: Wait, K: Keeper, B: Blocks, C: Clock, F: Files> {
+pub struct LakeLines<'r, W: Wait, K: Keeper, B: Blocks, C: Clock, F: Files> {
     pub rt: &'r W,
     pub alloc: Global,
-    pub lake: &'l Shared<K>,
-    pub seat: &'s mut LakeSeat,
-    pub blocks: &'b mut B,
+    pub lake: Shared<K>,
+    pub seat: LakeSeat,
+    pub blocks: B,
     pub clock: C,
     pub files: F,
 }
 
-impl<'r, 'l, 's, 'b, W: Wait, K: Keeper, B: Blocks, C: Clock, F: Files> LineServer
-    for LakeLines<'r, 'l, 's, 'b, W, K, B, C, F> {
+impl<'r, W: Wait, K: Keeper, B: Blocks, C: Clock, F: Files> LineServer
+    for LakeLines<'r, W, K, B, C, F> {
     ghost use Rattle.lakectl_session.specs.ServedCommands.{LineEnds};
     ghost use Rattle.lakectl_session.proofs.LongLines.{told_by_fronts};
 
-    ghost ready = { λ lines. lines.seat.now.turn ≡ lines.lake.now };
+    ghost ready = { λ lines. lines.seat.turn ≡ lines.lake };
 
     ghost serves = { λ line old now reply. LineEnds line
         (record {
           lake = record {
             readings = C.readings old.clock;
             store = record {
-              held = B.held old.blocks.now;
-              faults = B.faults old.blocks.now;
-              misses = B.misses old.blocks.now;
-              missed = B.missed old.blocks.now;
+              held = B.held old.blocks;
+              faults = B.faults old.blocks;
+              misses = B.misses old.blocks;
+              missed = B.missed old.blocks;
             };
-            seat = old.seat.now;
+            seat = old.seat;
           };
           files = F.files old.files;
         })
@@ -49,12 +49,12 @@ impl<'r, 'l, 's, 'b, W: Wait, K: Keeper, B: Blocks, C: Clock, F: Files> LineServ
           lake = record {
             readings = C.readings now.clock;
             store = record {
-              held = B.held now.blocks.now;
-              faults = B.faults now.blocks.now;
-              misses = B.misses now.blocks.now;
-              missed = B.missed now.blocks.now;
+              held = B.held now.blocks;
+              faults = B.faults now.blocks;
+              misses = B.misses now.blocks;
+              missed = B.missed now.blocks;
             };
-            seat = now.seat.now;
+            seat = now.seat;
           };
           files = F.files now.files;
         })
@@ -68,9 +68,9 @@ impl<'r, 'l, 's, 'b, W: Wait, K: Keeper, B: Blocks, C: Clock, F: Files> LineServ
         serve_line(
             self.rt,
             self.alloc,
-            self.lake,
-            self.seat,
-            self.blocks,
+            &self.lake,
+            &mut self.seat,
+            &mut self.blocks,
             &mut self.clock,
             &mut self.files,
             line,

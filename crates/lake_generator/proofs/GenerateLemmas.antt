@@ -1,12 +1,15 @@
 -- What came of the lines of the generator, from what became of them where they were served.
-use Rattle.std.proofs.Common.{◌≡◌, ◌++◌, ◌∷◌, [], ⊎_elim, ℕ, List, Some, None, IfSome, All, Result, Ok, Err, refl, sym, ap, ◌∙◌, subst}
+use Rattle.std.proofs.Common.{◌≡◌, ◌<◌, ◌+◌, ◌^◌, ◌++◌, ◌∷◌, [], ⊎_elim, ℕ, List, length, Some, None, Result, Ok, Err, refl, sym, ap, ◌∙◌, subst}
+use Rattle.std.proofs.Common.{arith, length-append}
 use Rattle.std.specs.Prelude.{MatchResult}
 use Rattle.std.specs.FinMap.{empty}
 use Rattle.lake_base.specs.Clocks.{FixedClockValue, fixed_readings}
+use Rattle.lake_base.specs.Outside.{last_count}
 use Rattle.lake_base.specs.declared.digest.Digest.{Digest}
 use Rattle.lake_base.specs.declared.outside.Trouble.TheVariants.{NoMemory}
 use Rattle.lake_model.specs.History.{IsLegal, replay}
 use Rattle.lake_model.specs.Soundness.{fresh}
+use Rattle.lake_core.specs.Faults.{HasFault}
 use Rattle.shared_lake.specs.SeatSteps.{LakeSeat}
 use Rattle.fresh_lakes.specs.FreshLakes.{IsLoneSeat, usual_cut}
 use Rattle.lake_batch.specs.CommandWords.{GoesThrough}
@@ -21,8 +24,8 @@ use Rattle.batch_lines.proofs.SeenOutcomes.{lines_seen}
 use Rattle.lake_batch.specs.BatchViews.{BatchView}
 use Rattle.lake_batch.specs.Batches.{IsBegun as IsBegunBatch}
 use Rattle.lake_batch.proofs.BatchLemmas.{holds_bodies}
-use Rattle.lake_batch.proofs.MomentLemmas.{still_moments}
-use Rattle.lake_batch.proofs.SeatLemmas.{Grew, pass_lines}
+use Rattle.lake_batch.proofs.MomentLemmas.{at_its_moment}
+use Rattle.lake_batch.proofs.SeatLemmas.{pass_lines}
 use Rattle.program_words.specs.declared.generator.Generator.{Generator}
 use Rattle.lake_generator.specs.Generated.{AreRun, AtLine, Behind, HasRun, IsBegun, IsTold, IsUntold}
 use Rattle.lake_generator.specs.GeneratedLines.{generated_lines}
@@ -32,11 +35,12 @@ use Rattle.lake_generator.specs.RunLines.{HasRunTo, RunsTo}
 use Rattle.lake_generator.specs.Serving.{Goes, HasServed, HasStopped}
 use Rattle.lake_generator.specs.declared.serving.Counts.{Counts}
 use Rattle.lake_generator.proofs.DefaultLemmas.{main_there}
+use Rattle.lake_generator.proofs.LineCountLemmas.{few_generated}
 
 -- ---- a seat that went on
 
 -- a lone seat of the fresh lake that went on in sessions stands at main
-pub stands_on : (old now : LakeSeat) → IsLoneSeat old → GoesThrough old now → StandsAtMain now
+stands_on : (old now : LakeSeat) → IsLoneSeat old → GoesThrough old now → StandsAtMain now
 stands_on old now lone goes =
     let origin = lone.fresh.origin in
     let from = lone.fresh.from in
@@ -65,7 +69,7 @@ line_starves text view = by (line_of text)
 -- What may be answered to a line, and what is seen of what serves it.
 module _ {L : Type 0} (serves : List ℕ → L → L → LineReply → Type 0) (view : L → CommandView)
     (agree : (line : List ℕ) (old now : L) (reply : LineReply) → serves line old now reply → LineEnds line (view old) (view now) reply)
-    (asked : Generator) (first last : L) (begun : IsBegun (view first)) (clock : FixedClockValue)
+    (asked : Generator) (small : asked.objects < 2 ^ 32) (first last : L) (begun : IsBegun (view first)) (clock : FixedClockValue)
     (reads : (view last).lake.readings ≡ fixed_readings clock) (calm : (view last).lake.store.faults ≡ 0) where
   -- the same, as a batch without files begins
   no_files : BatchView
@@ -75,9 +79,9 @@ module _ {L : Type 0} (serves : List ℕ → L → L → LineReply → Type 0) (
   unfolding no_files
   begun_batch = record { seat = begun.seat; store = begun.store; files = begun.files }
 
-  run_of : (lines : List (List ℕ)) (effects : List LineEffect) → AreServed serves lines first effects last
-      → AreRun lines effects
-  run_of lines effects served =
+  run_of : (HasFault (view last).lake.seat.seen → ⊥) → (lines : List (List ℕ)) (effects : List LineEffect) → length lines + 1 < last_count
+      → AreServed serves lines first effects last → AreRun lines effects
+  run_of unnoted lines effects few served =
       let each = lines_seen serves LineEnds view agree lines first last effects served in
       let passes = pass_lines lines (view first) (view last) effects each in
       record {
@@ -85,33 +89,38 @@ module _ {L : Type 0} (serves : List ℕ → L → L → LineReply → Type 0) (
         end = view last;
         fresh = begun;
         each = each;
-        still = subst (λ readings. IfSome readings (λ told. All (λ reading. reading ≡ 0) told)) (sym reads)
-            (still_moments 0 clock (subst (λ now. Grew (Some (0 ∷ [])) now) reads
-            (subst (λ old. Grew old (view last).lake.readings) begun.moment passes.grew)));
+        still = at_its_moment 0 (length lines) clock (view first) (view last) begun.moment reads passes few;
         goes = passes.goes;
         bodies = holds_bodies no_files (view first) (view last) begun_batch passes;
         calm = calm;
+        pairs = unnoted;
       }
 
-  stopped : (status : ExitStatus) → HasStopped serves first (generated_lines asked.number asked.objects) status last → IsUntold asked status
-  stopped status s = AtLine (record {
+  -- the clock can count them
+  few_lines : length (generated_lines asked.number asked.objects) + 1 < last_count
+  few_lines = few_generated asked.number asked.objects small
+
+  stopped : (HasFault (view last).lake.seat.seen → ⊥) → (status : ExitStatus)
+      → HasStopped serves first (generated_lines asked.number asked.objects) status last → IsUntold asked status
+  stopped unnoted status s = AtLine (record {
     served = s.served;
     unserved = s.unserved;
     whole = s.whole;
     effects = s.effects;
     last = s.last;
-    run = run_of s.served (s.effects ++ s.last ∷ []) s.each;
+    run = run_of unnoted s.served (s.effects ++ s.last ∷ [])
+        (omega (arith, few_lines, length-append s.served s.unserved, ap length s.whole)) s.each;
     fine = s.fine;
     failed = s.failed;
   }) s.tells
 
-  ran : (counts : Counts) → HasServed serves first (generated_lines asked.number asked.objects) counts last
-      → HasRunTo asked counts (view last).lake.seat
+  ran : (HasFault (view last).lake.seat.seen → ⊥) → (counts : Counts)
+      → HasServed serves first (generated_lines asked.number asked.objects) counts last → HasRunTo asked counts (view last).lake.seat
   unfolding run_of
-  ran counts s = record {
+  ran unnoted counts s = record {
     lines = record {
       effects = s.effects;
-      run = run_of (generated_lines asked.number asked.objects) s.effects s.each;
+      run = run_of unnoted (generated_lines asked.number asked.objects) s.effects few_lines s.each;
       fine = s.fine;
     };
     at = refl;
@@ -119,16 +128,22 @@ module _ {L : Type 0} (serves : List ℕ → L → L → LineReply → Type 0) (
     heads = s.heads;
   }
 
-  -- how far the lines came
-  pub runs_to : (result : Result Counts ExitStatus) → Goes serves first (generated_lines asked.number asked.objects) result last
-      → RunsTo asked (view last).lake.seat result
-  runs_to (Ok counts) s = ran counts s
-  runs_to (Err status) s = stopped status s
+  -- how far the lines came, where the store of pairs never failed
+  pub runs_to : (HasFault (view last).lake.seat.seen → ⊥) → (result : Result Counts ExitStatus)
+      → Goes serves first (generated_lines asked.number asked.objects) result last → RunsTo asked (view last).lake.seat result
+  runs_to unnoted (Ok counts) s = ran unnoted counts s
+  runs_to unnoted (Err status) s = stopped unnoted status s
 
--- the seat stands at main then
-pub run_stands : (asked : Generator) (counts : Counts) (seat : LakeSeat) → HasRunTo asked counts seat → StandsAtMain seat
-run_stands asked counts seat r =
-    subst StandsAtMain r.at (stands_on r.lines.run.begin.lake.seat r.lines.run.end.lake.seat r.lines.run.fresh.seat r.lines.run.goes)
+  served_on : (lines : List (List ℕ)) (effects : List LineEffect) → AreServed serves lines first effects last → StandsAtMain (view last).lake.seat
+  served_on lines effects served =
+      stands_on (view first).lake.seat (view last).lake.seat begun.seat
+      (pass_lines lines (view first) (view last) effects (lines_seen serves LineEnds view agree lines first last effects served)).goes
+
+  -- the seat stands at main then
+  pub stands_behind : (result : Result Counts ExitStatus) → Goes serves first (generated_lines asked.number asked.objects) result last
+      → StandsAtMain (view last).lake.seat
+  stands_behind (Ok counts) s = served_on (generated_lines asked.number asked.objects) s.effects s.each
+  stands_behind (Err status) s = served_on s.served (s.effects ++ s.last ∷ []) s.each
 
 -- what is told of them
 pub told_so : (asked : Generator) (counts : Counts) (seat : LakeSeat) (paths : ℕ) (id : Digest) (text : List ℕ) → HasRunTo asked counts seat

@@ -8,6 +8,7 @@ use Rattle.lake_format.specs.Cutting.{tree_id}
 use Rattle.lake_model.specs.declared.fault.Reference.TheVariants.{Named}
 use Rattle.lake_model.specs.declared.fault.StepFault.{StepFault}
 use Rattle.lake_model.specs.declared.fault.StepFault.TheVariants as step
+use Rattle.lake_model.specs.declared.history.HistoryEntry.{HistoryEntry}
 use Rattle.lake_model.specs.History.{replay}
 use Rattle.lake_model.specs.Preparing.{PreparedValue, preparation, prepare_reply}
 use Rattle.lake_model.specs.Refusals.{Gives}
@@ -15,20 +16,31 @@ use Rattle.lake_model.specs.Soundness.{fresh}
 use Rattle.lake_model.specs.State.{Branch, Repository, State, head_map}
 use Rattle.lake_model.specs.Versions.{VersionsGiven}
 use Rattle.core_puts.specs.KeeperViews.{KeeperView}
-use Rattle.lake_core.specs.Lakes.{state, versions}
-use Rattle.shared_lake.specs.SeatSteps.{IsRead, LakeSeat, origin_of}
+use Rattle.lake_core.specs.Lakes.{LakeValue, state, versions}
+use Rattle.shared_lake.specs.SeatSteps.{Finds, IsRead, LakeSeat, origin_of}
 use Rattle.flow_steps.specs.FlowSeats.{opened_state}
 use Rattle.fresh_lakes.specs.FreshLakes.{usual_cut}
 use Rattle.lake_generator.specs.MainHead.{HasMain, IsMainMap, StandsAtMain}
 
 -- ---- what a lone seat reads
 
+-- the lake that a lone seat finds has the history that it has seen
+found_seen : {K : Type 0} (view : KeeperView K) (seat : LakeSeat) (found : LakeValue K) → StandsAtMain seat → Finds view seat found
+    → found.history ≡ seat.seen
+found_seen view seat found stands finds =
+    finds.begins ∙ ap (λ (others : List HistoryEntry). seat.seen ++ others) (finds.alone stands.alone) ∙ append-nil seat.seen
+
+-- so a reading leaves it as it is
+pub seat_stays : {K : Type 0} (view : KeeperView K) (old new : LakeSeat) (Answers : LakeValue K → Type 0) → StandsAtMain old
+    → IsRead view old new Answers → new ≡ old
+seat_stays view old new Answers stands read =
+    read.seat ∙ ap (λ (seen : List HistoryEntry). record old { seen = seen; mine = old.mine }) (found_seen view old read.found stands read.finds)
+
 -- an answer of the lake that a lone seat finds is one of what it has seen
 found_at : {K : Type 0} (view : KeeperView K) (old new : LakeSeat) (Answers : State → VersionsGiven → Type 0) → StandsAtMain old
     → IsRead view old new (λ l. Answers (state l) (versions l)) → (given : VersionsGiven) × Answers (replay (fresh usual_cut) old.seen) given
 found_at view old new Answers stands read =
-    let history : read.found.history ≡ old.seen =
-    read.finds.begins ∙ ap (λ others. old.seen ++ others) (read.finds.alone stands.alone) ∙ append-nil old.seen in
+    let history : read.found.history ≡ old.seen = found_seen view old read.found stands read.finds in
     let told : Some (origin_of view read.found) ≡ Some stands.origin = sym read.finds.origin ∙ stands.from in
     let one : origin_of view read.found ≡ stands.origin = cc in
     let opened = ap opened_state one ∙ stands.opened in

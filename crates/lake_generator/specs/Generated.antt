@@ -1,12 +1,13 @@
 -- What came of the generator.
-use Rattle.std.specs.Prelude.{◌≡◌, ℕ, true, false, List, [], ◌∷◌, ◌++◌, All, Option, Some, IfSome}
+use Rattle.std.specs.Prelude.{◌≡◌, ℕ, true, false, List, [], ◌∷◌, ◌++◌, Option, Some}
 use Rattle.std.specs.FinMap.{empty}
 use Rattle.lake_base.specs.Outside.{Rose}
 use Rattle.lake_base.specs.declared.digest.Digest.{Digest}
 use Rattle.lake_model.specs.History.{replay}
 use Rattle.lake_model.specs.Soundness.{fresh}
+use Rattle.lake_core.specs.Faults.{HasFault}
 use Rattle.fresh_lakes.specs.FreshLakes.{IsLoneSeat, usual_cut}
-use Rattle.lake_batch.specs.Batches.{HoldsBodies}
+use Rattle.lake_batch.specs.Batches.{AreAtMoment, HoldsBodies}
 use Rattle.lake_batch.specs.CommandWords.{GoesThrough}
 use Rattle.http_wire.specs.SinkFronts.{Wrote, WroteFront}
 use Rattle.lake_batch.specs.CommandWords.{CommandView, LineEnds}
@@ -31,17 +32,18 @@ pub record IsBegun (begin : CommandView) : Type 0 where
   pub files : begin.files ≡ Some empty
   pub moment : begin.lake.readings ≡ Some (0 ∷ [])
 
--- LINES ARE COMMANDS on a fresh lake in memory: each works on what the one before left, at the moment 0, as far as moments are told; and what
--- they made is one legal history. Its bodies are all held, and the store of objects counted no failure.
+-- LINES ARE COMMANDS on a fresh lake in memory: each works on what the one before left, at the moment 0; and what they made is one legal
+-- history. Its bodies are all held; the store of objects counted no failure, and that of pairs never failed.
 pub record AreRun (lines : List (List ℕ)) (effects : List LineEffect) : Type 0 where
   pub begin : CommandView
   pub end : CommandView
   pub fresh : IsBegun begin
   pub each : AreServed LineEnds lines begin effects end
-  pub still : IfSome end.lake.readings (λ readings. All (λ reading. reading ≡ 0) readings)
+  pub still : AreAtMoment 0 begin end
   pub goes : GoesThrough begin.lake.seat end.lake.seat
   pub bodies : HoldsBodies end
   pub calm : end.lake.store.faults ≡ 0
+  pub pairs : HasFault end.lake.seat.seen → ⊥
 
 -- ALL LINES of the generator were run, and none failed
 pub record HasRun (asked : Generator) : Type 0 where

@@ -16,7 +16,7 @@ use std::alloc::Global;
 use std::sync::Wait;
 
 /// How many paths the head of main has, and by which id its map is known, where the seat is alone at a lake that went
-/// out from the fresh one. It waits.
+/// out from the fresh one. The seat stays as it is. It waits.
 pub(crate) fn main_map<K: Keeper, W: Wait>(
     rt: &W,
     alloc: Global,
@@ -25,7 +25,8 @@ pub(crate) fn main_map<K: Keeper, W: Wait>(
 ) -> Result<(u64, Digest), NoMemory>
     requires own { seat.old.turn ≡ lake.now }
     requires main { StandsAtMain seat.old }
-    ensures { IfOk result (λ told. IsMainMap (replay (fresh usual_cut) seat.old.seen) told.0 told.1) }
+    ensures map { IfOk result (λ told. IsMainMap (replay (fresh usual_cut) seat.old.seen) told.0 told.1) }
+    ensures same { seat.new ≡ seat.old }
 {
     let repo = quickstart(alloc)?;
     let branch = main_branch(alloc)?;

@@ -10,7 +10,7 @@ use Rattle.core_puts.specs.KeeperViews.{KeeperView}
 use Rattle.folder_batch.specs.FolderBatches.{FolderEnds}
 use Rattle.folder_batch.specs.FolderCommands.{FolderCommandEnds}
 use Rattle.folder_server.specs.FolderServers.{FolderServes}
-use Rattle.lake_host.specs.Doors.{HostView}
+use Rattle.folder_server.specs.HostWords.{HostView}
 use Rattle.lakectl_client.specs.Dialing.{DialView}
 use Rattle.lakectl_shown.specs.declared.showing.Shown.{Shown}
 use Rattle.program_words.specs.ProgramWords.{Asked, BatchIn, CommandIn, LocalBatch, LocalCommand, LocalServing, Nothing, ServeIn}

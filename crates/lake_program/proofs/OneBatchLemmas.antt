@@ -6,8 +6,7 @@ use Rattle.batch_lines.specs.ServedLines.{LineEffect, any_starved, text_of}
 use Rattle.batch_lines.specs.Status.{status_of}
 use Rattle.batch_lines.specs.declared.status.ExitStatus.{ExitStatus}
 use Rattle.batch_lines.specs.declared.status.ExitStatus.TheVariants.{OutOfMemory}
-use Rattle.lake_batch.specs.BatchViews.{BatchView}
-use Rattle.batch_laws.specs.LikeRuns.{AreOneRun}
+use Rattle.folder_batch.specs.BatchWords.{BatchView}
 use Rattle.program_words.specs.declared.batch.Timing.{Timing}
 use Rattle.lake_program.specs.OneBatches.{AreOneBatch, IsRunTwice}
 use Rattle.lake_program.specs.Run.{IsBatchRun}
@@ -22,19 +21,19 @@ pub one_batch : (timing other_timing : Timing) (input written : List ℕ) (befor
     → IsRunTwice timing other_timing input written before after other_before other_after status other_status run other
     → AreOneBatch timing other_timing input written before after other_before other_after status other_status run other
 one_batch timing other_timing input written before after other_before other_after status other_status run other is =
-    let one = run.only other_before other.begin other.end other.effects other.each is.files is.taken is.other_taken other.fresh is.told is.other_told
-    is.takes is.other_takes is.agree
+    let one = run.only other_timing other_before other_after other.begin other.end other.effects other.each is.files other.fresh other.timed is.told
+    is.other_told is.clock
     (record {
       memory = not_starved (any_starved run.effects) _ status run.tells is.memory;
       files = run.sound;
       objects = run.calm;
-      pairs = is.pairs;
+      pairs = run.pairs;
     })
     (record {
       memory = not_starved (any_starved other.effects) _ other_status other.tells is.other_memory;
       files = other.sound;
       objects = other.calm;
-      pairs = is.other_pairs;
+      pairs = other.pairs;
     }) is.apart in
     record {
       output = run.text ∙ (ap (λ (effects : List LineEffect). Some (written ++ (text_of effects ++ end_text 1073741824 input []))) one.lines ∙ sym other.text);

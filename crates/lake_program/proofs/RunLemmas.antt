@@ -3,7 +3,7 @@ use Rattle.std.proofs.Common.{◌≡◌, ◌≢◌, ◌<◌, ◌≤◌, ◌++◌
 use Rattle.std.proofs.Common.{subst, arith}
 use Rattle.std.proofs.lemmas.List.{append-nil}
 use Rattle.lake_base.specs.Outside.{Rose, Quiet}
-use Rattle.lake_batch.specs.CommandWords.{LineEnds}
+use Rattle.folder_batch.specs.BatchWords.{LineEnds}
 use Rattle.batch_lines.specs.Lines.{batch_lines}
 use Rattle.batch_lines.specs.Outcome.{IsWhole}
 use Rattle.batch_lines.specs.ServedLines.{AreServed}
@@ -11,12 +11,12 @@ use Rattle.batch_lines.specs.Status.{status_number}
 use Rattle.batch_lines.specs.declared.status.ExitStatus.{ExitStatus}
 use Rattle.batch_lines.specs.declared.status.ExitStatus.TheVariants as exit
 use Rattle.core_puts.specs.KeeperViews.{KeeperView}
-use Rattle.lake_host.specs.Doors.{HostView}
+use Rattle.folder_server.specs.HostWords.{HostView}
 use Rattle.lake_folders.specs.Folders.{FoldersView}
 use Rattle.batch_laws.proofs.OneRunLemmas.{only_run}
-use Rattle.lake_batch.proofs.BatchLemmas.{told_then}
-use Rattle.lake_batch.specs.BatchViews.{BatchView}
-use Rattle.lake_batch.specs.Batches.{IsServedBatch}
+use Rattle.folder_batch.proofs.BatchLemmas.{told_then}
+use Rattle.folder_batch.specs.BatchWords.{BatchView}
+use Rattle.folder_batch.specs.BatchWords.{IsServedBatch}
 use Rattle.program_words.specs.declared.batch.Timing.{Timing}
 use Rattle.program_words.specs.declared.generator.Generator.{Generator}
 use Rattle.program_words.specs.ProgramWords.{Asked, Batch, Control, Generate, Send, Serve, Serving}
@@ -60,7 +60,8 @@ module _ (timing : Timing) (input : List ℕ) (before after : BatchView) (status
         goes = o.goes;
         bodies = o.bodies;
         calm = o.calm;
-        only = only_run (batch_lines 1073741824 input) before o.begin o.outcome.extent.effects o.end served o.fresh;
+        pairs = o.pairs;
+        only = only_run timing (batch_lines 1073741824 input) before after o.begin o.outcome.extent.effects o.end served o.fresh o.timed;
       }) o.outcome.wrote
 
 -- what a run came to in which nothing failed

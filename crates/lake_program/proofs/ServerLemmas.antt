@@ -11,10 +11,10 @@ use Rattle.lake_core.specs.Lakes.{Holds, LakeValue}
 use Rattle.shared_lake.specs.SeatSteps.{LakeSeat, origin_of}
 use Rattle.flow_steps.specs.FlowSeats.{opened_state}
 use Rattle.fresh_lakes.specs.FreshLakes.{AreFreshSeats, sure_view, usual_cut}
-use Rattle.lake_host.specs.Servers.{HasNotBegun, HasServedAll}
-use Rattle.lake_host.specs.Doors.{HostView}
-use Rattle.lake_host.specs.Workers.{StoreView}
-use Rattle.lake_host.specs.declared.server.ServerEnd.{ServerEnd}
+use Rattle.folder_server.specs.HostWords.{HasNotBegun, HasServedAll}
+use Rattle.folder_server.specs.HostWords.{HostView}
+use Rattle.folder_server.specs.HostWords.{StoreView}
+use Rattle.folder_server.specs.HostWords.{ServerEnd}
 use Rattle.batch_lines.specs.declared.status.ExitStatus.{ExitStatus}
 use Rattle.program_words.specs.ProgramWords.{Serving}
 use Rattle.lake_program.specs.Servers.{IsServed, IsUnserved, empty_store, status_of}

@@ -9,9 +9,10 @@ use Rattle.batch_lines.specs.Status.{status_number}
 use Rattle.batch_lines.specs.declared.status.ExitStatus.{ExitStatus}
 use Rattle.batch_lines.specs.declared.status.ExitStatus.TheVariants.{Usage, SourceFailed, SinkFailed, HostFailed, PairsRefused, OutOfMemory}
 use Rattle.core_puts.specs.KeeperViews.{KeeperView}
-use Rattle.lake_batch.specs.BatchViews.{BatchView}
-use Rattle.lake_batch.specs.Batches.{HoldsBodies, IsBegun, IsServedBatch, IsTimed}
-use Rattle.lake_batch.specs.CommandWords.{CommandView, GoesThrough, LineEnds}
+use Rattle.lake_core.specs.Faults.{HasFault}
+use Rattle.folder_batch.specs.BatchWords.{BatchView}
+use Rattle.folder_batch.specs.BatchWords.{HoldsBodies, IsBegun, IsServedBatch, IsTimed}
+use Rattle.folder_batch.specs.BatchWords.{CommandView, GoesThrough, LineEnds}
 use Rattle.batch_laws.specs.LikeRuns.{IsOnlyRun}
 use Rattle.lake_generator.specs.Generated.{Generates, SinkView}
 use Rattle.program_words.specs.declared.batch.Timing.{Timing}
@@ -54,12 +55,14 @@ pub record IsBatchRun (timing : Timing) (input written : List ℕ) (before after
   pub read : IsReadOut 1073741824 65536 input after.left
   -- 7 where memory ran out at a line, else 0 where each was done and the batch isn't too long, else 1
   pub tells : status ≡ batch_status 1073741824 input effects
-  -- what the commands made is one legal history of the fresh lake, whose bodies are all held; the store never failed
+  -- what the commands made is one legal history of the fresh lake, whose bodies are all held; the store of objects never
+  -- failed, and neither did the store of pairs
   pub goes : GoesThrough begin.lake.seat end.lake.seat
   pub bodies : HoldsBodies end
   pub calm : end.lake.store.faults ≡ 0
+  pub pairs : HasFault end.lake.seat.seen → ⊥
   -- and any other run of these lines in which nothing failed either comes to the same
-  pub only : IsOnlyRun (batch_lines 1073741824 input) before begin effects end each
+  pub only : IsOnlyRun timing (batch_lines 1073741824 input) before begin effects end each
 
 -- memory ran out before the first line: nothing was tried, so that no count of faults rose either
 pub record IsUnbegun (before after : RunView) (status : ExitStatus) : Type 0 where

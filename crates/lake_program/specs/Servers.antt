@@ -8,11 +8,11 @@ use Rattle.lake_model.specs.Soundness.{fresh}
 use Rattle.lake_core.specs.Lakes.{Holds, LakeValue}
 use Rattle.shared_lake.specs.SeatSteps.{LakeSeat}
 use Rattle.fresh_lakes.specs.FreshLakes.{AreFreshSeats, sure_view, usual_cut}
-use Rattle.lake_host.specs.Doors.{HostView}
-use Rattle.lake_host.specs.Servers.{HasServedAll}
-use Rattle.lake_host.specs.Workers.{StoreView}
-use Rattle.lake_host.specs.declared.server.ServerEnd.{ServerEnd}
-use Rattle.lake_host.specs.declared.server.ServerEnd.TheVariants as end
+use Rattle.folder_server.specs.HostWords.{HostView}
+use Rattle.folder_server.specs.HostWords.{HasServedAll}
+use Rattle.folder_server.specs.HostWords.{StoreView}
+use Rattle.folder_server.specs.HostWords.{ServerEnd}
+use Rattle.folder_server.specs.ServerEnds as end
 use Rattle.batch_lines.specs.declared.status.ExitStatus.{ExitStatus}
 use Rattle.batch_lines.specs.declared.status.ExitStatus.TheVariants.{Done, HostFailed, OutOfMemory}
 use Rattle.program_words.specs.ProgramWords.{Serving}

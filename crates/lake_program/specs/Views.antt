@@ -1,7 +1,7 @@
 -- What a run works on, as far as that tells what it holds.
 use Rattle.std.specs.Prelude.{ℕ, List, Option}
-use Rattle.lake_batch.specs.BatchViews.{BatchView}
-use Rattle.lake_host.specs.Doors.{HostView}
+use Rattle.folder_batch.specs.BatchWords.{BatchView}
+use Rattle.folder_server.specs.HostWords.{HostView}
 use Rattle.lakectl_client.specs.Dialing.{DialView}
 use Rattle.lake_folders.specs.Folders.{FoldersView}
 

@@ -1,13 +1,13 @@
 //! What two runs of one batch have in common.
 ghost use Rattle.std.specs.Prelude.{List, ℕ};
 ghost use Rattle.batch_lines.specs.declared.status.ExitStatus.{ExitStatus as AnyStatus};
-ghost use Rattle.lake_batch.specs.BatchViews.{BatchView};
+ghost use Rattle.folder_batch.specs.BatchWords.{BatchView};
 ghost use Rattle.program_words.specs.declared.batch.Timing.{Timing};
 ghost use Rattle.lake_program.specs.OneBatches.{AreOneBatch, IsRunTwice};
 ghost use Rattle.lake_program.specs.Run.{IsBatchRun};
 
-/// The output of a batch is one function of its lines, of the files and of the clock's readings: two runs of one input
-/// in which nothing failed have the same output and status, the same files and lakes of the same history.
+/// The output of a batch is one function of its lines, of the files and of its moment or the clock's readings: two runs
+/// of one input in which nothing failed have the same output and status, the same files and lakes of the same history.
 pub fn law_of_one_batch()
     ensures { (timing other_timing : Timing) (input written : List ℕ)
         (before after other_before other_after : BatchView) (status other_status : AnyStatus)

@@ -1,14 +1,14 @@
 //! A server on a fresh lake in memory.
 ghost use Rattle.std.specs.FinMap.{empty};
 ghost use Rattle.std.specs.Prelude.{◌≡◌, ◌<◌, ◌≤◌, ◌⊎◌, replicate, IfOk};
-ghost use Rattle.lake_host.specs.Doors.{HostView};
+ghost use Rattle.folder_server.specs.HostWords.{HostView};
 ghost use Rattle.lake_program.specs.Servers.{IsServed, IsUnserved, status_of};
 
 use batch_lines::ExitStatus;
 use block_store::SureBlocks;
+use folder_server::{Host, ServerEnd, serve_listeners};
 use fresh_lakes::fresh_lake;
 use lake_base::{NoMemory, Text};
-use lake_host::{Host, ServerEnd, serve_listeners};
 use program_words::Service;
 use std::alloc::Global;
 use std::sync::Wait;

@@ -29,4 +29,4 @@ returns-in-At-clause-outcome g c =
     (λ some. inr (told_then (g.S.Source.left c.args.source.now) _ _ (λ input told served.
     subst (λ (timing : Timing). IsServedBatch timing c.args.limit 65536 before after input c.serve_by_clock-status.result.0) (sym c.in-At.is)
     (at_moment c.in-At.moment c.args.limit 65536 before after input c.serve_by_clock-status.result.0 c.now.new.self
-    c.serve_by_clock-status.result.1 begins served refl)) some)) c.serve_by_clock-status.ensures.outcome
+    c.serve_by_clock-status.result.1 begins c.requires served refl)) some)) c.serve_by_clock-status.ensures.outcome

@@ -27,8 +27,8 @@ returns-clause-outcome g c =
     (λ lines. record {
       lake = record {
         readings = g.C.Clock.readings lines.clock;
-        store = record { held = Some lines.blocks.now.held; faults = 0; misses = lines.blocks.now.misses; missed = lines.blocks.now.missed };
-        seat = lines.seat.now;
+        store = record { held = Some lines.blocks.held; faults = 0; misses = lines.blocks.misses; missed = lines.blocks.missed };
+        seat = lines.seat;
       };
       files = g.F.Files.files lines.files;
     })
@@ -38,5 +38,5 @@ returns-clause-outcome g c =
       store = λ i. record { held = Some (c.new-blocks.ensures i).held; faults = 0; misses = (c.new-blocks.ensures i).misses; missed = (c.new-blocks.ensures i).missed };
       files = refl;
     })
-    refl (refl, refl) refl) some))
+    refl (refl, refl) refl c.close_lone_lake.ensures.none) some))
     c.serve_lines-status.ensures.outcome

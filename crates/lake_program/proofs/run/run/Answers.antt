@@ -1,5 +1,5 @@
 use Rattle.std.proofs.Common.{inl, inr, ⊎_elim, refl, sym, ◌∙◌}
-use Rattle.lake_host.specs.Doors.{HostView}
+use Rattle.folder_server.specs.HostWords.{HostView}
 use Rattle.core_puts.specs.KeeperViews.{KeeperView}
 use Rattle.lakectl_client.specs.Dialing.{DialView}
 use Rattle.lake_program.specs.Views.{RunView}
