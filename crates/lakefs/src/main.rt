@@ -4,12 +4,12 @@
 #![tactic(auto)]
 
 use batch_lines::ExitStatus;
+use disk_folders::DiskFolders;
 use lake_base::{NoMemory, Text};
 use lake_machine::{StdFiles, StdSink, StdSource, SystemClock};
 use lake_program::run::run;
 use lake_program::status::number_of;
 use lake_sockets::{SocketHost, SocketNetwork};
-use no_folders::NoFolders;
 use std::env;
 use std::io::ErrorKind;
 use std::process::ExitCode;
@@ -39,7 +39,7 @@ fn main(rt: HostRuntime) -> ExitCode {
     let mut errors = StdSink::new(rt.stderr());
     let mut host = SocketHost::new(&rt, alloc);
     let mut network = SocketNetwork::new(&rt);
-    let mut folders = NoFolders::new();
+    let mut folders = DiskFolders::new(&rt, alloc);
     let (status, _, _) = run(
         &rt,
         alloc,
