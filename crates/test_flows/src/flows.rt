@@ -1,4 +1,4 @@
-//! Tables of what is asked of a seat, while a second seat seals or commits the branch.
+//! Tables of what is asked of a seat, while a second seat seals or commits the branch, or moves what is merged into it.
 ghost use Rattle.std.specs.Prelude.{◌≡◌, IfOk};
 
 use crate::desk::Desk;
@@ -6,7 +6,7 @@ use crate::sealer::{Beside, Sealer};
 use block_store::{BlockFail, MemoryBlocks};
 use fresh_lakes::fresh_lake;
 use keeper::SureKeeper;
-use lake_base::{RefName, RepoName};
+use lake_base::{Path, RefName, RepoName};
 use shared_lake::{LakeSeat, Shared};
 use std::alloc::Global;
 use std::sync::Wait;
@@ -71,6 +71,8 @@ fn answers_of<W: Wait>(
     blocks: MemoryBlocks,
     repo: &RepoName,
     branch: &RefName,
+    source: &RefName,
+    path: &Path,
     rows: &str,
 ) -> Result<String, Fail>
     requires { (seat.turn ≡ lake.now) × (other.turn ≡ lake.now) }
@@ -82,6 +84,8 @@ fn answers_of<W: Wait>(
         seat: other,
         repo,
         branch,
+        source,
+        path,
         beside: Beside::Seal,
         left: 0,
     };
@@ -102,9 +106,13 @@ fn answers_of<W: Wait>(
 fn answers<W: Wait>(rt: &W, alloc: Global, rows: &str) -> Result<String, Fail> {
     let repo = RepoName::read(alloc, b"quickstart")?;
     let main = RefName::read(alloc, b"main")?;
+    let dev = RefName::read(alloc, b"dev")?;
+    let path = Path::read(alloc, b"a")?;
     let blocks = blocks(alloc)?;
     let (lake, seat, one) = open(alloc)?;
-    answers_of(rt, alloc, &lake, seat, one, blocks, &repo, &main, rows)
+    answers_of(
+        rt, alloc, &lake, seat, one, blocks, &repo, &main, &dev, &path, rows,
+    )
 }
 
 // Objects put, linked, copied and deleted, and changes dropped.
@@ -156,6 +164,18 @@ copy a | seal 0 | Some(5) at 54 of 54\n\
 commit main | seal 0 | HookDenied at 55 of 55\n\
 ";
 
+// Merges of a branch that moves at the pause, beside a seal: what is merged is what the call found at first.
+const MOVES: &str = "\
+branch dev | seal 0 | at 1\n\
+put dev | seal 0 | Some(5) at 3 of 3\n\
+commit dev | seal 0 | 1 over 1 at 5 of 5\n\
+merge dev | move 1 | 1 over 2 at 11 of 11\n\
+copy a | seal 0 | Some(5) at 12 of 12\n\
+commit main | seal 0 | 1 over 1 at 14 of 14\n\
+merge dev | seal 0 | 1 over 2 at 16 of 16\n\
+copy a | seal 0 | NoPath at 16 of 16\n\
+";
+
 #[test]
 fn objects_are_put_beside_a_seat_that_seals(rt: HostRuntime) -> Result<(), Fail> {
     let again = answers(&rt, rt.alloc(), OBJECTS)?;
@@ -167,5 +187,12 @@ fn objects_are_put_beside_a_seat_that_seals(rt: HostRuntime) -> Result<(), Fail>
 fn heads_are_made_beside_a_seat_that_seals_or_commits(rt: HostRuntime) -> Result<(), Fail> {
     let again = answers(&rt, rt.alloc(), HEADS)?;
     assert_eq!(rt; again.as_str(), HEADS);
+    Ok(())
+}
+
+#[test]
+fn a_merge_takes_the_source_that_it_found_first(rt: HostRuntime) -> Result<(), Fail> {
+    let again = answers(&rt, rt.alloc(), MOVES)?;
+    assert_eq!(rt; again.as_str(), MOVES);
     Ok(())
 }

@@ -1,6 +1,6 @@
 //! Tests of calls of several steps over a lake that seats share: what no clause says.
 //!
-//! - `sealer`: a pause in which a second seat seals or commits a branch.
+//! - `sealer`: a pause in which a second seat seals or commits a branch, or moves another one.
 //! - `desk`: a seat with what its calls need, and a call answered in words; `head_desk`: its calls of new heads.
 //! - `flows`: tables of what is asked beside the sealer, with what is answered: of objects and of heads.
 #![tactic(auto)]

@@ -1,10 +1,10 @@
-//! A pause in which a second seat seals or commits a branch.
+//! A pause in which a second seat seals or commits a branch, or moves another one that is merged into it.
 ghost use Rattle.std.specs.Prelude.{◌≡◌, IfSome};
 
 use block_store::SureBlocks;
 use commit_flow::commit;
 use keeper::SureKeeper;
-use lake_base::{RefName, RepoName, Text};
+use lake_base::{Path, RefName, RepoName, Text};
 use lake_model::SealFor;
 use lake_values::{About, Pairs};
 use shared_lake::{Client, LakeSeat, NoPause, Pause, Shared};
@@ -12,15 +12,18 @@ use std::alloc::Global;
 use std::marker::Model;
 use std::sync::Wait;
 use std::test::Fail;
+use write_flow::delete_object;
 
 /// What the second seat does at a pause.
 #[derive(Clone, Copy, PartialEq, Eq)]
 pub(crate) enum Beside {
     Seal,
     Commit,
+    Move,
 }
 
-/// A second seat at a lake, which seals or commits a branch at each of so many pauses. Contracts see how many are left.
+/// A second seat at a lake, which seals or commits a branch at each of so many pauses, or moves its source and seals it.
+/// Contracts see how many are left.
 #[derive(Drop)]
 pub(crate) struct Sealer<'a, W> {
     pub(crate) rt: &'a W,
@@ -29,6 +32,8 @@ pub(crate) struct Sealer<'a, W> {
     pub(crate) seat: LakeSeat,
     pub(crate) repo: &'a RepoName,
     pub(crate) branch: &'a RefName,
+    pub(crate) source: &'a RefName,
+    pub(crate) path: &'a Path,
     pub(crate) beside: Beside,
     pub(crate) left: u64,
 }
@@ -61,11 +66,12 @@ fn said(alloc: Global) -> Option<About>
 }
 
 impl<'a, W: Wait> Sealer<'a, W> {
-    /// Tells it to `seal` or to `commit` at so many of the pauses to come.
+    /// Tells it to `seal`, to `commit` or to `move` at so many of the pauses to come.
     pub(crate) fn is_told(&mut self, beside: &str) -> Result<(), Fail> {
         let (verb, times) = beside.split_once(' ').unwrap_or((beside, ""));
         self.beside = match verb {
             "commit" => Beside::Commit,
+            "move" => Beside::Move,
             _ => Beside::Seal,
         };
         self.left = times.parse::<u64>()?;
@@ -84,8 +90,31 @@ impl<'a, W: Wait> Sealer<'a, W> {
         );
     }
 
-    // The second seat commits the branch.
-    fn commit(&mut self) {
+    // The second seat deletes a path of the source, and commits that.
+    fn move_source(&mut self) {
+        let mut blocks = SureBlocks::new(self.alloc);
+        let mut pause = NoPause;
+        let mut client = Client {
+            blocks: &mut blocks,
+            pause: &mut pause,
+            now: 9,
+            call: 1,
+        };
+        let _ = delete_object(
+            self.rt,
+            self.alloc,
+            self.lake,
+            &mut self.seat,
+            &mut client,
+            self.repo,
+            self.source,
+            self.path,
+        );
+        self.commit(self.source);
+    }
+
+    // The second seat commits a branch.
+    fn commit(&mut self, branch: &RefName) {
         if let Some(about) = said(self.alloc) {
             let mut blocks = SureBlocks::new(self.alloc);
             let mut pause = NoPause;
@@ -102,7 +131,7 @@ impl<'a, W: Wait> Sealer<'a, W> {
                 &mut self.seat,
                 &mut client,
                 self.repo,
-                self.branch,
+                branch,
                 about,
             );
         }
@@ -119,7 +148,11 @@ impl<'a, W: Wait> Pause for Sealer<'a, W> {
             self.left -= 1;
             match self.beside {
                 Beside::Seal => self.seal(),
-                Beside::Commit => self.commit(),
+                Beside::Commit => self.commit(self.branch),
+                Beside::Move => {
+                    self.move_source();
+                    self.seal();
+                }
             }
         }
     }

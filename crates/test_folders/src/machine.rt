@@ -3,9 +3,9 @@ ghost use Rattle.std.specs.Prelude.{◌≡◌, IfOk};
 
 use block_store::MemoryBlocks;
 use keeper::{Keeper, KeeperFail, MemoryKeeper};
-use lake_base::{MemorySink, MemorySource, ScriptClock, Text};
-use lake_program::run::run;
-use memory_machine::{MemoryFiles, MemoryFolders, MemoryHost, MemoryNetwork};
+use lake_base::Text;
+use machine_runs::SURE;
+use memory_machine::{MemoryFolders, MemoryHost};
 use std::alloc::Global;
 use std::sync::Wait;
 use std::test::Fail;
@@ -19,15 +19,6 @@ pub(crate) struct Came {
     pub errors: Vec<u8>,
     pub keepers: Vec<MemoryKeeper>,
     pub stores: usize,
-}
-
-// The words as texts.
-fn texts_of(alloc: Global, words: &[&str]) -> Result<Vec<Text>, Fail> {
-    let mut texts = Vec::new(alloc);
-    for word in words {
-        texts.push(Text::of(String::from_str(alloc, word)?))?;
-    }
-    Ok(texts)
 }
 
 // Folders of which that named `folder` is there, with a keeper and a store of objects.
@@ -53,31 +44,21 @@ pub(crate) fn run_in<R: Threads + Wait + Sync>(
 ) -> Result<Came, Fail>
     requires { keeper.faults ≡ 0 }
 {
-    let texts = texts_of(alloc, words)?;
-    let bytes = Vec::from_slice(alloc, input.as_bytes())?;
-    let mut source = MemorySource::new(bytes, 64, Vec::new(alloc));
-    let mut sink = MemorySink::new(alloc, 64, Vec::new(alloc));
-    let mut errors = MemorySink::new(alloc, 64, Vec::new(alloc));
-    let mut network = MemoryNetwork::new(alloc, Vec::new(alloc))?;
     let mut folders = folders_of(alloc, keeper)?;
-    let (status, _, _) = run(
+    let came = machine_runs::run_in(
         rt,
         alloc,
-        texts.as_slice(),
-        &mut source,
-        &mut sink,
-        &mut errors,
-        ScriptClock::new(Vec::new(alloc)),
-        MemoryFiles::new(alloc, Vec::new(alloc)),
+        words,
+        input.as_bytes(),
+        &SURE,
         host,
-        &mut network,
         &mut folders,
-    );
+    )?;
     let (keepers, stores) = folders.into_back();
     Ok(Came {
-        status,
-        out: Vec::from_slice(alloc, sink.written())?,
-        errors: Vec::from_slice(alloc, errors.written())?,
+        status: came.status,
+        out: came.out,
+        errors: came.errors,
         keepers: keepers.ok_or("no keepers are told")?,
         stores: stores.ok_or("no stores are told")?.len(),
     })

@@ -1,6 +1,6 @@
 //! Batches in memory: what lines print, and their status.
 
-use crate::streams::{check_came, run_batch};
+use crate::demo::{check_came, run_batch};
 use std::test::Fail;
 
 // What some input prints, and the status.

@@ -1,6 +1,7 @@
 //! Commands that change heads, and the first cause of those that are refused.
 
-use crate::streams::{SURE, check_came, run_over};
+use crate::demo::check_came;
+use machine_runs::{SURE, run_over};
 use std::test::Fail;
 
 static AT: [&str; 3] = ["batch", "--at", "1700000000"];

@@ -1,6 +1,7 @@
 //! The demonstration over streams of any pieces, and over streams that fail.
 
-use crate::streams::{DEMO, DEMO_PRINTS, SURE, Streams, run_over};
+use crate::demo::{DEMO, DEMO_PRINTS};
+use machine_runs::{SURE, Streams, run_over};
 use std::test::Fail;
 
 // The size of the pieces, the read and the write that fail, the status, and how much of what the demonstration prints

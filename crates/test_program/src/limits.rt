@@ -1,11 +1,11 @@
 //! How long a line, a text that is held back and a batch may be.
 ghost use Rattle.std.specs.Prelude.{◌<◌};
 
-use crate::streams::{DEMO, DEMO_PRINTS, SURE, Streams, run_batch, sink_of, source_of};
+use crate::demo::{DEMO, DEMO_PRINTS, run_batch};
 use batch_lines::output::PendingOutput;
 use lake_base::FixedClock;
 use lake_batch::serve_batch;
-use lake_program::status::number_of;
+use machine_runs::{SURE, Streams, number_of, sink_of, source_of};
 use memory_machine::MemoryFiles;
 use program_words::Timing;
 use std::alloc::Global;

@@ -1,6 +1,7 @@
 //! The words that the program is started with.
 
-use crate::streams::{DEMO, DEMO_PRINTS, SURE, Streams, check_came, run_over};
+use crate::demo::{DEMO, DEMO_PRINTS, check_came};
+use machine_runs::{SURE, Streams, run_over};
 use std::test::Fail;
 
 static OTHER_WORDS: [&[&str]; 27] = [

@@ -6,7 +6,7 @@ use commit_graph::RefExpr;
 use fresh_lakes::fresh_lake;
 use keeper::SureKeeper;
 use lake_base::{Path, RefName, RepoName, Text};
-use lake_model::StepFault;
+use lake_model::{SealFor, StepFault};
 use lake_values::{Change, Entry, Pairs, Place};
 use shared_lake::{LakeSeat, Shared};
 use std::alloc::Global;
@@ -97,5 +97,51 @@ fn a_seat_sees_what_another_staged(rt: HostRuntime) -> Result<(), Fail> {
     let staged = stage(&rt, alloc, &shared, &mut one, 1, None)?;
     assert!(rt; staged.ok() == Some(2) && one.seen() == 2 && zero.seen() == 1);
     assert!(rt; look(&rt, alloc, &shared, &mut zero)? == (2, None) && zero.seen() == 2);
+    Ok(())
+}
+
+// The versions that a seat reads of `main`, or those that it has sealed with.
+fn versions<W: Wait>(
+    rt: &W,
+    alloc: Global,
+    shared: &Shared<SureKeeper>,
+    seat: &mut LakeSeat,
+    seals: bool,
+) -> Result<(u64, u64, u64), Fail>
+    requires { seat.old.turn ≡ shared.now }
+    ensures { seat.new.turn ≡ seat.old.turn }
+{
+    let repo = RepoName::read(alloc, b"quickstart")?;
+    let branch = RefName::read(alloc, b"main")?;
+    let given = if seals {
+        shared.seal(rt, seat, 1, &repo, &branch, SealFor::Other)
+    } else {
+        shared.versions(rt, seat, &repo, &branch)
+    };
+    let given = given.ok().ok_or("versions")?;
+    Ok((given.at, given.version, given.settings))
+}
+
+// What a refused stage tells of the versions then.
+fn changed(staged: Result<u64, StepFault>) -> Option<(u64, u64)> {
+    match staged {
+        Err(StepFault::Changed { version, settings }) => Some((version, settings)),
+        _ => None,
+    }
+}
+
+#[test]
+fn a_stage_is_refused_behind_a_seal_of_another(rt: HostRuntime) -> Result<(), Fail> {
+    let alloc = rt.alloc();
+    let (shared, mut zero, mut one) = open(alloc)?;
+    assert!(rt; versions(&rt, alloc, &shared, &mut zero, false)? == (0, 1, 0));
+    assert!(rt; versions(&rt, alloc, &shared, &mut one, true)? == (1, 2, 0));
+    let refused = stage(&rt, alloc, &shared, &mut zero, 1, Some(5))?;
+    assert!(rt; changed(refused) == Some((2, 0)) && zero.seen() == 1);
+    assert!(rt; look(&rt, alloc, &shared, &mut zero)? == (1, None));
+    assert!(rt; versions(&rt, alloc, &shared, &mut zero, false)? == (1, 2, 0));
+    let staged = stage(&rt, alloc, &shared, &mut zero, 2, Some(5))?;
+    assert!(rt; staged.ok() == Some(2) && zero.seen() == 2);
+    assert!(rt; look(&rt, alloc, &shared, &mut zero)? == (2, Some(5)));
     Ok(())
 }

@@ -75,7 +75,7 @@ Wire(Chunked) behind 5, seen 0 to 2";
 
 // What is written of these requests, each read in pieces of so many bytes, and how the session ended.
 fn served<W: Wait>(wait: &W, alloc: Global, requests: &str, piece: usize) -> Result<String, Fail> {
-    let Ok((lake, mut seat)) = lone_lake(alloc) else {
+    let Ok((lake, mut seat, _)) = lone_lake(alloc) else {
         return Err("no lake")?;
     };
     let bytes = Vec::from_slice(alloc, requests.as_bytes())?;

@@ -1,9 +1,8 @@
 //! Commands that go to a server, over a network in memory: what is printed of what comes back.
 
-use crate::streams::{Came, SURE, Streams, check_came, run_among};
+use machine_runs::{Came, SURE, Streams, run_among};
 use memory_machine::{MemoryConnection, MemoryHost, MemoryNetwork};
 use std::alloc::Global;
-use std::process::Abort;
 use std::sync::Wait;
 use std::test::Fail;
 use std::thread::Threads;
@@ -160,7 +159,7 @@ fn run_case<R: Threads + Wait + Sync>(
 fn a_command_goes_to_a_server(rt: HostRuntime) -> Result<(), Fail> {
     for case in &CASES {
         let (came, hung_up) = run_case(&rt, rt.alloc(), case, &SURE)?;
-        check_came(&rt, &came, case.status, case.out, case.errors);
+        assert_eq!(&rt; came.whole(), (case.status, case.out, case.errors));
         assert_eq!(&rt; hung_up, case.hung_up);
     }
     Ok(())
@@ -177,7 +176,7 @@ fn a_failed_sink_is_told(rt: HostRuntime) -> Result<(), Fail> {
     for number in [0, 2] {
         let case = CASES.get(number).ok_or("no case")?;
         let (came, _) = run_case(&rt, rt.alloc(), case, &FIRST_WRITE)?;
-        check_came(&rt, &came, 4, b"", b"");
+        assert_eq!(&rt; came.whole(), (4, b"".as_slice(), b"".as_slice()));
     }
     Ok(())
 }

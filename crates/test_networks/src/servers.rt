@@ -1,5 +1,5 @@
 //! A server over a host in memory.
-use crate::streams::{SURE, run_with};
+use machine_runs::{SURE, run_with};
 use memory_machine::MemoryHost;
 use std::alloc::Global;
 use std::process::Abort;
