@@ -157,7 +157,7 @@ fn main(rt: HostRuntime) -> io::Result<()> {
     let length: u64 = length.as_str().parse().map_err(bad)?;
     let times: u64 = times.as_str().parse().map_err(bad)?;
     let rounds: u64 = rounds.as_str().parse().map_err(bad)?;
-    let (lake, seat) = lone_lake(rt.alloc()).map_err(bad)?;
+    let (lake, seat, _) = lone_lake(rt.alloc()).map_err(bad)?;
     let mut desk = Desk {
         lake: &lake,
         seat,
