@@ -54,9 +54,10 @@ def free_port():
 
 
 def named(text):
-    """The text with ids, digests and seconds as their places of first appearance."""
+    """The text with ids and digests as their places of first appearance, and each second as one word."""
     seen = {}
-    return re.sub(rb'\b([0-9a-f]{64}|1[0-9]{9})\b', lambda found: b'#%d' % seen.setdefault(found[0], len(seen)), text)
+    text = re.sub(rb'\b1[0-9]{9}\b', b'#second', text)
+    return re.sub(rb'\b[0-9a-f]{64}\b', lambda found: b'#%d' % seen.setdefault(found[0], len(seen)), text)
 
 
 def controlled(program, at, words, room):
@@ -107,7 +108,7 @@ def strangers(program, room):
             found = controlled(program, f'127.0.0.1:{door.getsockname()[1]}', ask, room)
             peer.join()
         same(name, found, (status, b'', b'Error: no [403]\n' if status == 1 else b''))
-    for words in ([], ['--server'], ['--server', ''], ['--at', 'x', '--server', 'a:1', 'fs'], ['--local', 'x', 'fs']):
+    for words in ([], ['--server'], ['--server', ''], ['--at', 'x', '--server', 'a:1', 'fs'], ['--local'], ['--at', 'x', '--local', 'y', 'fs']):
         ran = subprocess.run([program, 'ctl', *words], capture_output=True, timeout=WAIT)
         same(f'words {words}', (ran.returncode, ran.stdout, ran.stderr), (2, b'', b'Error: usage\n'))
     same('no command', controlled(program, 'nowhere.invalid:80', [], room), (2, b'', b'Error: no command\n'))
