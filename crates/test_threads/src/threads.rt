@@ -144,7 +144,7 @@ fn each_object_is_put_under_a_number_of_its_own(rt: HostRuntime) -> Result<(), F
 #[test]
 fn each_commit_is_in_the_log_and_no_object_is_lost(rt: HostRuntime) -> Result<(), Fail> {
     let alloc = rt.alloc();
-    let (lake, host) = served(&rt, alloc, asked(alloc, 100, true)?)?;
+    let (lake, host) = served(&rt, alloc, asked(alloc, 200, true)?)?;
     let objects = count_of(&host, "\"path_type\":\"object\"");
     assert_eq!(rt; numbers_of(alloc, &lake)?.len(), objects);
     let commits = count_of(&host, "\"generation\":");
