@@ -110,7 +110,8 @@ impl<'a, W: Wait> Sealer<'a, W> {
             self.source,
             self.path,
         );
-        self.commit(self.source);
+        let source = self.source;
+        self.commit(source);
     }
 
     // The second seat commits a branch.
@@ -148,7 +149,10 @@ impl<'a, W: Wait> Pause for Sealer<'a, W> {
             self.left -= 1;
             match self.beside {
                 Beside::Seal => self.seal(),
-                Beside::Commit => self.commit(self.branch),
+                Beside::Commit => {
+                    let branch = self.branch;
+                    self.commit(branch);
+                }
                 Beside::Move => {
                     self.move_source();
                     self.seal();
