@@ -4,7 +4,7 @@
 BATCHES is a folder of batches as checks/batches.py takes it; without one the batch below alone is cut. KILLS, 1 to 200, is
 how often the server is killed, by default 20. A CASE is a name of a function without `case_`; by default all run. The
 cases: a batch in two runs beside one run in memory, and its lines as commands; a server that is killed under load, and what
-its next run has; folders that are held, forbidden or damaged; what sqlite3 reads. What is due is what docs/USING.md says.
+its next run has; folders that are held, forbidden, full or damaged; what sqlite3 reads. What is due is what docs/USING.md says.
 It prints what differs, and last `N checked, M differ`; its status is 1 where something differs.
 """
 import concurrent.futures
@@ -15,7 +15,9 @@ import json
 import os
 import pathlib
 import random
+import resource
 import shutil
+import signal
 import socket
 import sqlite3
 import subprocess
@@ -300,6 +302,34 @@ def case_forbidden(program):
             for words in (('batch', '--local'), ('run', '--listen', '127.0.0.1:0', '--folder')):
                 found = ran(str(copy), *words, str(name), lines=LINES, at=at, **other)
                 same(f'{words[0]} on {name.relative_to(at)}', found, (5, b'', b''))
+
+
+def limited(most):
+    """Makes each write that takes a file beyond so many bytes fail, as on a disk without room."""
+    signal.signal(signal.SIGXFSZ, signal.SIG_IGN)
+    resource.setrlimit(resource.RLIMIT_FSIZE, (most, most))
+
+
+def case_full(program):
+    names = [f'f{number}' for number in range(30)]
+    texts = {name: name * 600 for name in names}
+    lines = [f'fs upload lakefs://quickstart/main/{name} --text {texts[name]}' for name in names]
+    for most in (1_000, 40_000, 120_000):
+        with room() as at:
+            folder, _ = made(program, at)
+            text = '\n'.join(lines).encode()
+            words = 'batch', '--at', AT, '--local', str(folder)
+            status, out, _ = ran(program, *words, lines=text, at=at, preexec_fn=lambda: limited(most))
+            same(f'status with files of {most} bytes', status in (1, 5), True)
+            answered = [name for name in names if f'Path: {name}\n' in out.decode()]
+            same(f'a full disk is met with files of {most} bytes', len(answered) < len(names), True)
+            for name in names:
+                found = command(program, str(folder), 'fs', 'cat', f'lakefs://quickstart/main/{name}')
+                if name in answered:
+                    same(f'{name} behind files of {most} bytes', found, (0, texts[name].encode(), b''))
+                else:
+                    same(f'{name} is whole or not there', found in ((0, texts[name].encode(), b''), (1, b'', f'Error: path not found: {name} [404]\n'.encode())), True)
+            same(f'a batch behind files of {most} bytes', batch(program, text, at, str(folder))[0], 0)
 
 
 def opens(program, folder):
