@@ -6,3 +6,6 @@ returns-clause-follow g c view lake holds none = kept_at_rest _ _ _ _ (view.kept
 
 pub returns-clause-tried : goal.returns-clause-tried
 returns-clause-tried g c view lake holds = kept_or_tried _ _ _ _ (view.kept lake.keeper) holds.pairs
+
+pub returns-clause-all : goal.returns-clause-all
+returns-clause-all g c view lake holds = holds.pairs
