@@ -1,7 +1,7 @@
 -- What a flow of a new head promises of its answer.
 use Rattle.std.specs.Prelude.{◌≡◌, ℕ, List, [], Option, Result, Ok, Err, length}
 use Rattle.lake_base.specs.declared.digest.Digest.{Digest}
-use Rattle.lake_values.specs.Commit.{CommitRecordValue}
+use Rattle.lake_values.specs.Commit.{AboutValue, CommitRecordValue}
 use Rattle.commit_graph.specs.Expressions.{RefExprValue}
 use Rattle.lake_model.specs.declared.fault.StepFault.{StepFault}
 use Rattle.lake_model.specs.declared.history.SealFor.{SealFor}
@@ -26,6 +26,10 @@ use Rattle.commit_flow.specs.declared.answer.CommitFault.{CommitFault}
 use Rattle.commit_flow.specs.declared.answer.CommitFault.TheVariants.{NoMemory}
 use Rattle.commit_flow.specs.CommitFaults.{IsCommitTold, fault_of_parent, fault_of_step}
 use Rattle.commit_flow.specs.CommitTries.{HaveTriedHead}
+
+-- what is said of a commit that is made at this moment: its date is that, whatever was given
+abbrev pub said_at : (moment : ℕ) → AboutValue → AboutValue
+said_at moment about = record { committer = about.committer; message = about.message; metadata = about.metadata; date = moment }
 
 -- ---- how it went
 

@@ -10,10 +10,10 @@ ghost use Rattle.lake_calls.specs.declared.call.Call.TheVariants.{Heads};
 ghost use Rattle.lake_calls.specs.declared.heads.HeadCall.TheVariants as head;
 ghost use Rattle.lake_calls.specs.declared.reply.Done.TheVariants as done;
 ghost use Rattle.flow_steps.specs.FlowAnswers.{still};
-ghost use Rattle.commit_flow.specs.CommitFlows.{HasMadeHead, HasMerged, HasPicked, IsAnswered};
+ghost use Rattle.commit_flow.specs.CommitFlows.{HasMadeHead, HasMerged, HasPicked, IsAnswered, said_at};
 
 use crate::answer::CommitFault;
-use crate::heads::{answer_of, new_head};
+use crate::heads::{answer_of, dated, new_head};
 use crate::merges::merged;
 use crate::picks::{Picking, picked};
 use block_store::Blocks;
@@ -29,7 +29,7 @@ use std::sync::Wait;
 
 /// Commits what is staged and sealed on a branch: the place of the entry, the new head and what it says. The changes
 /// are sealed first, and stay sealed where the commit is refused behind that; then it is tried at most ten times. The
-/// call's own commit is said of by `about`, whose date is the moment of the client. It waits.
+/// call's own commit is said of by `about`, but for its date, which is the moment of the client. It waits.
 pub fn commit<K: Keeper, B: Blocks, P: Pause, W: Wait>(
     rt: &W,
     alloc: Global,
@@ -41,12 +41,15 @@ pub fn commit<K: Keeper, B: Blocks, P: Pause, W: Wait>(
     about: About,
 ) -> FlowAnswer<(u64, CommitId, CommitRecord), CommitFault>
     requires turn { seat.old.turn ≡ lake.now }
-    requires date { about.date ≡ client.old.now }
     ensures served { (c : Committing)
-        → c.repo ≡ repo.now → c.branch ≡ branch.now → commit_about c client.old.now ≡ about
+        → c.repo ≡ repo.now → c.branch ≡ branch.now → commit_about c client.old.now ≡ said_at client.old.now about
         → IsAnswered (HasMadeHead
-        (record { repo = repo.now; branch = branch.now; kind = kind.Commit; about = about }) seal.Commit
-        client.old.call seat.old seat.new (P.calls client.old.pause.now) (P.calls client.new.pause.now))
+        (record {
+          repo = repo.now;
+          branch = branch.now;
+          kind = kind.Commit;
+          about = said_at client.old.now about;
+        }) seal.Commit client.old.call seat.old seat.new (P.calls client.old.pause.now) (P.calls client.new.pause.now))
         (λ one. done.Committed (known_commit one)) seat.old seat.new client.old.call (Heads (head.Commit c))
         client.old.now
         (still (B.faults client.old.blocks.now) (B.misses client.old.blocks.now) (B.missed client.old.blocks.now))
@@ -57,6 +60,7 @@ pub fn commit<K: Keeper, B: Blocks, P: Pause, W: Wait>(
     ensures call { (client.new.call ≡ client.old.call) × (client.new.now ≡ client.old.now) }
 {
     let call = client.call;
+    let about = dated(about, client.now);
     let made = new_head(
         rt,
         alloc,
@@ -74,7 +78,7 @@ pub fn commit<K: Keeper, B: Blocks, P: Pause, W: Wait>(
 }
 
 /// Merges the commit of an expression into a branch: the place of the entry, the new head and what it says. The
-/// expression is resolved once, before the branch is sealed. The date of `about` is the client's moment. It waits.
+/// expression is resolved once, before the branch is sealed. The date is the client's moment, and not that of `about`. It waits.
 pub fn merge<K: Keeper, B: Blocks, P: Pause, W: Wait>(
     rt: &W,
     alloc: Global,
@@ -88,15 +92,14 @@ pub fn merge<K: Keeper, B: Blocks, P: Pause, W: Wait>(
     about: About,
 ) -> FlowAnswer<(u64, CommitId, CommitRecord), CommitFault>
     requires turn { seat.old.turn ≡ lake.now }
-    requires date { about.date ≡ client.old.now }
     ensures served { (c : AnyMerge)
         → c.repo ≡ repo.now → c.branch ≡ dest.now → c.source.e ≡ source.now → c.strategy ≡ strategy
-        → merge_about c client.old.now ≡ about
+        → merge_about c client.old.now ≡ said_at client.old.now about
         → IsAnswered (HasMerged repo.now source.now (λ commit. record {
           repo = repo.now;
           branch = dest.now;
           kind = kind.Merge commit strategy;
-          about = about;
+          about = said_at client.old.now about;
         }) client.old.call seat.old seat.new (P.calls client.old.pause.now) (P.calls client.new.pause.now))
         (λ one. done.Merged one.0) seat.old seat.new client.old.call (Heads (head.Merge c)) client.old.now
         (still (B.faults client.old.blocks.now) (B.misses client.old.blocks.now) (B.missed client.old.blocks.now))
@@ -107,6 +110,7 @@ pub fn merge<K: Keeper, B: Blocks, P: Pause, W: Wait>(
     ensures call { (client.new.call ≡ client.old.call) × (client.new.now ≡ client.old.now) }
 {
     let call = client.call;
+    let about = dated(about, client.now);
     let made = merged(
         rt,
         alloc,
@@ -125,7 +129,7 @@ pub fn merge<K: Keeper, B: Blocks, P: Pause, W: Wait>(
 
 /// Undoes the commit of an expression on a branch, over its parent of this number, counted from 1, which a commit of
 /// several parents needs: the place of the entry, the new head and what it says. Its message is `Revert ID`; of
-/// `about` the committer and the date count, which is the moment of the client. It waits.
+/// `about` the committer counts, and the date is the moment of the client. It waits.
 pub fn revert<K: Keeper, B: Blocks, P: Pause, W: Wait>(
     rt: &W,
     alloc: Global,
@@ -139,7 +143,6 @@ pub fn revert<K: Keeper, B: Blocks, P: Pause, W: Wait>(
     about: About,
 ) -> FlowAnswer<(u64, CommitId, CommitRecord), CommitFault>
     requires turn { seat.old.turn ≡ lake.now }
-    requires date { about.date ≡ client.old.now }
     ensures served { (c : AnyPick)
         → c.repo ≡ repo.now → c.branch ≡ branch.now → c.at.e ≡ e.now → c.parent ≡ number
         → c.committer ≡ about.committer
@@ -159,6 +162,7 @@ pub fn revert<K: Keeper, B: Blocks, P: Pause, W: Wait>(
     ensures call { (client.new.call ≡ client.old.call) × (client.new.now ≡ client.old.now) }
 {
     let call = client.call;
+    let about = dated(about, client.now);
     let made = picked(
         rt,
         alloc,
@@ -177,8 +181,8 @@ pub fn revert<K: Keeper, B: Blocks, P: Pause, W: Wait>(
 }
 
 /// Takes what the commit of an expression changed over its parent of this number, counted from 1, into a branch: the
-/// place of the entry, the new head and what it says. Its message is that of the commit; of `about` the committer and
-/// the date count, which is the moment of the client. It waits.
+/// place of the entry, the new head and what it says. Its message is that of the commit; of `about` the committer
+/// counts, and the date is the moment of the client. It waits.
 pub fn cherry_pick<K: Keeper, B: Blocks, P: Pause, W: Wait>(
     rt: &W,
     alloc: Global,
@@ -192,7 +196,6 @@ pub fn cherry_pick<K: Keeper, B: Blocks, P: Pause, W: Wait>(
     about: About,
 ) -> FlowAnswer<(u64, CommitId, CommitRecord), CommitFault>
     requires turn { seat.old.turn ≡ lake.now }
-    requires date { about.date ≡ client.old.now }
     ensures served { (c : AnyPick)
         → c.repo ≡ repo.now → c.branch ≡ branch.now → c.at.e ≡ e.now → c.parent ≡ number
         → c.committer ≡ about.committer
@@ -212,6 +215,7 @@ pub fn cherry_pick<K: Keeper, B: Blocks, P: Pause, W: Wait>(
     ensures call { (client.new.call ≡ client.old.call) × (client.new.now ≡ client.old.now) }
 {
     let call = client.call;
+    let about = dated(about, client.now);
     let made = picked(
         rt,
         alloc,

@@ -7,7 +7,7 @@ ghost use Rattle.lake_core.specs.Lakes.{LakeValue, state};
 ghost use Rattle.shared_lake.specs.SeatSteps.{Finds, LakeSeat as AnySeat};
 ghost use Rattle.flow_steps.specs.FlowSeats.{GoesOn};
 ghost use Rattle.head_drafts.specs.HeadDrafts.{sides_of};
-ghost use Rattle.commit_flow.specs.CommitFlows.{HasMadeHead, answered_at};
+ghost use Rattle.commit_flow.specs.CommitFlows.{HasMadeHead, answered_at, said_at};
 
 use crate::answer::CommitFault;
 use crate::tries::attempts;
@@ -49,6 +49,24 @@ pub(crate) fn new_head<K: Keeper, P: Pause, W: Wait>(
             rt, alloc, lake, seat, pause, call, repo, branch, kind, about,
         ),
         Err(fault) => Err(CommitFault::of_step(fault)),
+    }
+}
+
+/// What is said of a commit that is made at this moment.
+pub(crate) fn dated(about: About, moment: u64) -> About
+    ensures { result ≡ said_at moment about }
+{
+    let About {
+        committer,
+        message,
+        metadata,
+        date: _,
+    } = about;
+    About {
+        committer,
+        message,
+        metadata,
+        date: moment,
     }
 }
 

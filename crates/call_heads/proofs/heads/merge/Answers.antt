@@ -1,6 +1,6 @@
 use Rattle.std.proofs.Common.{[], sym, ap, subst, ◌∙◌}
 use Rattle.lake_base.specs.declared.digest.Digest.{Digest}
-use Rattle.lake_values.specs.Commit.{AboutValue, CommitRecordValue}
+use Rattle.lake_values.specs.Commit.{CommitRecordValue}
 use Rattle.lake_calls.specs.Calls.{MergeCall}
 use Rattle.lake_calls.specs.CallRefusals.{names_at, names_of}
 use Rattle.lake_calls.specs.declared.call.Call.TheVariants.{Heads}
@@ -10,6 +10,7 @@ use Rattle.lake_calls.specs.declared.reply.Done.{Done}
 use Rattle.lake_calls.specs.declared.reply.Done.TheVariants as done
 use Rattle.call_objects.specs.CallWords.{AreNames}
 use Rattle.call_objects.proofs.ReadingLemmas.{of_reading}
+use Rattle.commit_flow.specs.CommitFlows.{said_at}
 use Rattle.call_heads.proofs.AnsweredHeadLemmas.{answered, other_call}
 use Rattle.call_heads.proofs.heads.merge.Goals as goal
 
@@ -21,9 +22,6 @@ returns-in-Err-clause-served g c =
     of_reading c.args.seat.now c.out_of_memory.new.seat client.call (Heads call) client.now (g.B.Blocks.faults store) (g.B.Blocks.misses store)
     (g.B.Blocks.missed store) (g.B.Blocks.held store) c.out_of_memory.result (c.out_of_memory.ensures.served (Heads call)) (other_call call)
 
-pub merge-flow-requires-clause-date : goal.merge-flow-requires-clause-date
-merge-flow-requires-clause-date g c = ap (λ (a : AboutValue). a.date) c.in-Ok.ensures
-
 pub returns-clause-served : goal.returns-clause-served
 returns-clause-served g c =
     let client = c.args.client.now in
@@ -33,7 +31,7 @@ returns-clause-served g c =
     let telling : Digest × CommitRecordValue → Done = λ one. done.Merged one.0 in
     let names = subst (λ (n : MergeCall). AreNames c.names_at-names.result (names_at n.repo n.branch n.source [])) c.call.view_is c.names_at-names.ensures in
     let given = (flow.ensures.served call (ap (λ (n : MergeCall). n.repo) same) (ap (λ (n : MergeCall). n.branch) same)
-    (ap (λ (n : MergeCall). n.source.e) same ∙ sym c.expr.ensures) (ap (λ (n : MergeCall). n.strategy) same) (sym c.in-Ok.ensures)).answers in
+    (ap (λ (n : MergeCall). n.source.e) same ∙ sym c.expr.ensures) (ap (λ (n : MergeCall). n.strategy) same) (sym (ap (said_at client.now) c.in-Ok.ensures))).answers in
     answered g.B.Blocks.faults g.B.Blocks.misses g.B.Blocks.missed g.B.Blocks.held client.blocks.now flow.new.client.blocks.now
     (ap (λ b. b.now) flow.ensures.blocks) c.args.seat.now flow.new.seat client.call (head.Merge call) client.now flow.ensures.turn telling flow.result
     given.met given.told given.tells given.flow given.faults given.misses given.missed_last

@@ -22,9 +22,6 @@ returns-in-Err-clause-served g c =
     of_reading c.args.seat.now c.out_of_memory.new.seat client.call (Heads call) client.now (g.B.Blocks.faults store) (g.B.Blocks.misses store)
     (g.B.Blocks.missed store) (g.B.Blocks.held store) c.out_of_memory.result (c.out_of_memory.ensures.served (Heads call)) (other_call call)
 
-pub revert-flow-requires-clause-date : goal.revert-flow-requires-clause-date
-revert-flow-requires-clause-date g c = ap (λ (a : AboutValue). a.date) c.in-Ok.ensures
-
 pub returns-clause-served : goal.returns-clause-served
 returns-clause-served g c =
     let client = c.args.client.now in

@@ -1,4 +1,4 @@
-use Rattle.std.proofs.Common.{◌≡◌, [], sym, subst}
+use Rattle.std.proofs.Common.{◌≡◌, [], sym, ap, subst, ◌∙◌}
 use Rattle.lake_base.specs.declared.digest.Digest.{Digest}
 use Rattle.lake_values.specs.Commit.{CommitRecordValue}
 use Rattle.lake_model.specs.declared.reply.SwapKind.TheVariants as kind
@@ -14,7 +14,7 @@ use Rattle.lake_model.specs.declared.reply.Point.{Point}
 use Rattle.lake_calls.specs.Courses.{revert_about}
 use Rattle.head_steps.specs.NewHeads.{NewHead}
 use Rattle.commit_flow.specs.declared.picks.Picking.TheVariants.{Undo}
-use Rattle.commit_flow.specs.CommitFlows.{HasPicked, IsAnswered}
+use Rattle.commit_flow.specs.CommitFlows.{HasPicked, IsAnswered, said_at}
 use Rattle.commit_flow.specs.PickedHeads.{picking_head, picking_message}
 use Rattle.commit_flow.proofs.FlowLemmas.{answered, revert_so, undoing}
 use Rattle.commit_flow.proofs.flows.revert.Goals as goal
@@ -44,13 +44,15 @@ returns-clause-served g c one repo branch e number committer =
       kind = kind.Pick point.commit parent Refuse;
       about = revert_about one client.now point.commit;
     } in
-    let picked : picking_head Undo c.args.repo.now c.args.branch.now c.args.about ≡ given =
+    let dated : picking_head Undo c.args.repo.now c.args.branch.now (said_at client.now c.args.about) ≡ given =
     λ i point parent. record {
       repo = c.args.repo.now;
       branch = c.args.branch.now;
       kind = kind.Pick point.commit parent Refuse;
-      about = record { committer = sym committer i; message = picking_message Undo point; metadata = []; date = c.requires.date i };
+      about = record { committer = sym committer i; message = picking_message Undo point; metadata = []; date = client.now };
     } in
+    let picked : picking_head Undo c.args.repo.now c.args.branch.now c.dated-about.result ≡ given =
+    ap (picking_head Undo c.args.repo.now c.args.branch.now) c.dated-about.ensures ∙ dated in
     let went = subst (λ (X : Type 0). X)
     (λ i. HasPicked (sym repo i) (sym e i) (sym number i) (sym same i) client.call old new paused pauses versions result)
     (subst (λ (heads : Point → Digest → NewHead). HasPicked c.args.repo.now c.args.e.now c.args.number heads client.call old new paused pauses versions result)
