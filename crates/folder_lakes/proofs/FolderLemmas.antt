@@ -10,7 +10,7 @@ use Rattle.core_puts.specs.KeeperViews.{KeeperView}
 use Rattle.core_state.specs.LakeStates.{lake_value}
 use Rattle.lake_core.specs.Faults.{HasFault}
 use Rattle.lake_core.specs.FollowedLakes.{FollowOrTried}
-use Rattle.lake_core.specs.Lakes.{Holds, LakeValue}
+use Rattle.lake_core.specs.Lakes.{LakeValue}
 use Rattle.lake_core.specs.declared.standing.LakeOrigin.{LakeOrigin}
 use Rattle.lake_model.specs.declared.history.HistoryEntry.{HistoryEntry}
 use Rattle.shared_lake.specs.SeatSteps.{Finds, LakeSeat, origin_of}
@@ -72,15 +72,17 @@ module _ {K : Type 0} (view : KeeperView K) (closed : LakeValue K) where
   begins seat is = (is.others, is.begins, is.alone)
 
   -- what the keeper counted since the opening
-  pub counted : (back : K) → back ≡ closed.keeper → (seat : LakeSeat) → Finds view seat closed → (origin : LakeOrigin) → seat.origin ≡ Some origin
+  pub counted : (HasFault closed.history → Rose (view.faults closed.first) (view.faults closed.keeper))
+      → ((HasFault closed.history → ⊥) → view.faults closed.keeper ≡ view.faults closed.first)
+      → (back : K) → back ≡ closed.keeper → (seat : LakeSeat) → Finds view seat closed → (origin : LakeOrigin) → seat.origin ≡ Some origin
       → (HasFault closed.history → Rose origin.faults (view.faults back)) × ((HasFault closed.history → ⊥) → view.faults back ≡ origin.faults)
-  counted back same seat is origin from =
+  counted rose quiet back same seat is origin from =
       let one : Some origin ≡ Some (origin_of view closed) = sym from ∙ is.origin in
       let goes_out : origin_of view closed ≡ origin = cc in
       let count = ap (λ (o : LakeOrigin). o.faults) goes_out in
       let kept = ap view.faults same in (
-        λ has. subst (λ n. Rose n (view.faults back)) count (subst (λ n. Rose (view.faults closed.first) n) (sym kept) (is.holds.keeper.counted has)),
-        λ none. kept ∙ is.holds.keeper.quiet none ∙ count,
+        λ has. subst (λ n. Rose n (view.faults back)) count (subst (λ n. Rose (view.faults closed.first) n) (sym kept) (rose has)),
+        λ none. kept ∙ quiet none ∙ count,
       )
 
   -- a seat went out from what the lake was opened as
@@ -91,8 +93,9 @@ module _ {K : Type 0} (view : KeeperView K) (closed : LakeValue K) where
       sym (ap (λ (o : LakeOrigin). o.opened) goes_out)
 
   -- what the pairs stand for of the keeper that was given back
-  pub left : (back : K) → back ≡ closed.keeper → Holds view closed
+  pub left : (back : K) → back ≡ closed.keeper
+      → IfSome (view.kept closed.keeper) (FollowOrTried (lake_value closed.opened) closed.history closed.present.names.files (lake_value closed.present))
       → IfSome (view.kept back) (FollowOrTried (lake_value closed.opened) closed.history closed.present.names.files (lake_value closed.present))
-  left back same holds =
+  left back same follow =
       subst (λ (k : K). IfSome (view.kept k) (FollowOrTried (lake_value closed.opened) closed.history closed.present.names.files (lake_value closed.present)))
-      (sym same) holds.pairs
+      (sym same) follow

@@ -5,6 +5,7 @@ ghost use Rattle.folder_lakes.specs.FolderLakes.{IsFolderClosed, IsFolderOpened,
 
 use crate::fault::FolderFault;
 use lake_base::Text;
+use lake_core::{law_of_kept_pairs, law_of_store_faults};
 use lake_folders::Folders;
 use lake_format::USUAL_CUT;
 use lake_opening::open_lake;
@@ -82,6 +83,8 @@ pub fn close_folder<D: Folders, W: Wait>(
           faults = D.faults folders.new;
         }) }
 {
+    law_of_kept_pairs::<D::Pairs>();
+    law_of_store_faults::<D::Pairs>();
     let closed = lake.close(rt, seats);
     folders.back(closed.into_keeper());
 }

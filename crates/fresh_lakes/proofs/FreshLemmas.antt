@@ -12,7 +12,7 @@ use Rattle.core_state.specs.FirstStates as founding
 use Rattle.core_state.specs.LakeStates.{state_of}
 use Rattle.core_puts.specs.KeeperViews.{KeeperView}
 use Rattle.lake_core.specs.Faults.{HasFault}
-use Rattle.lake_core.specs.Lakes.{LakeValue}
+use Rattle.lake_core.specs.Lakes.{Holds, LakeValue}
 use Rattle.lake_core.specs.Opening.{IsUnfounded}
 use Rattle.lake_core.specs.declared.open_fault.OpenFault.{OpenFault}
 use Rattle.lake_core.specs.declared.open_fault.OpenFault.TheVariants as opening
@@ -80,17 +80,19 @@ lone_seat items seat only fresh alone = record {
 
 -- ---- the lake is closed
 
--- a lone seat has seen no note that the keeper failed, where that never does
-none_noted : (seat : LakeSeat) (closed : LakeValue KeptPairs) → Finds sure_view seat closed → seat.alone ≡ true → HasFault seat.seen → ⊥
-none_noted seat closed finds alone has =
+-- a lone seat at a lake whose history has no note that the keeper failed has seen none
+none_noted : (seat : LakeSeat) (closed : LakeValue KeptPairs) → Finds sure_view seat closed → (HasFault closed.history → ⊥) → seat.alone ≡ true
+    → HasFault seat.seen → ⊥
+none_noted seat closed finds sure alone has =
     let all : closed.history ≡ seat.seen =
     finds.begins ∙ ap (λ (others : List HistoryEntry). seat.seen ++ others) (finds.alone alone) ∙ append-nil seat.seen in
-    let rose : 0 < 0 = finds.holds.keeper.counted (subst HasFault (sym all) has) (omega arith) in
-    absurd (omega (arith, rose))
+    sure (subst HasFault (sym all) has)
 
--- so it is of one that was put into the room
-pub none_noted_of : (seat : LakeSeat) (room seats : List LakeSeat) (closed : LakeValue KeptPairs) → room ≡ [] → seats ≡ room ++ seat ∷ []
+-- so it is of one that was put into the room, where no lake's history has such a note
+pub none_noted_of : (seat : LakeSeat) (room seats : List LakeSeat) (closed : LakeValue KeptPairs)
+    → ((lake : LakeValue KeptPairs) → Holds sure_view lake → HasFault lake.history → ⊥) → room ≡ [] → seats ≡ room ++ seat ∷ []
     → All (λ (s : LakeSeat). Finds sure_view s closed) seats → seat.alone ≡ true → HasFault seat.seen → ⊥
-none_noted_of seat room seats closed none put found =
+none_noted_of seat room seats closed sure none put found =
     let only : seats ≡ seat ∷ [] = put ∙ ap (λ (l : List LakeSeat). l ++ seat ∷ []) none in
-    none_noted seat closed (subst (λ (l : List LakeSeat). All (λ (s : LakeSeat). Finds sure_view s closed) l) only found 0 seat (omega arith))
+    let finds = subst (λ (l : List LakeSeat). All (λ (s : LakeSeat). Finds sure_view s closed) l) only found 0 seat (omega arith) in
+    none_noted seat closed finds (sure closed finds.holds)

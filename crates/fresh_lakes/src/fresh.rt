@@ -5,7 +5,7 @@ ghost use Rattle.fresh_lakes.specs.FreshLakes.{AreFreshSeats, IsFounded, IsLoneS
 
 use keeper::SureKeeper;
 use lake_base::NoMemory;
-use lake_core::{Lake, OpenFault, laws_of_founding};
+use lake_core::{Lake, OpenFault, law_of_sure_lakes, laws_of_founding};
 use lake_format::USUAL_CUT;
 use shared_lake::{LakeSeat, Shared};
 use std::alloc::Global;
@@ -61,6 +61,7 @@ pub fn close_lone_lake<W: Wait>(
     requires room { IsSeatRoom room }
     ensures none { seat.alone ≡ true → HasFault seat.seen → ⊥ }
 {
+    law_of_sure_lakes();
     room.push_reserved(seat);
     lake.close(rt, room);
 }
