@@ -104,14 +104,16 @@ module _ (order : TellsOfOrder) (reads : TellsOfReading) (opened : LakeStateValu
 -- ---- over keepers
 
 module _ {K L : Type 0} (left : KeeperView K) (view : KeeperView L) (cut : Cut) (lake : LakeValue K) (keeper : L) (again : LakeValue L)
-    (holds : Holds left lake) (is : IsOpenedAgain left view cut lake keeper again) where
+    (holds : Holds left lake)
+    (pairs : IfSome (left.kept lake.keeper) (FollowOrTried (lake_value lake.opened) lake.history lake.present.names.files (lake_value lake.present)))
+    (is : IsOpenedAgain left view cut lake keeper again) where
   -- the lake was read of the pairs that the other left
   abbrev pub read_again : IsReadAgain (lake_value lake.opened) lake.history lake.present.names.files (lake_value lake.present) cut again.opened
   read_again = record {
     pairs = is.pairs;
     stands = holds.stands;
     follow = subst
-        (λ o. IfSome o (FollowOrTried (lake_value lake.opened) lake.history lake.present.names.files (lake_value lake.present))) is.were holds.pairs;
+        (λ o. IfSome o (FollowOrTried (lake_value lake.opened) lake.history lake.present.names.files (lake_value lake.present))) is.were pairs;
     loaded = is.opened.pairs;
     are = subst (λ o. AreLoaded o is.opened.pairs) is.are is.opened.loaded;
     lake = is.opened.opened;
