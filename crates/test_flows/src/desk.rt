@@ -40,8 +40,8 @@ impl<'a, W> Model for Desk<'a, W> {
     ghost invariant = { λ desk. desk.seat.turn ≡ desk.lake.now };
 }
 
-// The entry of an object outside, of nine bytes.
-fn outside(alloc: Global) -> Result<Entry, Fail>
+// The entry of an object outside, of so many bytes.
+fn outside(alloc: Global, size: u64) -> Result<Entry, Fail>
     ensures { IfOk result (λ entry. put_number (Put entry) ≡ None) }
 {
     let place = Place::External {
@@ -54,7 +54,7 @@ fn outside(alloc: Global) -> Result<Entry, Fail>
     }
     Ok(Entry {
         place,
-        size: 9,
+        size,
         mtime: 7,
         content_type,
         metadata: Pairs::new(alloc),
@@ -74,17 +74,18 @@ fn words(alloc: Global, answer: FlowAnswer<Done, FlowFault>) -> Result<String, F
 }
 
 impl<'a, W: Wait> Desk<'a, W> {
-    /// The answer to what is asked, in words, with this pause: `put BRANCH` puts five bytes at the path `a`, `link`
-    /// an object of nine bytes there, `copy PATH` copies what stands there to `c`, `delete` deletes `a`, and
-    /// `reset BRANCH` drops all changes. What else is asked is of heads.
+    /// The answer to what is asked, in words, with this pause: `put BRANCH` puts five bytes at the path `a`,
+    /// `link BRANCH SIZE` links an object of that size there, nine bytes at `main` where none is given, `copy PATH`
+    /// copies what stands there to `c`, `delete BRANCH` deletes `a`, at `main` where none is given, and `reset BRANCH`
+    /// drops all changes. What else is asked is of heads.
     pub(crate) fn answer(&mut self, sealer: &mut Sealer<'_, W>, ask: &str) -> Result<String, Fail> {
         self.calls = self.calls.saturating_add(1);
         let (verb, name) = ask.split_once(' ').unwrap_or((ask, ""));
         let answer = match verb {
             "put" => self.put(sealer, name)?,
-            "link" => self.link(sealer)?,
+            "link" => self.link(sealer, name)?,
             "copy" => self.copy(sealer, name)?,
-            "delete" => self.delete(sealer)?,
+            "delete" => self.delete(sealer, name)?,
             "reset" => self.reset(sealer, name)?,
             _ => return self.answer_head(sealer, verb, name),
         };
@@ -119,10 +120,15 @@ impl<'a, W: Wait> Desk<'a, W> {
         ))
     }
 
-    fn link(&mut self, sealer: &mut Sealer<'_, W>) -> Result<FlowAnswer<Done, FlowFault>, Fail> {
-        let branch = RefName::read(self.alloc, b"main")?;
+    fn link(
+        &mut self,
+        sealer: &mut Sealer<'_, W>,
+        name: &str,
+    ) -> Result<FlowAnswer<Done, FlowFault>, Fail> {
+        let (branch, size) = name.split_once(' ').unwrap_or(("main", "9"));
+        let branch = RefName::read(self.alloc, branch.as_bytes())?;
         let path = Path::read(self.alloc, b"a")?;
-        let entry = outside(self.alloc)?;
+        let entry = outside(self.alloc, size.parse::<u64>()?)?;
         let mut client = Client {
             blocks: &mut self.blocks,
             pause: sealer,
@@ -173,8 +179,13 @@ impl<'a, W: Wait> Desk<'a, W> {
         ))
     }
 
-    fn delete(&mut self, sealer: &mut Sealer<'_, W>) -> Result<FlowAnswer<Done, FlowFault>, Fail> {
-        let branch = RefName::read(self.alloc, b"main")?;
+    fn delete(
+        &mut self,
+        sealer: &mut Sealer<'_, W>,
+        name: &str,
+    ) -> Result<FlowAnswer<Done, FlowFault>, Fail> {
+        let branch = if name == "" { "main" } else { name };
+        let branch = RefName::read(self.alloc, branch.as_bytes())?;
         let path = Path::read(self.alloc, b"a")?;
         let mut client = Client {
             blocks: &mut self.blocks,

@@ -103,7 +103,7 @@ fn answers_of<W: Wait>(
 
 // Rows of what is asked, what the second seat does at how many pauses, and what is answered, on a fresh lake: the same
 // rows with what is answered now.
-fn answers<W: Wait>(rt: &W, alloc: Global, rows: &str) -> Result<String, Fail> {
+pub(crate) fn answers<W: Wait>(rt: &W, alloc: Global, rows: &str) -> Result<String, Fail> {
     let repo = RepoName::read(alloc, b"quickstart")?;
     let main = RefName::read(alloc, b"main")?;
     let dev = RefName::read(alloc, b"dev")?;

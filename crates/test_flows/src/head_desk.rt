@@ -1,6 +1,4 @@
 //! A seat's calls that make new heads, answered in words.
-ghost use Rattle.std.specs.Prelude.{◌≡◌, IfOk};
-
 use crate::desk::Desk;
 use crate::sealer::Sealer;
 use commit_flow::{CommitFault, FlowAnswer, cherry_pick, commit, merge, revert};
@@ -18,10 +16,8 @@ use std::test::Fail;
 
 type Answer = FlowAnswer<(u64, CommitId, CommitRecord), CommitFault>;
 
-// What is said of a commit: by `me`, at 7.
-fn said(alloc: Global) -> Result<About, Fail>
-    ensures { IfOk result (λ about. about.date ≡ 7) }
-{
+// What is said of a commit: by `me`, at 3, which doesn't count.
+fn said(alloc: Global) -> Result<About, Fail> {
     let committer = Text::read(alloc, b"me", 128)?;
     let message = Text::read(alloc, b"m", 128)?;
     if !CommitCall::fits(&committer, &message) {
@@ -31,15 +27,19 @@ fn said(alloc: Global) -> Result<About, Fail>
         committer,
         message,
         metadata: Pairs::new(alloc),
-        date: 7,
+        date: 3,
     })
 }
 
-// What was answered: the message of the new head and how many parents it has, or the fault; the position, and the edge.
+// What was answered: the length of the message of the new head, which is of the client's moment, and how many parents it
+// has, or the fault; the position, and the edge.
 fn words(alloc: Global, answer: Answer) -> Result<String, Fail> {
     let (position, edge) = (answer.position, answer.edge);
     match answer.outcome {
         Ok((_, _, record)) => {
+            if record.date != 7 {
+                return Err("a commit of another moment")?;
+            }
             let parents = record.parents.as_slice().len();
             let message = record.message.as_str().len();
             Ok(format!(in alloc; "{message} over {parents} at {position} of {edge}")?)
@@ -59,7 +59,7 @@ fn words(alloc: Global, answer: Answer) -> Result<String, Fail> {
 
 impl<'a, W: Wait> Desk<'a, W> {
     /// The answer to what is asked of heads, in words, with this pause: `commit BRANCH`; `branch NAME`, made at `main`;
-    /// `merge EXPRESSION` into `main`; `revert EXPRESSION` on `main` and `take EXPRESSION` into it, behind the
+    /// `merge EXPRESSION` into `main`, and `merge-source` and `merge-dest`, where the one or the other wins; `revert EXPRESSION` on `main` and `take EXPRESSION` into it, behind the
     /// expression the number of a parent; `limit`, at most one change in a commit of the repository.
     pub(crate) fn answer_head(
         &mut self,
@@ -70,7 +70,9 @@ impl<'a, W: Wait> Desk<'a, W> {
         let answer = match verb {
             "commit" => self.commit_branch(sealer, name)?,
             "branch" => return self.make_branch(name),
-            "merge" => self.merge_source(sealer, name)?,
+            "merge" => self.merge_source(sealer, name, Strategy::Refuse)?,
+            "merge-source" => self.merge_source(sealer, name, Strategy::SourceWins)?,
+            "merge-dest" => self.merge_source(sealer, name, Strategy::DestWins)?,
             "revert" => self.pick(sealer, name, true)?,
             "take" => self.pick(sealer, name, false)?,
             "limit" => return self.allow_one_change(),
@@ -100,7 +102,12 @@ impl<'a, W: Wait> Desk<'a, W> {
         ))
     }
 
-    fn merge_source(&mut self, sealer: &mut Sealer<'_, W>, source: &str) -> Result<Answer, Fail> {
+    fn merge_source(
+        &mut self,
+        sealer: &mut Sealer<'_, W>,
+        source: &str,
+        strategy: Strategy,
+    ) -> Result<Answer, Fail> {
         let source = RefExpr::read(self.alloc, source.as_bytes())
             .ok()
             .ok_or("an expression")?;
@@ -121,7 +128,7 @@ impl<'a, W: Wait> Desk<'a, W> {
             self.repo,
             &source,
             &dest,
-            Strategy::Refuse,
+            strategy,
             about,
         ))
     }

@@ -1,6 +1,4 @@
 //! A pause in which a second seat seals or commits a branch, or moves another one that is merged into it.
-ghost use Rattle.std.specs.Prelude.{◌≡◌, IfSome};
-
 use block_store::SureBlocks;
 use commit_flow::commit;
 use keeper::SureKeeper;
@@ -49,9 +47,7 @@ impl<'a, W> Model for Sealer<'a, W> {
 }
 
 // What is said of a commit: by `other`, at 9.
-fn said(alloc: Global) -> Option<About>
-    ensures { IfSome result (λ about. about.date ≡ 9) }
-{
+fn said(alloc: Global) -> Option<About> {
     let committer = Text::read(alloc, b"other", 128).ok()?;
     let message = Text::read(alloc, b"beside", 128).ok()?;
     if !lake_calls::CommitCall::fits(&committer, &message) {
