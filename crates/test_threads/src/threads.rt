@@ -4,7 +4,7 @@ use block_store::SureBlocks;
 use commit_graph::RefExpr;
 use fresh_lakes::fresh_lake;
 use keeper::SureKeeper;
-use lake_base::{RepoName, Text};
+use lake_base::{Digest, RepoName, Text};
 use lake_core::Lake;
 use lake_host::{ServerEnd, serve_listeners};
 use lake_pages::{Item, PageQuery};
@@ -117,15 +117,38 @@ fn numbers_of(alloc: Global, lake: &Lake<SureKeeper>) -> Result<Vec<u64>, Fail> 
     Ok(numbers)
 }
 
-// How many commits the log of main has.
-fn log_length(alloc: Global, lake: &Lake<SureKeeper>) -> Result<usize, Fail> {
+// The ids of the commits that were told, in order.
+fn ids_told(alloc: Global, host: &MemoryHost) -> Result<Vec<Digest>, Fail> {
+    let mut ids = Vec::new(alloc);
+    for listener in host.returned() {
+        for served in listener.returned() {
+            let written = std::str::from_utf8(served.output.written()).unwrap_or("");
+            for part in written.split("\"id\":\"").skip(1) {
+                let digits = part.as_bytes().get(..64).unwrap_or(b"");
+                ids.push(Digest::read(digits).ok().ok_or("an id")?)?;
+            }
+        }
+    }
+    ids.sort_unstable();
+    Ok(ids)
+}
+
+// The ids of the commits that the log of main has, in order, but for the first commit, which has no parent.
+fn ids_logged(alloc: Global, lake: &Lake<SureKeeper>) -> Result<Vec<Digest>, Fail> {
     let repo = RepoName::read(alloc, b"quickstart")?;
     let main = RefExpr::read(alloc, b"main").ok().ok_or("an expression")?;
     let (_, commits, _) = lake
         .log(&repo, &main, None, None, 10_000)
         .ok()
         .ok_or("a log")?;
-    Ok(commits.as_slice().len())
+    let mut ids = Vec::new(alloc);
+    for (id, record) in commits.as_slice() {
+        if !record.parents.as_slice().is_empty() {
+            ids.push(*id)?;
+        }
+    }
+    ids.sort_unstable();
+    Ok(ids)
 }
 
 #[test]
@@ -147,8 +170,9 @@ fn each_commit_is_in_the_log_and_no_object_is_lost(rt: HostRuntime) -> Result<()
     let (lake, host) = served(&rt, alloc, asked(alloc, 200, true)?)?;
     let objects = count_of(&host, "\"path_type\":\"object\"");
     assert_eq!(rt; numbers_of(alloc, &lake)?.len(), objects);
-    let commits = count_of(&host, "\"generation\":");
-    assert_eq!(rt; log_length(alloc, &lake)?, commits.saturating_add(1));
-    assert!(rt; objects > 0 && commits > 0);
+    let ids = ids_told(alloc, &host)?;
+    assert_eq!(rt; ids.len(), count_of(&host, "\"generation\":"));
+    assert!(rt; objects > 0 && ids.len() > 0);
+    assert!(rt; ids_logged(alloc, &lake)?.as_slice() == ids.as_slice());
     Ok(())
 }
