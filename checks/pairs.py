@@ -1,9 +1,10 @@
 #!/usr/bin/env python3
-"""Spells the pairs of a small lake and of lakes that are broken in one place: checks/pairs.py [FILE]
+"""Spells the pairs of a small lake and of lakes that are broken in one place: checks/pairs.py [FOLDER]
 
 The bytes are made here by the format as docs/FORMATS.md has it, and which pair is due as the broken one is said here, row
-by row. It writes the table that crates/test_pairs goes over (src/rows.rt there) to FILE, or compares that file with it and
-prints `same` or `differs`; its status is 1 where they differ. `rt fmt` lays the file out: what is compared are its words.
+by row. It writes the tables that crates/test_pairs goes over (src/rows.rt and src/other_rows.rt there) to FOLDER, or compares
+those files with them and prints `same` or `differs`; its status is 1 where they differ. `rt fmt` lays the files out: what is
+compared are their words.
 """
 import hashlib
 import os
@@ -11,7 +12,7 @@ import struct
 import sys
 
 HERE = os.path.dirname(os.path.dirname(os.path.abspath(__file__)))
-ROWS = os.path.join(HERE, 'crates', 'test_pairs', 'src', 'rows.rt')
+SOURCES = os.path.join(HERE, 'crates', 'test_pairs', 'src')
 SOUND, UNREAD = 'Due::Sound', 'Due::Unread'
 
 
@@ -246,8 +247,22 @@ def literal(pairs):
     return '&[' + ', '.join(f'("{key.hex()}", "{value.hex()}")' for key, value in pairs) + ']'
 
 
-def table():
-    lines = [
+def rows_of(names):
+    lines = []
+    for name in names:
+        rows = TABLE[name]
+        lines += ['', f'pub(crate) static {name}: [Row; {len(rows)}] = [']
+        for about, without, put, due in rows:
+            keys = '&[' + ', '.join(f'"{key.hex()}"' for key in without) + ']'
+            lines.append(f'Row {{ about: "{about}", without: {keys}, put: {literal(put)}, due: {due} }},')
+        lines.append('];')
+    return [*lines, '']
+
+
+def tables():
+    names = list(TABLE)
+    first = names.index('GIVEN_NUMBERS')
+    lake = [
         '//! The pairs of a small lake, and lakes that are broken in one place, as `checks/pairs.py` spells them.', '',
         '/// What an opening is to come to.', '#[derive(Clone, Copy, Debug, PartialEq, Eq)]', 'pub(crate) enum Due {',
         '/// A lake, over the same pairs.', 'Sound,', '/// The pair of this number is broken, counted from 0.', 'Broken(u64),',
@@ -256,13 +271,13 @@ def table():
         'pub about: &\'static str,', 'pub without: &\'static [&\'static str],',
         'pub put: &\'static [(&\'static str, &\'static str)],', 'pub due: Due,', '}', '', '/// The pairs of the lake, in hex.',
         f'pub(crate) static LAKE: &[(&str, &str)] = {literal(sorted(LAKE.items()))};']
-    for name, rows in TABLE.items():
-        lines += ['', f'pub(crate) static {name}: [Row; {len(rows)}] = [']
-        for about, without, put, due in rows:
-            keys = '&[' + ', '.join(f'"{key.hex()}"' for key in without) + ']'
-            lines.append(f'Row {{ about: "{about}", without: {keys}, put: {literal(put)}, due: {due} }},')
-        lines.append('];')
-    return '\n'.join([*lines, ''])
+    others = [
+        '//! Lakes that are broken in a number, a count or a file, or by a pair of no form, as `checks/pairs.py` spells them.', '',
+        'use crate::rows::{Due, Row};']
+    return {
+        'rows.rt': '\n'.join(lake + rows_of(names[:first])),
+        'other_rows.rt': '\n'.join(others + rows_of(names[first:])),
+    }
 
 
 def words(text):
@@ -271,11 +286,14 @@ def words(text):
 
 def main():
     if len(sys.argv) > 1:
-        with open(sys.argv[1], 'w', encoding='utf-8') as it:
-            it.write(table())
+        for name, text in tables().items():
+            with open(os.path.join(sys.argv[1], name), 'w', encoding='utf-8') as it:
+                it.write(text)
         return 0
-    with open(ROWS, encoding='utf-8') as it:
-        same = words(it.read()) == words(table())
+    same = True
+    for name, text in tables().items():
+        with open(os.path.join(SOURCES, name), encoding='utf-8') as it:
+            same = same and words(it.read()) == words(text)
     print('same' if same else 'differs')
     return 0 if same else 1
 

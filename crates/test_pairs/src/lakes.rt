@@ -1,9 +1,9 @@
 //! What opening the lakes of the rows comes to.
 
-use crate::rows::{
-    COMMITS, COUNTS, DIGESTS, Due, FILES, GIVEN_NUMBERS, GONE_NUMBERS, LAKE, NAMED_FORMS,
-    OTHER_FORMS, PLACES, REPOSITORIES, Row, SETTINGS, TOKENS,
+use crate::other_rows::{
+    COUNTS, DIGESTS, FILES, GIVEN_NUMBERS, GONE_NUMBERS, NAMED_FORMS, OTHER_FORMS,
 };
+use crate::rows::{COMMITS, Due, LAKE, PLACES, REPOSITORIES, Row, SETTINGS, TOKENS};
 use keeper::{Keeper, MemoryKeeper, are_ascending};
 use lake_base::Sequence;
 use lake_format::USUAL_CUT;
