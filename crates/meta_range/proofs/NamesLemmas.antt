@@ -4,7 +4,7 @@ use Rattle.std.proofs.Common.{Some, None, refl, sym, ap, subst, ◌∙◌, inl, 
 use Rattle.std.specs.Bool.{OnTrue, Decides}
 use Rattle.std.specs.List.{slice_get, find, position, position_from, position_or_len, list_all}
 use Rattle.std.specs.Option.{option_and_then, option_copied, option_map_or, option_or, is_some}
-use Rattle.std.specs.Ordering.{eq_by_cmp}
+use Rattle.std.specs.Ordering.{eq_by_cmp, is_eq}
 use Rattle.std.specs.Slice.{IsGetResult}
 use Rattle.std.specs.Str.{bytes_eq}
 use Rattle.std.proofs.lemmas.Bool.{cases_Bool, eqb-true, ltb-false}
@@ -64,7 +64,10 @@ or_some : {X : Type 0} (o p : Option X) → is_some o ≡ true → o ≡ option_
 or_some None p some = absurd cc
 or_some (Some x) p some = refl
 
-id_same : (id other : Digest) → same_id id other ≡ true → id ≡ other
+pub tie_id : (id other : Digest) → is_eq (id_order id other) ≡ same_id id other
+tie_id id other = is_eq-slice_cmp id.0 other.0
+
+pub id_same : (id other : Digest) → same_id id other ≡ true → id ≡ other
 id_same id other same = let bytes = (bytes_eq-Decides id.0 other.0).0 same in λ i. record { 0 = bytes i }
 
 module _ (table : List (Digest × ℕ)) (name : Digest) (at : ℕ) where

@@ -4,9 +4,10 @@ use Rattle.std.proofs.Common.{take, drop, map, Option, Some, None, Result, Ok, E
 use Rattle.std.specs.List.{AllByRecursion, Contains}
 use Rattle.std.specs.FinMap.{entries, from_sorted, entries-from_sorted, len-entries}
 use Rattle.std.specs.FinMap.Entries.{below_all}
+use Rattle.std.specs.BTreeMap.{BTreeMap, get}
 use Rattle.std.specs.Str.{bytes_eq}
 use Rattle.std.specs.declared.cmp.Ordering.TheVariants.{Less}
-use Rattle.std.specs.Ordering.{is_lt}
+use Rattle.std.specs.Ordering.{is_eq, is_lt}
 use Rattle.std.proofs.lemmas.Bool.{eqb-true, eq-eqb, cases_Bool}
 use Rattle.std.proofs.lemmas.List.{append-nil, length-append, length-take, take_more}
 use Rattle.std.proofs.Math.Seq.{take-append_seam, drop-append_seam}
@@ -15,6 +16,7 @@ use Rattle.lake_base.specs.Digest.{sha256}
 use Rattle.lake_base.specs.Maps.{byte_order, HasAscendingKeys}
 use Rattle.lake_base.specs.declared.digest.Digest.{Digest}
 use Rattle.lake_base.proofs.MapsLemmas.{first, both, less, less_more, head_below, tail_ascends, same_again}
+use Rattle.lake_values.specs.Ancestry.{id_order, same_id}
 use Rattle.lake_values.specs.KeyMap.{KeyMapValue}
 use Rattle.lake_format.specs.Spelling.{file_name, path_at, range_spelling, metarange_spelling, line_of, IsRow, IsRange, IsMetarange, IsBelowNext, FollowOn}
 use Rattle.lake_format.specs.Cutting.{first_len, ranges, files, tree_id}
@@ -22,23 +24,24 @@ use Rattle.lake_format.specs.declared.cut.Cut.{Cut}
 use Rattle.lake_format.specs.declared.range_line.RangeLine.{RangeLine}
 use Rattle.lake_format.proofs.CutLemmas.{ranges_none, ranges_of, first_below}
 use Rattle.range_file.specs.Rows.{RowValue}
-use Rattle.range_file.specs.RangeReading.{Fails as RangeFails}
+use Rattle.range_file.specs.RangeReading.{range_from, Fails as RangeFails}
 use Rattle.range_file.specs.declared.fault.RangeFault.{RangeFault}
 use Rattle.range_file.specs.declared.fault.RangeFault.TheVariants.{NoMemory as RangeNoMemory}
 use Rattle.range_file.proofs.ReadingLemmas.{again as range_again}
 use Rattle.meta_range.specs.ReadingSteps.{◌>>=◌}
-use Rattle.meta_range.specs.Ranges.{TreeValue, rows_of, metarange_of, files_of, tree_of, AreRanges}
+use Rattle.meta_range.specs.Ranges.{TreeValue, first_file, rows_of, metarange_of, files_of, tree_of, AreRanges}
 use Rattle.meta_range.specs.Files.{bytes_named, FitsTree}
 use Rattle.meta_range.specs.Metarange.{metarange_from, Fails as MetaFails}
 use Rattle.meta_range.specs.TreeReading.{Fails, whole, read_file, of_metarange, in_metarange, of_range, in_range, is_said, read_range, read_ranges, first_stray}
-use Rattle.meta_range.specs.TreeReading.{not_cut, cut_of, tree_from, AreGiven, IsTreeOf, IsGiven, IsRead, AreRead}
+use Rattle.meta_range.specs.TreeReading.{not_cut, cut_of, tree_from, tree_with, AreGiven, AreShelved, IsShelved, IsTreeOf, IsTreeWith, IsGiven, IsRead, AreRead}
 use Rattle.meta_range.specs.declared.file.File.{File}
 use Rattle.meta_range.specs.declared.fault.MetaFault.{MetaFault}
 use Rattle.meta_range.specs.declared.fault.MetaFault.TheVariants.{NoMemory as MetaNoMemory}
 use Rattle.meta_range.specs.declared.fault.TreeFault.{TreeFault}
-use Rattle.meta_range.specs.declared.fault.TreeFault.TheVariants.{Damaged, NotCut, NoMemory}
+use Rattle.meta_range.specs.declared.fault.TreeFault.TheVariants.{Damaged, Mismatch, NotCut, NoMemory}
 use Rattle.meta_range.proofs.RangesLemmas.{all_append, rows_within, rows_of_cut, line_is, is_metarange}
 use Rattle.meta_range.proofs.MetarangeLemmas.{again as metarange_again}
+use Rattle.meta_range.proofs.NamesLemmas.{id_same, tie_id}
 use Rattle.meta_range.proofs.LawLemmas.{ranges_are}
 
 -- ---- faults
@@ -266,20 +269,21 @@ each_given given [] all = λ bytes has. absurd (omega (arith, has.1))
 each_given given (range ∷ ranges) all = with_first given (range_spelling range) (map range_spelling ranges) all.0 (each_given given ranges all.1)
 
 -- what is known of the parts of a reading
-pub record HasRead (name : Digest) (given : List File) (cut : Cut) (bytes : List ℕ) (lines : List RangeLine) (ranges : List (List RowValue)) : Type 0 where
-  pub file : read_file name given ≡ Ok bytes
+pub record HasRead (name : Digest) (metarange : Option (List ℕ)) (given : List File) (bytes : List ℕ) (lines : List RangeLine)
+    (ranges : List (List RowValue)) : Type 0 where
+  pub file : whole name metarange ≡ Ok bytes
   pub valid : IsMetarange lines × (bytes ≡ metarange_spelling lines)
   pub read : AreRead given lines ranges
   pub few : length (rows_of ranges) < 2 ^ 32
 
-module _ (name : Digest) (given : List File) (cut : Cut) (bytes : List ℕ) (lines : List RangeLine) (read : List (List RowValue))
-    (h : HasRead name given cut bytes lines read) where
+module _ (name : Digest) (metarange : Option (List ℕ)) (given : List File) (cut : Cut) (bytes : List ℕ) (lines : List RangeLine)
+    (read : List (List RowValue)) (h : HasRead name metarange given bytes lines read) where
   -- the metarange is that of the ranges
   pub metarange_is : bytes ≡ metarange_of read
   metarange_is = h.valid.1 ∙ ap metarange_spelling (sym h.read.said)
 
   pub name_is : name ≡ file_name (metarange_of read)
-  name_is = (file_read name given bytes h.file).1 ∙ ap file_name metarange_is
+  name_is = (whole_is name metarange bytes h.file).1 ∙ ap file_name metarange_is
 
   pub are_ranges : AreRanges read
   are_ranges = ranges_read given lines read h.valid.0 h.read h.few
@@ -287,7 +291,7 @@ module _ (name : Digest) (given : List File) (cut : Cut) (bytes : List ℕ) (lin
   entries_are : entries (from_sorted {R = byte_order} (rows_of read)) ≡ rows_of read
   entries_are = entries-from_sorted byte_order (rows_of read) are_ranges.ascend
 
-  pub is_tree : not_cut cut read ≡ None → IsTreeOf name given cut (tree_of read)
+  pub is_tree : not_cut cut read ≡ None → IsTreeWith name metarange given cut (tree_of read)
   unfolding files
   is_tree none =
       let due = is_cut cut read h.read.each none in
@@ -295,13 +299,23 @@ module _ (name : Digest) (given : List File) (cut : Cut) (bytes : List ℕ) (lin
       record {
         named = name_is;
         cut_so = ap files_of cut_is;
-        given = with_first given (metarange_of read) (map range_spelling read) (subst (λ (n : Digest). bytes_named n given ≡ Some (metarange_of read)) name_is
-            ((file_read name given bytes h.file).0 ∙ ap Some metarange_is)) (each_given given read h.read.given);
+        first = (whole_is name metarange bytes h.file).0 ∙ ap Some metarange_is;
+        given = each_given given read h.read.given;
         limits = record {
           each = subst (AllByRecursion IsRow) (sym entries_are) (rows_within read h.read.each);
           few = omega (arith, len-entries (from_sorted {R = byte_order} (rows_of read)), ap length entries_are, h.few);
         };
       }
+
+-- a tree whose metarange is among the files too
+pub of_one_list : (name : Digest) (given : List File) (cut : Cut) (tree : TreeValue) → IsTreeWith name (bytes_named name given) given cut tree
+    → IsTreeOf name given cut tree
+of_one_list name given cut tree is = record { named = is.named; cut_so = is.cut_so; given = by tree.files is.named is.first is.given; limits = is.limits }
+  where
+    by : (all : List (List ℕ)) → name ≡ file_name (first_file all) → bytes_named name given ≡ Some (first_file all) → AreGiven (drop 1 all) given
+        → AreGiven all given
+    by [] named first rest = λ bytes has. absurd (omega (arith, has.1))
+    by (file ∷ all) named first rest = with_first given file all (subst (λ (n : Digest). bytes_named n given ≡ Some file) named first) rest
 
 -- ---- a tree whose files are given
 
@@ -326,12 +340,13 @@ ranges_given given (range ∷ ranges) all = (
 
 pub tree_again : (name : Digest) (given : List File) (cut : Cut) (objects : KeyMapValue) → FitsTree objects → name ≡ tree_id cut objects
     → AreGiven (files cut objects) given → tree_from name given cut ≡ Ok (record { map = objects; files = files cut objects })
-unfolding tree_from files tree_id
+unfolding tree_with files tree_id read_file
 tree_again name given cut objects fits named all =
     let read = ranges cut (entries objects) in
     let metarange = metarange_of read in
     let are = ranges_are cut objects fits in
-    let file = file_again metarange given (all metarange (0, omega arith, refl)) in
+    let file : whole (file_name metarange) (bytes_named (file_name metarange) given) ≡ Ok metarange =
+    file_again metarange given (all metarange (0, omega arith, refl)) in
     let lines = metarange_again (map line_of read) (is_metarange read are) in
     let each = read_all given [] read are.each (ranges_given given read (λ bytes has. all bytes (later metarange (map range_spelling read) bytes has))) in
     let objects_are : from_sorted {R = byte_order} (rows_of read) ≡ objects =
@@ -341,7 +356,7 @@ tree_again name given cut objects fits named all =
 
 -- ---- a reading step by step
 
-module _ (name : Digest) (given : List File) (cut : Cut) where
+module _ (name : Digest) (metarange : Option (List ℕ)) (given : List File) (cut : Cut) where
   after_ranges : List (List RowValue) → Result TreeValue TreeFault
   after_ranges read = cut_of (not_cut cut read) read
 
@@ -351,37 +366,81 @@ module _ (name : Digest) (given : List File) (cut : Cut) where
   after_file : List ℕ → Result TreeValue TreeFault
   after_file bytes = in_metarange (metarange_from bytes) >>= after_lines
 
-  steps : tree_from name given cut ≡ (read_file name given >>= after_file)
-  unfolding tree_from after_file after_lines after_ranges
+  steps : tree_with name metarange given cut ≡ (whole name metarange >>= after_file)
+  unfolding tree_with after_file after_lines after_ranges
   steps = refl
 
-  pub fails_file : (e : TreeFault) → Fails e (read_file name given) → Fails e (tree_from name given cut)
-  fails_file e h = subst (Fails e) (sym steps) (failed e (read_file name given) after_file h)
+  pub fails_file : (e : TreeFault) → Fails e (whole name metarange) → Fails e (tree_with name metarange given cut)
+  fails_file e h = subst (Fails e) (sym steps) (failed e (whole name metarange) after_file h)
 
-  module _ (bytes : List ℕ) (file : read_file name given ≡ Ok bytes) where
-    with_file : tree_from name given cut ≡ (in_metarange (metarange_from bytes) >>= after_lines)
+  module _ (bytes : List ℕ) (file : whole name metarange ≡ Ok bytes) where
+    with_file : tree_with name metarange given cut ≡ (in_metarange (metarange_from bytes) >>= after_lines)
     unfolding after_file
     with_file = steps ∙ ap (λ r. r >>= after_file) file
 
-    pub fails_metarange : (fault : MetaFault) → MetaFails fault (metarange_from bytes) → Fails (of_metarange fault) (tree_from name given cut)
+    pub fails_metarange : (fault : MetaFault) → MetaFails fault (metarange_from bytes) → Fails (of_metarange fault) (tree_with name metarange given cut)
     fails_metarange fault h = subst (Fails (of_metarange fault)) (sym with_file)
         (failed (of_metarange fault) (in_metarange (metarange_from bytes)) after_lines (metarange_failed fault (metarange_from bytes) h))
 
     module _ (lines : List RangeLine) (said : metarange_from bytes ≡ Ok lines) where
-      with_lines : tree_from name given cut ≡ (read_ranges given [] lines >>= after_ranges)
+      with_lines : tree_with name metarange given cut ≡ (read_ranges given [] lines >>= after_ranges)
       unfolding after_lines
       with_lines = with_file ∙ ap (λ r. in_metarange r >>= after_lines) said
 
-      pub fails_ranges : (e : TreeFault) → Fails e (read_ranges given [] lines) → Fails e (tree_from name given cut)
+      pub fails_ranges : (e : TreeFault) → Fails e (read_ranges given [] lines) → Fails e (tree_with name metarange given cut)
       fails_ranges e h = subst (Fails e) (sym with_lines) (failed e (read_ranges given [] lines) after_ranges h)
 
       module _ (read : List (List RowValue)) (reads : read_ranges given [] lines ≡ Ok read) where
-        pub with_ranges : tree_from name given cut ≡ cut_of (not_cut cut read) read
+        pub with_ranges : tree_with name metarange given cut ≡ cut_of (not_cut cut read) read
         unfolding after_ranges
         with_ranges = with_lines ∙ ap (λ r. r >>= after_ranges) reads
 
-        pub reads_stray : (i : ℕ) → not_cut cut read ≡ Some i → tree_from name given cut ≡ Err (NotCut i)
+        pub reads_stray : (i : ℕ) → not_cut cut read ≡ Some i → tree_with name metarange given cut ≡ Err (NotCut i)
         reads_stray i stray = with_ranges ∙ ap (λ found. cut_of found read) stray
 
-        pub reads_tree : not_cut cut read ≡ None → tree_from name given cut ≡ Ok (tree_of read)
+        pub reads_tree : not_cut cut read ≡ None → tree_with name metarange given cut ≡ Ok (tree_of read)
         reads_tree none = with_ranges ∙ ap (λ found. cut_of found read) none
+
+-- ---- ranges on a shelf
+
+module _ (given : List File) (i : ℕ) (line : RangeLine) where
+  pub range_fails_file : (e : TreeFault) → Fails e (read_file line.name given) → Fails e (read_range given i line)
+  unfolding read_range
+  range_fails_file e h =
+      failed e (read_file line.name given) (λ bytes. in_range i (range_from bytes) >>= λ rows. cond (is_said line rows) (Ok rows) (Err (Mismatch i))) h
+
+  pub range_fails_rows : (bytes : List ℕ) → read_file line.name given ≡ Ok bytes → (fault : RangeFault) → RangeFails fault (range_from bytes)
+      → Fails (of_range i fault) (read_range given i line)
+  unfolding read_range
+  range_fails_rows bytes file fault h =
+      subst (λ r. Fails (of_range i fault) (r >>= λ bytes. in_range i (range_from bytes) >>= λ rows. cond (is_said line rows) (Ok rows) (Err (Mismatch i))))
+      (sym file)
+      (failed (of_range i fault) (in_range i (range_from bytes)) (λ rows. cond (is_said line rows) (Ok rows) (Err (Mismatch i)))
+      (range_failed i fault (range_from bytes) h))
+
+-- a range whose file is read is read of what is said, where that is so
+pub shelved_read : (given : List File) (i : ℕ) (line : RangeLine) (rows : List RowValue) → IsShelved given line.name rows
+    → read_range given i line ≡ cond (is_said line rows) (Ok rows) (Err (Mismatch i))
+unfolding read_range
+shelved_read given i line rows is =
+    ap (λ r. r >>= λ bytes. in_range i (range_from bytes) >>= λ rows. cond (is_said line rows) (Ok rows) (Err (Mismatch i))) is.file
+    ∙ ap (λ r. in_range i r >>= λ rows. cond (is_said line rows) (Ok rows) (Err (Mismatch i))) (range_again rows is.valid)
+
+-- with one more
+pub more_shelved : (given : List File) (old new : BTreeMap Digest (List RowValue)) (name : Digest) (rows : List RowValue) → AreShelved given old.entries
+    → IsShelved given name rows
+    → ((other : Digest) → get id_order new other ≡ cond (is_eq (id_order name other)) (Some rows) (get id_order old other))
+    → AreShelved given new.entries
+more_shelved given old new name rows are is put other range found = by (same_id name other) refl
+  where
+    told : cond (same_id name other) (Some rows) (get id_order old other) ≡ Some range
+    told = ap (λ b. cond b (Some rows) (get id_order old other)) (sym (tie_id name other)) ∙ sym (put other) ∙ found
+
+    some_is : {x y : List RowValue} → Some x ≡ Some y → x ≡ y
+    some_is e = cc
+
+    by : (b : Bool) → same_id name other ≡ b → IsShelved given other range
+    by true same =
+        let rows_are = some_is (sym (ap (λ b. cond b (Some rows) (get id_order old other)) same) ∙ told) in
+        subst (IsShelved given other) rows_are (subst (λ n. IsShelved given n rows) (id_same name other same) is)
+    by false apart = are other range (sym (ap (λ b. cond b (Some rows) (get id_order old other)) apart) ∙ told)

@@ -1,9 +1,12 @@
 -- Reading a tree from its files: the metarange first, then each range in order, and last where the ranges end.
-use Rattle.std.specs.Prelude.{◌≡◌, ◌==◌, ◌&&◌, ◌-◌, ℕ, suc, Bool, List, [], ◌∷◌, ◌++◌, length, map, Option, Some, None, Result, Ok, Err, if◌then◌else◌}
+use Rattle.std.specs.Prelude.{◌≡◌, ◌==◌, ◌&&◌, ◌-◌, ℕ, suc, Bool, List, [], ◌∷◌, ◌++◌, length, drop, map, Option, Some, None, Result, Ok, Err, if◌then◌else◌}
 use Rattle.std.specs.List.{AllByRecursion, Contains}
+use Rattle.std.specs.Map.{lookup}
+use Rattle.std.specs.Ordering.{eq_by_cmp}
 use Rattle.std.specs.Str.{bytes_eq}
 use Rattle.lake_base.specs.Digest.{sha256}
 use Rattle.lake_base.specs.declared.digest.Digest.{Digest}
+use Rattle.lake_values.specs.Ancestry.{id_order}
 use Rattle.lake_format.specs.Spelling.{file_name, path_at, range_spelling, line_of, IsRange}
 use Rattle.lake_format.specs.Cutting.{ranges, files}
 use Rattle.lake_format.specs.declared.cut.Cut.{Cut}
@@ -95,17 +98,29 @@ abbrev pub cut_of : Option ℕ → List (List RowValue) → Result TreeValue Tre
 cut_of None read = Ok (tree_of read)
 cut_of (Some i) read = Err (NotCut i)
 
--- the tree of the metarange of this name
-unfoldable pub tree_from : Digest → List File → Cut → Result TreeValue TreeFault
-tree_from name given cut = do
-  bytes ← read_file name given
+-- the tree of this name, whose metarange has these bytes, where it is given, and whose ranges are among these files
+unfoldable pub tree_with : Digest → Option (List ℕ) → List File → Cut → Result TreeValue TreeFault
+tree_with name metarange given cut = do
+  bytes ← whole name metarange
   lines ← in_metarange (metarange_from bytes)
   ranges ← read_ranges given [] lines
   cut_of (not_cut cut ranges) ranges
 
+-- the tree of this name, whose metarange is among the files too
+abbrev pub tree_from : Digest → List File → Cut → Result TreeValue TreeFault
+tree_from name given cut = tree_with name (bytes_named name given) given cut
+
 -- each of these files is the first of its name among those given
 abbrev pub AreGiven : List (List ℕ) → List File → Type 0
 AreGiven all given = (bytes : List ℕ) → Contains all bytes → bytes_named (file_name bytes) given ≡ Some bytes
+
+-- a tree of this name and cut, whose metarange has these bytes, and whose ranges are given
+pub record IsTreeWith (name : Digest) (metarange : Option (List ℕ)) (all : List File) (cut : Cut) (tree : TreeValue) : Type 0 where
+  pub named : name ≡ file_name (first_file tree.files)
+  pub cut_so : tree.files ≡ files cut tree.map
+  pub first : metarange ≡ Some (first_file tree.files)
+  pub given : AreGiven (drop 1 tree.files) all
+  pub limits : FitsTree tree.map
 
 -- a tree of this name and cut, whose files are given
 pub record IsTreeOf (name : Digest) (all : List File) (cut : Cut) (tree : TreeValue) : Type 0 where
@@ -129,3 +144,12 @@ pub record AreRead (all : List File) (lines : List RangeLine) (ranges : List (Li
   pub each : AllByRecursion IsRange ranges
   pub said : map line_of ranges ≡ lines
   pub given : AllByRecursion (IsGiven all) ranges
+
+-- rows within their limits, of which the file of this name, which has its SHA-256, is given
+pub record IsShelved (all : List File) (name : Digest) (range : List RowValue) : Type 0 where
+  pub valid : IsRange range
+  pub file : read_file name all ≡ Ok (range_spelling range)
+
+-- the ranges of a table are those of their names
+abbrev pub AreShelved : List File → List (Digest × List RowValue) → Type 0
+AreShelved all table = (name : Digest) (range : List RowValue) → lookup (eq_by_cmp id_order name) table ≡ Some range → IsShelved all name range

@@ -3,24 +3,26 @@ ghost use Rattle.std.specs.Prelude.{◌≡◌, ◌↔◌, ◌<◌, ◌++◌, ◌
 ghost use Rattle.std.specs.Prelude.{Option, option_copied};
 ghost use Rattle.lake_values.specs.KeyMap.{KeyMapValue};
 ghost use Rattle.lake_format.specs.Cutting.{files as tree_files, tree_id, first_len};
-ghost use Rattle.lake_format.specs.Spelling.{IsMetarange};
 ghost use Rattle.range_file.specs.Rows.{RowValue};
-ghost use Rattle.meta_range.specs.Ranges.{first_file, rows_of};
+ghost use Rattle.meta_range.specs.Ranges.{rows_of};
 ghost use Rattle.meta_range.specs.Files.{bytes_named, FitsTree};
-ghost use Rattle.meta_range.specs.TreeReading.{ReadsAs, AreGiven, is_said, read_file, read_range, read_ranges, not_cut};
-ghost use Rattle.meta_range.specs.TreeReading.{tree_from, IsTreeOf, IsRead, AreRead};
+ghost use Rattle.meta_range.specs.TreeReading.{AreRead, AreShelved, ReadsAs, AreGiven, read_ranges, not_cut, tree_from};
+ghost use Rattle.meta_range.specs.TreeReading.{tree_with, IsTreeOf, IsTreeWith};
 
-use crate::fault::{TreeFault, of_metarange, of_range};
+use crate::fault::{TreeFault, of_metarange};
 use crate::file::File;
-use crate::given_files::GivenFiles;
+use crate::given_files::{GivenFiles, LentFile};
 use crate::metarange::read_metarange;
 use crate::shared_range::SharedRange;
+use crate::shelf::{Shelf, read_range, whole};
 use crate::tree::Tree;
 use lake_base::digest::Digest;
+use lake_base::outside::NoMemory;
 use lake_format::RangeLine;
 use lake_format::encoding::row_len;
-use range_file::{Cut, Row, decode, is_break};
+use range_file::{Cut, Row, is_break};
 use std::alloc::Global;
+use std::collections::BTreeMap;
 
 impl Tree {
     /// The tree of the metarange of this name, from files that are given; of several files of one name the first
@@ -41,24 +43,48 @@ impl Tree {
         // Which fault it is.
         ensures exact { ReadsAs (λ tree. tree) result (tree_from name.now files.now cut.now) }
     {
-        let given = GivenFiles::of(alloc, files)?;
-        let tree = read_tree(alloc, name, &given, cut)?;
+        let given = GivenFiles::of(alloc, lent(alloc, files)?)?;
+        let mut shelf = BTreeMap::new(alloc);
+        let metarange = given.named(name);
+        let tree = read_tree(alloc, name, metarange, &given, &mut shelf, cut)?;
         Ok(tree)
     }
 }
 
-// The tree of the metarange of this name.
-fn read_tree(alloc: Global, name: &Digest, given: &GivenFiles, cut: &Cut) -> Result<Tree, TreeFault>
-    requires { 0 < cut.now.modulus }
-    ensures reads { ReadsAs (λ tree. tree) result (tree_from name.now given.now cut.now) }
-    ensures found { IfOk result (λ tree. IsTreeOf name.now given.now cut.now tree) }
+// Files, lent.
+fn lent<'a>(alloc: Global, files: &'a [File]) -> Result<Vec<LentFile<'a>>, NoMemory>
+    ensures { IfOk result (λ lent. lent.items ≡ files.now) }
 {
-    let bytes = read_file(name, given)?;
+    let mut lent = Vec::with_capacity(alloc, files.len())?;
+    for file in files {
+        lent.push(LentFile::new(file.name, file.bytes.as_slice()))?;
+    }
+    Ok(lent)
+}
+
+/// The tree of this name, of the bytes of its metarange, and of ranges among these files.
+pub(crate) fn read_tree(
+    alloc: Global,
+    name: &Digest,
+    metarange: Option<&[u8]>,
+    given: &GivenFiles,
+    shelf: &mut Shelf,
+    cut: &Cut,
+) -> Result<Tree, TreeFault>
+    requires modulus { 0 < cut.now.modulus }
+    requires shelf { AreShelved given.now shelf.old.entries }
+    ensures shelf { AreShelved given.now shelf.new.entries }
+    ensures reads { ReadsAs (λ tree. tree) result
+        (tree_with name.now (option_copied metarange.entry) given.now cut.now) }
+    ensures found { IfOk result
+        (λ tree. IsTreeWith name.now (option_copied metarange.entry) given.now cut.now tree) }
+{
+    let bytes = whole(name, metarange)?;
     let lines = match read_metarange(alloc, bytes) {
         Ok(lines) => lines,
         Err(fault) => return Err(of_metarange(fault)),
     };
-    let ranges = read_ranges(alloc, given, lines.as_slice())?;
+    let ranges = read_ranges(alloc, given, shelf, lines.as_slice())?;
     if count_rows(ranges.as_slice()) >= 4294967296 {
         return Err(TreeFault::NoMemory);
     }
@@ -68,81 +94,24 @@ fn read_tree(alloc: Global, name: &Digest, given: &GivenFiles, cut: &Cut) -> Res
     Ok(Tree::named(alloc, *name, ranges)?)
 }
 
-// The bytes of the file of this name, whose SHA-256 it is.
-#[tactic(auto, unfolding(crate::specs::TreeReading::read_file))]
-fn read_file<'a>(name: &Digest, given: &GivenFiles<'a>) -> Result<&'a [u8], TreeFault>
-    ensures { ReadsAs (λ bytes. bytes.now) result (read_file name.now given.now) }
-{
-    let Some(bytes) = bytes_named(name, given) else {
-        return Err(TreeFault::Missing(*name));
-    };
-    let found = Digest::of(bytes);
-    if found != *name {
-        return Err(TreeFault::Damaged {
-            named: *name,
-            found,
-        });
-    }
-    Ok(bytes)
-}
-
-// The bytes of the first file of this name.
-#[tactic(auto, unfolding(crate::specs::Files::bytes_named))]
-fn bytes_named<'a>(name: &Digest, given: &GivenFiles<'a>) -> Option<&'a [u8]>
-    ensures { option_copied result ≡ bytes_named name.now given.now }
-{
-    match given.named(name) {
-        Some(file) => Some(file.bytes.as_slice()),
-        None => None,
-    }
-}
-
 // The ranges of which this is said.
 fn read_ranges(
     alloc: Global,
     given: &GivenFiles,
+    shelf: &mut Shelf,
     lines: &[RangeLine],
 ) -> Result<Vec<SharedRange>, TreeFault>
+    requires { AreShelved given.now shelf.old.entries }
+    ensures shelf { AreShelved given.now shelf.new.entries }
     ensures reads { ReadsAs (λ ranges. ranges.items) result (read_ranges given.now [] lines.now) }
     ensures found { IfOk result (λ ranges. AreRead given.now lines.now ranges.items) }
 {
     let mut ranges = Vec::new(alloc);
     for line in lines {
         let at = ranges.as_slice().len();
-        ranges.push(read_range(alloc, given, at, line)?)?;
+        ranges.push(read_range(alloc, given, shelf, at, line)?)?;
     }
     Ok(ranges)
-}
-
-// Range `at`, of which this is said.
-#[tactic(auto, unfolding(crate::specs::TreeReading::read_range))]
-fn read_range(
-    alloc: Global,
-    given: &GivenFiles,
-    at: usize,
-    line: &RangeLine,
-) -> Result<SharedRange, TreeFault>
-    ensures reads { ReadsAs (λ range. range) result (read_range given.now at line.now) }
-    ensures found { IfOk result (λ range. IsRead given.now line.now range) }
-{
-    let bytes = read_file(&line.name, given)?;
-    let rows = match decode(alloc, bytes) {
-        Ok(rows) => rows,
-        Err(fault) => return Err(of_range(fault, at)),
-    };
-    if !is_said(line, rows.rows()) {
-        return Err(TreeFault::Mismatch(at));
-    }
-    Ok(SharedRange::named(alloc, line.name, rows)?)
-}
-
-// Whether the metarange says this of the rows.
-fn is_said(line: &RangeLine, rows: &[Row]) -> bool
-    requires { 0 < length rows.now }
-    ensures { result ≡ is_said line.now rows.now }
-{
-    let (first, last) = (&rows[0], &rows[rows.len() - 1]);
-    rows.len() == line.rows as usize && first.path == line.first && last.path == line.last
 }
 
 // How many rows there are in ranges.

@@ -64,6 +64,16 @@ impl SharedRange {
         })
     }
 
+    /// The same range, shared.
+    pub(crate) fn share(&self) -> Result<SharedRange, NoMemory>
+        ensures { IfOk result (λ range. range ≡ self.now) }
+    {
+        Ok(SharedRange {
+            name: self.name,
+            rows: self.rows.clone()?,
+        })
+    }
+
     /// The range of copies of these rows.
     pub(crate) fn copy_of(alloc: Global, rows: &[(Path, Entry)]) -> Result<SharedRange, NoMemory>
         requires some { 0 < length rows.now }
@@ -131,6 +141,7 @@ impl SharedRange {
     {
         is_below(self.last().as_slice(), least)
     }
+
     /// Whether the other range has the same rows.
     pub(crate) fn has_rows_of(&self, other: &SharedRange) -> bool
         ensures { result ≡ same_rows self.now other.now }

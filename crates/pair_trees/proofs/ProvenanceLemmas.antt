@@ -28,7 +28,7 @@ use Rattle.meta_range.specs.ReadingSteps.{◌>>=◌}
 use Rattle.meta_range.specs.Ranges.{TreeValue, files_of, first_file, rows_of, tree_of}
 use Rattle.meta_range.specs.Files.{bytes_named}
 use Rattle.meta_range.specs.Metarange.{metarange_from}
-use Rattle.meta_range.specs.TreeReading.{cut_of, in_metarange, in_range, is_said, not_cut, read_file, read_range, read_ranges, IsGiven}
+use Rattle.meta_range.specs.TreeReading.{cut_of, in_metarange, in_range, is_said, not_cut, read_file, read_range, read_ranges, tree_with, IsGiven}
 use Rattle.meta_range.specs.declared.file.File.{File}
 use Rattle.meta_range.specs.declared.fault.MetaFault.{MetaFault}
 use Rattle.meta_range.specs.declared.fault.TreeFault.{TreeFault}
@@ -39,7 +39,7 @@ use Rattle.pair_format.specs.declared.stored.Stored.{Stored}
 use Rattle.pair_format.specs.declared.stored.Stored.TheVariants as stored
 use Rattle.pair_format.specs.PairSpelling.{IsSpelledStored}
 use Rattle.pair_trees.specs.Things.{IsThere, Things}
-use Rattle.pair_trees.specs.PairTrees.{metarange_in, metaranges_in, range_in, ranges_in, tree_among, tree_named}
+use Rattle.pair_trees.specs.PairTrees.{metarange_in, metaranges_in, range_in, ranges_in, tree_named}
 
 -- ---- readings that came to Ok
 
@@ -214,9 +214,9 @@ pub record HasParts (name : Digest) (metaranges ranges : List File) (cut : Cut) 
   pub uncut : not_cut cut read ≡ None
   pub is : tree_of read ≡ tree
 
-parts_of : (name : Digest) (metaranges ranges : List File) (cut : Cut) (tree : TreeValue) → tree_among name metaranges ranges cut ≡ Ok tree
+parts_of : (name : Digest) (metaranges ranges : List File) (cut : Cut) (tree : TreeValue) → tree_with name (bytes_named name metaranges) ranges cut ≡ Ok tree
     → HasParts name metaranges ranges cut tree
-unfolding tree_among
+unfolding tree_with read_file
 parts_of name metaranges ranges cut tree e =
     let file = bind_ok (read_file name metaranges)
     (λ bytes. in_metarange (metarange_from bytes) >>= λ lines. read_ranges ranges [] lines >>= λ read. cut_of (not_cut cut read) read) tree e in

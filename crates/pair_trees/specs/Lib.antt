@@ -4,5 +4,4 @@ pub mod SettingTexts
 pub mod Spelled
 pub mod Tables
 pub mod Things
-pub mod TreeFiles
 pub mod Unread

@@ -9,10 +9,9 @@ use Rattle.lake_format.specs.Spelling.{file_name}
 use Rattle.lake_format.specs.declared.cut.Cut.{Cut}
 use Rattle.range_file.specs.RangeReading.{range_from}
 use Rattle.range_file.specs.Rows.{RowValue}
-use Rattle.meta_range.specs.ReadingSteps.{◌>>=◌}
-use Rattle.meta_range.specs.Metarange.{metarange_from}
+use Rattle.meta_range.specs.Files.{bytes_named}
 use Rattle.meta_range.specs.Ranges.{TreeValue, first_file}
-use Rattle.meta_range.specs.TreeReading.{cut_of, in_metarange, not_cut, read_file, read_ranges}
+use Rattle.meta_range.specs.TreeReading.{tree_with}
 use Rattle.meta_range.specs.declared.fault.TreeFault.{TreeFault}
 use Rattle.meta_range.specs.declared.file.File.{File}
 use Rattle.lake_model.specs.Uncommitted.{own_number}
@@ -40,18 +39,9 @@ ranges_in things = filter_map range_in things
 
 -- ---- trees
 
--- The tree of the metarange of this name, as `tree_from` of meta_range reads it; but the metarange is one of these files, and
--- its ranges are among those.
-unfoldable pub tree_among : Digest → List File → List File → Cut → Result TreeValue TreeFault
-tree_among name metaranges ranges cut = do
-  bytes ← read_file name metaranges
-  lines ← in_metarange (metarange_from bytes)
-  read ← read_ranges ranges [] lines
-  cut_of (not_cut cut read) read
-
--- the tree that a commit names, of the files that are there, or the first fault
+-- The tree that a commit names, or the first fault: its metarange is one of the metarange files that are there, and its ranges are among the range files.
 unfoldable pub tree_named : Cut → Things → CommitRecordValue → Result TreeValue TreeFault
-tree_named cut things commit = tree_among commit.meta_range (metaranges_in things) (ranges_in things) cut
+tree_named cut things commit = tree_with commit.meta_range (bytes_named commit.meta_range (metaranges_in things)) (ranges_in things) cut
 
 -- what is read of the tree of a commit, where this is one
 abbrev pub tree_in : Cut → Things → Option Stored → Option (Result TreeValue TreeFault)

@@ -1,19 +1,18 @@
 //! The trees of the commits that pairs spell.
-ghost use Rattle.std.specs.Prelude.{◌≡◌, ◌<◌, ◌∷◌, ◌++◌, List, Ok, IfOk, MatchOption, OnOk};
+ghost use Rattle.std.specs.Prelude.{◌≡◌, ◌<◌, ◌++◌, IfOk, MatchOption, OnOk, option_copied};
 ghost use Rattle.std.specs.Option.{option_to_list};
-ghost use Rattle.lake_format.specs.declared.range_line.RangeLine.{RangeLine as AnyLine};
-ghost use Rattle.meta_range.specs.Metarange.{metarange_from};
+ghost use Rattle.meta_range.specs.Files.{bytes_named};
 ghost use Rattle.meta_range.specs.TreeReading.{ReadsAs};
-ghost use Rattle.pair_trees.specs.PairTrees.{AreTreesRead, IsFirstUnread, ranges_in, tree_in, tree_named, trees_of};
-ghost use Rattle.pair_trees.specs.TreeFiles.{file_named, is_named, range_files};
+ghost use Rattle.pair_trees.specs.PairTrees.{AreTreesRead, IsFirstUnread, metaranges_in, range_in, ranges_in, tree_in};
+ghost use Rattle.pair_trees.specs.PairTrees.{tree_named, trees_of};
 ghost use Rattle.pair_trees.specs.Unread.{unread_in};
 
-use crate::found::{metarange_of, range_of};
+use crate::found::metarange_of;
 use crate::spelled::SpelledPairs;
-use lake_base::{Digest, NoMemory, Sequence};
-use lake_format::{Cut, RangeLine};
+use lake_base::{Digest, NoMemory};
+use lake_format::Cut;
 use lake_values::{CommitId, CommitRecord};
-use meta_range::{File, MetaFault, Tree, TreeFault, read_metarange};
+use meta_range::{LentFile, Tree, TreeFault, TreeReader};
 use pair_format::Stored;
 use std::alloc::Global;
 
@@ -21,8 +20,8 @@ use std::alloc::Global;
 pub type ReadTree = Result<Tree, TreeFault>;
 
 /// What is read of the tree of each commit, in the place of its pair; other pairs have none there. A metarange is found
-/// under its own kind of key, and so are its ranges. A tree costs the bytes of its files, for their SHA-256 and to be
-/// read, and a search for each.
+/// under its own kind of key, and so are its ranges. A tree costs the bytes of its metarange, and those of the ranges that
+/// no tree before has, for their SHA-256 and to be read; a search for each range; and a look at each row, for the cut.
 pub fn read_trees(
     alloc: Global,
     pairs: &SpelledPairs,
@@ -32,25 +31,58 @@ pub fn read_trees(
     ensures { IfOk result (λ trees. trees.items ≡ trees_of cut.now pairs.now) }
 {
     let things = pairs.as_slice();
+    let mut reader = TreeReader::of(alloc, range_files(alloc, things)?)?;
     let mut trees = Vec::with_capacity(alloc, things.len())?;
     for thing in things {
-        trees.push(tree_in(alloc, pairs, thing, cut)?)?;
+        trees.push(tree_in(alloc, pairs, &mut reader, thing, cut)?)?;
     }
     Ok(trees)
+}
+
+// The range files among these, lent.
+fn range_files<'p>(
+    alloc: Global,
+    things: &'p [Option<Stored>],
+) -> Result<Vec<LentFile<'p>>, NoMemory>
+    ensures { IfOk result (λ files. files.items ≡ ranges_in things.now) }
+{
+    let mut files = Vec::new(alloc);
+    for thing in things {
+        push_range(&mut files, thing)?;
+    }
+    Ok(files)
+}
+
+// Appends a range file, where this is one.
+fn push_range<'p>(files: &mut Vec<LentFile<'p>>, thing: &'p Option<Stored>) -> Result<(), NoMemory>
+    ensures { OnOk result (files.new.items ≡ files.old.items ++ option_to_list (range_in thing.now)) }
+{
+    match thing {
+        Some(Stored::Range { name, bytes }) => {
+            files.push(LentFile::new(*name, bytes.as_slice()))?;
+            Ok(())
+        }
+        _ => Ok(()),
+    }
 }
 
 // What is read of the tree of a commit, where this is one.
 fn tree_in(
     alloc: Global,
     pairs: &SpelledPairs,
+    reader: &mut TreeReader,
     thing: &Option<Stored>,
     cut: &Cut,
 ) -> Result<Option<ReadTree>, NoMemory>
-    requires { 0 < cut.now.modulus }
-    ensures { IfOk result (λ tree. tree ≡ tree_in cut.now pairs.now thing.now) }
+    requires modulus { 0 < cut.now.modulus }
+    requires ranges { reader.old ≡ ranges_in pairs.now }
+    ensures ranges { reader.new ≡ ranges_in pairs.now }
+    ensures tree { IfOk result (λ tree. tree ≡ tree_in cut.now pairs.now thing.now) }
 {
     match thing {
-        Some(Stored::Commit { commit, .. }) => Ok(Some(tree_or_fault(alloc, pairs, commit, cut)?)),
+        Some(Stored::Commit { commit, .. }) => {
+            Ok(Some(tree_or_fault(alloc, pairs, reader, commit, cut)?))
+        }
         _ => Ok(None),
     }
 }
@@ -90,115 +122,51 @@ fn unread_in(thing: &Option<Stored>, tree: &Option<ReadTree>) -> Option<(CommitI
 fn tree_or_fault(
     alloc: Global,
     pairs: &SpelledPairs,
+    reader: &mut TreeReader,
     commit: &CommitRecord,
     cut: &Cut,
 ) -> Result<ReadTree, NoMemory>
-    requires { 0 < cut.now.modulus }
-    ensures { IfOk result (λ read. read ≡ tree_named cut.now pairs.now commit.now) }
+    requires modulus { 0 < cut.now.modulus }
+    requires ranges { reader.old ≡ ranges_in pairs.now }
+    ensures ranges { reader.new ≡ ranges_in pairs.now }
+    ensures tree { IfOk result (λ read. read ≡ tree_named cut.now pairs.now commit.now) }
 {
-    match read_tree(alloc, pairs, commit, cut) {
+    match read_tree(alloc, pairs, reader, commit, cut) {
         Ok(tree) => Ok(Ok(tree)),
         Err(TreeFault::NoMemory) => Err(NoMemory),
         Err(fault) => Ok(Err(fault)),
     }
 }
 
-// The tree of a commit. A metarange that holds its own SHA-256, which nobody can make, is answered as out of memory.
+// The tree of a commit.
+#[tactic(auto, unfolding(crate::specs::PairTrees::tree_named))]
 fn read_tree(
     alloc: Global,
     pairs: &SpelledPairs,
+    reader: &mut TreeReader,
     commit: &CommitRecord,
     cut: &Cut,
 ) -> Result<Tree, TreeFault>
-    requires { 0 < cut.now.modulus }
-    ensures { ReadsAs (λ tree. tree) result (tree_named cut.now pairs.now commit.now) }
+    requires modulus { 0 < cut.now.modulus }
+    requires ranges { reader.old ≡ ranges_in pairs.now }
+    ensures ranges { reader.new ≡ ranges_in pairs.now }
+    ensures reads { ReadsAs (λ tree. tree) result (tree_named cut.now pairs.now commit.now) }
 {
     let name = &commit.meta_range;
-    let Some(metarange) = metarange_of(alloc, pairs, name)? else {
-        return Err(TreeFault::Missing(*name));
-    };
-    let found = Digest::of(metarange.as_slice());
-    if found != *name {
-        return Err(TreeFault::Damaged {
-            named: *name,
-            found,
-        });
-    }
-    let lines = lines_of(alloc, metarange.as_slice())?;
-    if is_named(name, lines.as_slice()) {
-        return Err(TreeFault::NoMemory);
-    }
-    let files = tree_files(alloc, pairs, name, metarange, lines.as_slice())?;
-    Tree::read(alloc, name, files.as_slice(), cut)
+    let metarange = metarange_bytes(alloc, pairs, name)?;
+    reader.read(alloc, name, metarange, cut)
 }
 
-// What a metarange says of ranges; nothing where it isn't one.
-fn lines_of(alloc: Global, bytes: &[u8]) -> Result<Vec<RangeLine>, NoMemory>
-    ensures { IfOk result (λ lines. (read : List AnyLine) → metarange_from bytes.now ≡ Ok read → read ≡ lines.items) }
-{
-    match read_metarange(alloc, bytes) {
-        Ok(lines) => Ok(lines),
-        Err(MetaFault::NoMemory) => Err(NoMemory),
-        Err(_) => Ok(Vec::new(alloc)),
-    }
-}
-
-// Whether one of these ranges has this name.
-fn is_named(name: &Digest, lines: &[RangeLine]) -> bool
-    ensures { result ≡ is_named name.now lines.now }
-{
-    lines.iter().any(|line| line.name == *name)
-}
-
-// A metarange, and the ranges that are there of those that it names.
-fn tree_files(
+// The bytes of the metarange of a name, where it is there.
+fn metarange_bytes<'p>(
     alloc: Global,
-    pairs: &SpelledPairs,
+    pairs: &'p SpelledPairs,
     name: &Digest,
-    metarange: &Sequence<u8>,
-    lines: &[RangeLine],
-) -> Result<Vec<File>, NoMemory>
-    ensures { IfOk result (λ files. files.items
-        ≡ record { name = name.now; bytes = metarange.now } ∷ range_files (ranges_in pairs.now) lines.now) }
+) -> Result<Option<&'p [u8]>, NoMemory>
+    ensures { IfOk result (λ bytes. option_copied bytes ≡ bytes_named name.now (metaranges_in pairs.now)) }
 {
-    let mut files = Vec::new(alloc);
-    files.push(copy_of(alloc, name, metarange)?)?;
-    for line in lines {
-        let file = range_file(alloc, pairs, &line.name)?;
-        push_some(&mut files, file)?;
-    }
-    Ok(files)
-}
-
-// Appends a file, where there is one.
-fn push_some(files: &mut Vec<File>, file: Option<File>) -> Result<(), NoMemory>
-    ensures { OnOk result (files.new.items ≡ files.old.items ++ option_to_list file) }
-{
-    match file {
-        Some(file) => {
-            files.push(file)?;
-            Ok(())
-        }
-        None => Ok(()),
-    }
-}
-
-// The range of a name, where it is there.
-fn range_file(alloc: Global, pairs: &SpelledPairs, name: &Digest) -> Result<Option<File>, NoMemory>
-    ensures { IfOk result (λ file. file ≡ file_named name.now (ranges_in pairs.now)) }
-{
-    match range_of(alloc, pairs, name)? {
-        Some(bytes) => Ok(Some(copy_of(alloc, name, bytes)?)),
+    match metarange_of(alloc, pairs, name)? {
+        Some(bytes) => Ok(Some(bytes.as_slice())),
         None => Ok(None),
     }
-}
-
-// A copy of a file.
-fn copy_of(alloc: Global, name: &Digest, bytes: &Sequence<u8>) -> Result<File, NoMemory>
-    ensures { IfOk result (λ file. file ≡ record { name = name.now; bytes = bytes.now }) }
-{
-    Ok(File {
-        name: *name,
-        bytes: Sequence::of(Vec::from_slice(alloc, bytes.as_slice())?),
-    })
 }

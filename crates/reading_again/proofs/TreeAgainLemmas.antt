@@ -29,7 +29,7 @@ use Rattle.range_file.proofs.ReadingLemmas.{again as range_again}
 use Rattle.meta_range.specs.ReadingSteps.{◌>>=◌}
 use Rattle.meta_range.specs.Files.{FitsTree, bytes_named}
 use Rattle.meta_range.specs.Ranges.{files_of, first_file, metarange_of, rows_of}
-use Rattle.meta_range.specs.TreeReading.{IsGiven, first_stray, not_cut, read_file, read_range, read_ranges, whole}
+use Rattle.meta_range.specs.TreeReading.{IsGiven, first_stray, not_cut, read_file, read_range, read_ranges, tree_with, whole}
 use Rattle.meta_range.specs.declared.fault.TreeFault.TheVariants.{Damaged}
 use Rattle.meta_range.specs.declared.file.File.{File}
 use Rattle.meta_range.proofs.LawLemmas.{ranges_are}
@@ -37,7 +37,7 @@ use Rattle.meta_range.proofs.MetarangeLemmas.{again as metarange_again}
 use Rattle.meta_range.proofs.RangesLemmas.{is_metarange, rows_of_cut}
 use Rattle.lake_model.specs.Naming.{IsInMap}
 use Rattle.lake_model.specs.Uncommitted.{own_number}
-use Rattle.pair_trees.specs.PairTrees.{numbers_in, numbers_of, tree_among}
+use Rattle.pair_trees.specs.PairTrees.{numbers_in, numbers_of}
 
 -- ---- files
 
@@ -96,18 +96,18 @@ ranges_given given (range ∷ read) all = (
 pub among_again : (name : Digest) (metaranges given : List File) (cut : Cut) (objects : KeyMapValue) → FitsTree objects → name ≡ tree_id cut objects
     → bytes_named (file_name (first_file (files cut objects))) metaranges ≡ Some (first_file (files cut objects))
     → ((bytes : List ℕ) → Contains (drop 1 (files cut objects)) bytes → bytes_named (file_name bytes) given ≡ Some bytes)
-    → tree_among name metaranges given cut ≡ Ok (record { map = objects; files = files cut objects })
-unfolding tree_among files tree_id
+    → tree_with name (bytes_named name metaranges) given cut ≡ Ok (record { map = objects; files = files cut objects })
+unfolding tree_with files tree_id read_file
 among_again name metaranges given cut objects fits named first all =
     let read = ranges cut (entries objects) in
     let metarange = metarange_of read in
     let are = ranges_are cut objects fits in
-    let file = file_again metarange metaranges first in
+    let file : whole (file_name metarange) (bytes_named (file_name metarange) metaranges) ≡ Ok metarange = file_again metarange metaranges first in
     let lines = metarange_again (map line_of read) (is_metarange read are) in
     let each = read_all given [] read are.each (ranges_given given read all) in
     let objects_are : from_sorted {R = byte_order} (rows_of read) ≡ objects =
     ap (from_sorted {R = byte_order}) (rows_of_cut cut (entries objects)) ∙ same_again objects in
-    ap (λ n. tree_among n metaranges given cut) named
+    ap (λ n. tree_with n (bytes_named n metaranges) given cut) named
     ∙ rw (file, lines, each, never_stray cut (entries objects)) (ap (λ o. Ok (record { map = o; files = files_of read })) objects_are)
 
 -- ---- numbers

@@ -27,6 +27,7 @@ loop-line-preserved c =
       found = subst (AreRead c.args.given.now (take (c.loop-line.line-index + 1) c.args.lines.now)) (sym c.in_ok-push.ensures.items)
           (read_more c.args.given.now c.args.lines.now c.loop-line.line-index line c.loop-line.ranges.items range c.loop-line-test.true c.line-item.is
           c.loop-line.invariant.found c.in_ok-read_range.ensures.found);
+      shelf = c.in_ok-read_range.ensures.shelf;
     }
 
 pub returns-clause-reads : goal.returns-clause-reads
