@@ -1,11 +1,9 @@
 -- A folder that is opened, or isn't, and closed.
-use Rattle.std.proofs.Common.{inl, inr, ◌≡◌, ◌≢◌, ◌≤◌, ◌<◌, ◌++◌, ◌∷◌, [], ℕ, true, All, List, Option, Some, None, refl, sym, ◌∙◌, ap, subst, arith}
-use Rattle.std.specs.Prelude.{◌⊎◌, IfSome, IsErrAnd, MatchResult, Result, Ok, Err}
+use Rattle.std.proofs.Common.{inl, inr, ◌≡◌, ◌≤◌, ◌++◌, [], ℕ, true, List, Some, refl, sym, ◌∙◌, ap, subst}
+use Rattle.std.specs.Prelude.{IfSome, IsErrAnd, MatchResult, Result, Ok, Err}
 use Rattle.lake_base.specs.Outside.{Rose}
 use Rattle.lake_base.specs.declared.outside.Trouble.{Trouble}
 use Rattle.lake_base.specs.declared.outside.Trouble.TheVariants as trouble
-use Rattle.keeper.specs.Keepers.{KeptPairs}
-use Rattle.pair_format.specs.declared.pair.Pair.{Pair}
 use Rattle.core_puts.specs.KeeperViews.{KeeperView}
 use Rattle.core_state.specs.LakeStates.{lake_value}
 use Rattle.lake_core.specs.Faults.{HasFault}
@@ -15,17 +13,14 @@ use Rattle.lake_core.specs.declared.standing.LakeOrigin.{LakeOrigin}
 use Rattle.lake_model.specs.declared.history.HistoryEntry.{HistoryEntry}
 use Rattle.shared_lake.specs.SeatSteps.{Finds, LakeSeat, origin_of}
 use Rattle.fresh_lakes.specs.FreshLakes.{usual_cut}
-use Rattle.core_opening.specs.Opening.{HasCause}
-use Rattle.core_opening.specs.declared.fault.OpeningFault.{OpeningFault}
 use Rattle.core_opening.specs.declared.fault.OpeningFault.TheVariants as reading
-use Rattle.lake_opening.specs.Opening.{AreLoaded, IsUnopened}
+use Rattle.lake_opening.specs.Opening.{IsUnopened}
 use Rattle.lake_opening.specs.declared.fault.OpenFault.{OpenFault}
 use Rattle.lake_opening.specs.declared.fault.OpenFault.TheVariants as opening
 use Rattle.lake_folders.specs.Folders.{FoldersView, KeeperShow}
 use Rattle.folder_lakes.specs.FolderFaults.{of_opening, of_trouble}
-use Rattle.folder_lakes.specs.FolderLakes.{ArePairsIn, IsFolderRefused, IsKeeperBack, NothingBack}
+use Rattle.folder_lakes.specs.FolderLakes.{IsFolderRefused, IsKeeperBack, NothingBack}
 use Rattle.folder_lakes.specs.declared.fault.FolderFault.{FolderFault}
-use Rattle.folder_lakes.specs.declared.fault.FolderFault.TheVariants.{Failed, NoMemory, Refused}
 
 module _ {T : Type 0} (folder : List ℕ) (before after : FoldersView) (P : T → Type 0) where
   -- no keeper was given
