@@ -4,3 +4,4 @@ pub mod ServerLemmas
 pub mod StatusLemmas
 pub mod OneBatchLemmas
 pub mod LocalLemmas
+pub mod OneGenerationLemmas

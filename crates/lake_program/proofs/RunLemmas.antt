@@ -22,6 +22,7 @@ use Rattle.program_words.specs.declared.generator.Generator.{Generator}
 use Rattle.program_words.specs.ProgramWords.{Asked, Batch, Control, Generate, Send, Serve, Serving}
 use Rattle.program_words.specs.ProgramWords.{asked_of, control_of, first_asked, generator_of, local_asked_of, service_of, timing_of}
 use Rattle.lake_generator.specs.Generated.{Generates}
+use Rattle.lake_program.proofs.OneGenerationLemmas.{one_generation}
 use Rattle.lake_program.specs.Controls.{Controls}
 use Rattle.lake_program.specs.Run.{CountsStay, IsBatchRun, IsUnbegun, Runs, RunsAs, control_view, sink_view}
 use Rattle.lake_program.specs.Servers.{IsServed, IsUnserved}
@@ -186,7 +187,7 @@ pub run_of_generator : {K : Type 0} (view : KeeperView K) (words : List (List �
     → before.batch.sink_faults ≤ after.batch.sink_faults → Runs view words before after number
 run_of_generator view words before after generator status number no_batch no_server no_control is tells generates same sink =
     as_asked view words (Generate generator) before after number (λ i. first_asked (no_batch i) (no_server i) (no_control i) (is i) (local_asked_of words))
-    (record { status = status; tells = tells; generates = generates; alone = same })
+    (record { status = status; tells = tells; generates = generates; only = one_generation generator; alone = same })
     (record {
       source = let count = ap (λ (v : RunView). v.source_faults) same in omega (arith, count);
       sink = sink;

@@ -3,3 +3,4 @@ pub mod Controls
 pub mod Servers
 pub mod Run
 pub mod OneBatches
+pub mod OneGenerations

@@ -25,6 +25,7 @@ use Rattle.lakectl_shown.specs.declared.showing.Shown.{Shown}
 use Rattle.program_words.specs.ProgramWords.{Asked, Batch, Control, Generate, LocalBatch, LocalCommand, LocalServing, Nothing, Send, Serve, Serving, asked_of}
 use Rattle.program_words.specs.ProgramWords.{BatchIn, CommandIn, ServeIn}
 use Rattle.lake_program.specs.Controls.{AreUntouched, ControlView, Controls, Prints}
+use Rattle.lake_program.specs.OneGenerations.{HasOneText}
 use Rattle.lake_program.specs.Servers.{IsServed, IsUnserved}
 use Rattle.lake_program.specs.Views.{RunView}
 
@@ -132,6 +133,8 @@ pub record RunsGenerator (generator : Generator) (before after : RunView) (numbe
   pub status : ExitStatus
   pub tells : number ≡ status_number status
   pub generates : Generates generator (sink_view before) (sink_view after) status
+  -- and what it tells is what any other run of it does
+  pub only : HasOneText generator
   pub alone : after ≡ record before { batch = record before.batch { written = after.batch.written; sink_faults = after.batch.sink_faults } }
 
 -- ---- on the lake of a folder

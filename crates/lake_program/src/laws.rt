@@ -1,9 +1,11 @@
-//! What two runs of one batch have in common.
+//! What two runs of one batch have in common, and two of the generator.
 ghost use Rattle.std.specs.Prelude.{List, ℕ};
 ghost use Rattle.batch_lines.specs.declared.status.ExitStatus.{ExitStatus as AnyStatus};
 ghost use Rattle.folder_batch.specs.BatchWords.{BatchView};
 ghost use Rattle.program_words.specs.declared.batch.Timing.{Timing};
+ghost use Rattle.program_words.specs.declared.generator.Generator.{Generator as AnyGenerator};
 ghost use Rattle.lake_program.specs.OneBatches.{AreOneBatch, IsRunTwice};
+ghost use Rattle.lake_program.specs.OneGenerations.{HasOneText};
 ghost use Rattle.lake_program.specs.Run.{IsBatchRun};
 
 /// The output of a batch is one function of its lines, of the files and of its moment or the clock's readings: two runs
@@ -17,4 +19,10 @@ pub fn law_of_one_batch()
         run other
         → AreOneBatch timing other_timing input written before after other_before other_after status other_status
         run other }
+{}
+
+/// What the generator tells is one function of its number and its count of objects: two runs at whose lines memory never
+/// ran out tell the same, where no two contents have one name.
+pub fn law_of_one_generation()
+    ensures { (asked : AnyGenerator) → HasOneText asked }
 {}

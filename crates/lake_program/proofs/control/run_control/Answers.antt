@@ -1,6 +1,5 @@
 use Rattle.std.proofs.Common.{refl}
 use Rattle.lakectl_client.specs.ClientCommands.{ClientView}
-use Rattle.lakectl_client.specs.Dialing.{DialView}
 use Rattle.lake_program.specs.Controls.{Showed, Stopped}
 use Rattle.lake_program.proofs.control.run_control.Goals as goal
 
